@@ -1,0 +1,33 @@
+#!/usr/bin/env bash
+# Times bin/rawk beside the other awks on one machine in one run: user + system seconds, the best of three.
+# The input is made here from a fixed seed. Nothing here is a test.
+set -u
+cd "$(dirname "$0")/.." || exit 2
+lines=${LINES_OF_INPUT:-1400000}
+folder=$(mktemp -d)
+trap 'rm -rf "$folder"' EXIT
+bench/make_input.sh "$lines" > "$folder/input"
+echo "input: $(wc -c < "$folder/input") bytes, $lines lines"
+
+seconds() { # program, file: the best user + system seconds of three runs
+  local best="" TIMEFORMAT='%U %S'
+  for _ in 1 2 3; do
+    local spent
+    spent=$( { time "$@" > /dev/null; } 2>&1 | tail -1 | awk '{ printf "%.3f", $1 + $2 }')
+    if [ -z "$best" ] || awk -v a="$spent" -v b="$best" 'BEGIN { exit !(a < b) }'; then best=$spent; fi
+  done
+  echo "$best"
+}
+
+for program in '{ s += $2 } END { print s }' '{ n += NF } END { print n, NR }' '{ print $3, $1 }'; do
+  echo "== $program"
+  base=""
+  for awk in mawk gawk bin/rawk; do
+    command -v "$awk" > /dev/null || continue
+    spent=$(seconds "$awk" "$program" "$folder/input")
+    [ "$awk" = mawk ] && base=$spent
+    ratio=""
+    [ -n "$base" ] && ratio=$(awk -v a="$spent" -v b="$base" 'BEGIN { printf "  %.2f of mawk", a / b }')
+    echo "$awk: $spent s$ratio"
+  done
+done

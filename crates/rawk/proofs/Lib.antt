@@ -1,0 +1,2 @@
+mod SoFar
+mod Told

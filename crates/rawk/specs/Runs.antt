@@ -1,0 +1,78 @@
+-- What a report says of a run.
+use Rattle.std.specs.Prelude.{◌≡◌, ℕ, zero, suc, ◌<◌, ◌≤◌, ◌++◌, List, [], length, Option, None, Some, slice_get}
+use Rattle.rawk_value.specs.Values.{Bytes}
+use Rattle.rawk_value.specs.declared.fault.Fault.TheVariants.{StepLimit, WriteFailed, OutOfMemory}
+use Rattle.rawk_syntax.specs.declared.tree.Program.{Program}
+use Rattle.rawk_code.specs.Actions.{Point, Ending, Ended, Faulted, Limited}
+use Rattle.rawk_code.specs.Laws.{IsBeginning}
+use Rattle.rawk_code.specs.Trace.{Trace, trace, out, number, status, line_of, line_at}
+use Rattle.rawk_tape.specs.Records.{Input}
+use Rattle.rawk_machine.specs.Standing.{Standing, MayCome, given_of}
+use Rattle.rawk_machine.specs.declared.step.Step.{Step}
+use Rattle.rawk_machine.specs.declared.step.Step.TheVariants as step
+use Rattle.rawk.specs.declared.report.Report.{Report}
+use Rattle.rawk.specs.declared.report.Cause.{Cause}
+use Rattle.rawk.specs.declared.report.Cause.TheVariants as cause
+
+-- the limit is a fault of its own
+abbrev pub cause_of : Ending → Cause
+cause_of Ended = cause.Ended
+cause_of (Faulted fault) = cause.Faulted fault
+cause_of (Limited site) = cause.Faulted StepLimit
+
+-- the report of a run that nothing outside disturbed
+abbrev pub report_of : Program → Trace → Report
+report_of p t = record { status = status t; cause = cause_of t.ending; line = line_of p t; point = number t }
+
+-- the report where something outside the program stopped it at a point, or where nothing ran
+abbrev pub stopped_by : Cause → ℕ → Report
+stopped_by cause point = record { status = 2; cause = cause; line = 0; point = point }
+
+-- what is told where a machine answers this step at a site: nothing where it goes on
+abbrev pub told_of : List ℕ → Step → Option ℕ → ℕ → Option Report
+told_of lines step.At site point = None
+told_of lines (step.Ended status) site point = Some (record { status = status; cause = cause.Ended; line = line_at lines site; point = point })
+told_of lines (step.Faulted fault) site point = Some (record { status = 2; cause = cause.Faulted fault; line = line_at lines site; point = point })
+
+-- the report of a run that was refused memory behind a point with this site
+abbrev pub refused_behind : Program → ℕ → Option ℕ → Report
+refused_behind p point site = record { status = 2; cause = cause.Faulted OutOfMemory; line = line_at p.lines.items site; point = point }
+
+-- the output at a point of the state
+abbrev pub output_or : Trace → Option Point → Bytes
+output_or t None = out t
+output_or t (Some point) = point.state.output
+
+-- the output at point k, or at the ending
+abbrev pub output_at : Trace → ℕ → Bytes
+output_at t k = output_or t (slice_get t.run.points k)
+
+-- the output at the point before
+abbrev pub output_before : Trace → ℕ → Bytes
+output_before t zero = []
+output_before t (suc k) = output_at t k
+
+-- a run of this trace, of which the sink took these bytes and of which this is told
+pub data IsRunOf (p : Program) (t : Trace) : Report → Bytes → Type 0 where
+  -- nothing disturbed it: all of its output was taken
+  whole : IsRunOf p t (report_of p t) (out t)
+  -- the sink failed in the output of the step that led to point k: it took all of the output before, and less than all of that at k
+  sink_failed : (k : ℕ) (taken : Bytes) → IsBeginning taken (out t) → length (output_before t k) ≤ length taken → length taken < length (output_at t k) → IsRunOf p t (stopped_by (cause.Faulted WriteFailed) k) taken
+  -- memory was refused in the step behind point k, which has this line: the output up to there was taken
+  memory_refused : (k : ℕ) (point : Point) → slice_get t.run.points k ≡ Some point → IsBeginning point.state.output (out t) → IsRunOf p t (refused_behind p k point.site) point.state.output
+  -- memory was refused before point 0, where nothing is written yet
+  never_stood : output_at t 0 ≡ [] → IsRunOf p t (stopped_by (cause.Faulted OutOfMemory) 0) []
+
+-- the trace that a machine runs on an input
+abbrev pub trace_of : {S : Type 0} → Program → Standing S → Input → Trace
+trace_of p machine input = trace p machine.settings (given_of machine input)
+
+-- a report, and what a sink took, are those of a run of this program on an input that might have come
+abbrev pub Runs : {S V : Type 0} → (S → Input → Type 0) → (V → Bytes → Type 0) → Program → Standing S → V → V → Report → Type 0
+Runs may_give may_hold p start sink now report =
+    (input : Input) × MayCome may_give start [] input × ((held : Bytes) → may_hold sink held → (taken : Bytes) × may_hold now (held ++ taken) × IsRunOf p (trace_of p start input) report taken)
+
+-- how many failures of the sink a cause tells
+abbrev pub write_failures : Cause → ℕ
+write_failures (cause.Faulted WriteFailed) = 1
+write_failures _ = 0

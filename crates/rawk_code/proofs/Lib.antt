@@ -1,0 +1,11 @@
+pub mod Runs
+pub mod Whole
+pub mod StepLaws
+pub mod TraceLaws
+pub mod Ranks
+pub mod Trees
+pub mod Lines
+pub mod Patch
+pub mod Assembly
+pub mod FirstOutput
+pub mod Rows

@@ -1,0 +1,11 @@
+pub mod Actions
+pub mod Meaning
+pub mod Trace
+pub mod Laws
+pub mod Listing
+pub mod Valid
+pub mod Machine
+pub mod Code
+pub mod Correct
+pub mod Steps
+pub mod Settings

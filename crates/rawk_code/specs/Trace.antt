@@ -1,0 +1,143 @@
+-- What a whole program does: BEGIN actions, the records, END actions (POSIX awk, Overall Program Structure).
+use Rattle.std.specs.Prelude.{ℕ, zero, suc, ◌||◌, nat_lt, if◌then◌else◌, Bool, List, [], ◌∷◌, ◌++◌, length, map, replicate, position, Option, None, Some, slice_get, slice_index_or, slice_set, codes}
+use Rattle.std.specs.Str.{bytes_eq}
+use Rattle.rawk_syntax.specs.declared.tree.Guard.{Guard}
+use Rattle.rawk_syntax.specs.declared.tree.Guard.TheVariants.{When}
+use Rattle.rawk_syntax.specs.declared.tree.Rule.{Rule}
+use Rattle.rawk_syntax.specs.declared.tree.Program.{Program}
+use Rattle.rawk_value.specs.declared.value.Value.{Value}
+use Rattle.rawk_value.specs.declared.value.Value.TheVariants.{Uninitialized, Input}
+use Rattle.rawk_value.specs.Values.{Bytes}
+use Rattle.rawk_store.specs.State.{first_specials}
+use Rattle.rawk_code.specs.declared.settings.FirstValue as settings
+use Rattle.rawk_code.specs.Actions.{Point, Run, Ending, Ended, Faulted, Limited, Stops, Exits, Nexts, Returns, Leaves, Repeats, Outcome, Goes, Breaks, Effect, bind, do_first, break_off, Given, reach, read_record}
+use Rattle.rawk_code.specs.Meaning.{Scene, eval, exec, either, choose, in_order, nothing, after_point}
+
+-- a main rule on the record of now
+abbrev pub guarded : Scene → Guard → Effect → Effect
+guarded w (When e) work = bind (eval e) (either work nothing)
+
+abbrev pub rule_of : Scene → Rule → Effect
+rule_of w rule = after_point w rule.site (guarded w rule.guard (exec w rule.action))
+
+-- the work on a record, which `next` ends
+abbrev pub until_next : Outcome (Unit {0}) → Outcome (Unit {0})
+until_next (Goes _ run) = Goes tt run
+until_next (Breaks Nexts run) = Goes tt run
+until_next (Breaks (Stops ending) run) = Breaks (Stops ending) run
+until_next (Breaks Exits run) = Breaks Exits run
+until_next (Breaks (Returns v) run) = Breaks (Returns v) run
+until_next (Breaks Leaves run) = Breaks Leaves run
+until_next (Breaks Repeats run) = Breaks Repeats run
+
+abbrev pub on_record : Scene → List Rule → Effect
+on_record w rules run = until_next (in_order (map (rule_of w) rules) run)
+
+-- record after record, each with the point of its reading, until the end of the input
+abbrev pub each_record : Scene → List Rule → ℕ → Effect
+each_record w rules zero = break_off (Stops (Limited None))
+each_record w rules (suc turns) =
+    do_first (reach w.given None) (bind (read_record w.given.input) (choose (do_first (on_record w rules) (each_record w rules turns)) nothing))
+
+-- records are read where there is a main rule or an END action
+abbrev pub reads : Program → Bool
+reads p = nat_lt 0 (length p.rules.items) || nat_lt 0 (length p.end.items)
+
+abbrev pub main : Program → Scene → Effect
+main p w = if reads p then each_record w p.rules.items w.turns else nothing
+
+-- a whole run: its points, its ending and the state there
+pub record Trace : Type 0 where
+  pub ending : Ending
+  pub run : Run
+
+-- the end of the END actions, also after an exit
+abbrev pub last_of : Outcome (Unit {0}) → Trace
+last_of (Breaks (Stops ending) run) = record { ending = ending; run = run }
+last_of (Goes _ run) = record { ending = Ended; run = run }
+last_of (Breaks why run) = record { ending = Ended; run = run }
+
+-- the END actions follow, also after an exit
+abbrev pub then_end : Outcome (Unit {0}) → Effect → Trace
+then_end (Breaks (Stops ending) run) end = record { ending = ending; run = run }
+then_end (Goes _ run) end = last_of (end run)
+then_end (Breaks why run) end = last_of (end run)
+
+-- a first value from outside the program: the name of a global, and its text
+abbrev pub FirstValue : Type 0
+FirstValue = settings.FirstValue
+
+-- the names of the special variables, in the order of their numbers
+abbrev pub special_names : List Bytes
+special_names =
+    codes "NR" ∷ codes "FNR" ∷ codes "FS" ∷ codes "OFS" ∷ codes "ORS" ∷ codes "RS" ∷ codes "SUBSEP" ∷ codes "CONVFMT" ∷ codes "OFMT" ∷ codes "RSTART" ∷ codes "RLENGTH" ∷ []
+
+-- the globals with one of them set; a name that is not among theirs is passed over
+abbrev pub with_first : List Bytes → FirstValue → List Value → List Value
+with_first names first globals =
+    elim (position (bytes_eq first.name) (special_names ++ names)) as (λ _. List Value) [ None ↦ globals | Some x ↦ slice_set globals x (Input first.text) ]
+
+-- with each of them set, in their order
+abbrev pub settled : List Bytes → List FirstValue → List Value → List Value
+settled names [] globals = globals
+settled names (e ∷ es) globals = settled names es (with_first names e globals)
+
+-- the run before the first point
+abbrev pub start : List Bytes → List FirstValue → Run
+start names settings = record {
+  points = [];
+  state = record {
+    globals = settled names settings (first_specials ++ replicate (length names) Uninitialized);
+    arrays = [];
+    frames = [];
+    ranges = [];
+    whole = [];
+    fields = [];
+    consumed = 0;
+    output = [];
+    status = 0;
+    here = 0;
+  };
+}
+
+abbrev pub scene : Given → Scene
+scene given = record { given = given; turns = suc given.steps }
+
+-- the trace of a program with its first values
+abbrev pub trace : Program → List FirstValue → Given → Trace
+trace p settings given =
+    then_end (do_first (in_order (map (exec (scene given)) p.begin.items)) (main p (scene given)) (start p.names.items settings))
+    (in_order (map (exec (scene given)) p.end.items))
+
+-- the line of a site; a record's reading has line 0
+abbrev pub line_at : List ℕ → Option ℕ → ℕ
+line_at lines None = 0
+line_at lines (Some site) = slice_index_or lines site 0
+
+abbrev pub site_of : Option Point → Option ℕ
+site_of None = None
+site_of (Some point) = point.site
+
+-- the site where execution stands: that of the last point reached at its depth
+abbrev pub site_now : Run → Option ℕ
+site_now run = site_of (slice_get run.points run.state.here)
+
+-- a trace's site: of a fault, or of the point that the limit kept from being reached
+abbrev pub site_at_end : Ending → Run → Option ℕ
+site_at_end Ended run = None
+site_at_end (Faulted fault) run = site_now run
+site_at_end (Limited site) run = site
+
+-- a trace's line, or 0
+abbrev pub line_of : Program → Trace → ℕ
+line_of p t = line_at p.lines.items (site_at_end t.ending t.run)
+
+abbrev pub out : Trace → Bytes
+out t = t.run.state.output
+
+-- the number of the ending
+abbrev pub number : Trace → ℕ
+number t = length t.run.points
+
+abbrev pub status : Trace → ℕ
+status t = elim t.ending as (λ _. ℕ) [ Ended ↦ t.run.state.status | Faulted fault ↦ 2 | Limited site ↦ 2 ]

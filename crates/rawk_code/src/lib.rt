@@ -1,0 +1,16 @@
+//! What programs mean, and the instructions that do it.
+#![tactic(auto)]
+
+pub mod code;
+pub mod compiler;
+mod emit;
+pub mod fitting;
+pub mod laws;
+pub mod settings;
+#[cfg(test)]
+mod tests;
+
+pub use code::{Around, Code, Instr, Operand, Simple, Simples};
+pub use compiler::compile;
+pub use fitting::fits;
+pub use settings::{FirstValue, Settings};

@@ -1,0 +1,15 @@
+pub mod Tree
+pub mod TreeCode
+pub mod Node
+pub mod ByteSets
+pub mod Ends
+pub mod Cuts
+pub mod Open
+pub mod Grammar
+pub mod Pattern
+pub mod Reading
+pub mod Reads
+pub mod Code
+pub mod Sets
+pub mod Search
+pub mod Table

@@ -1,0 +1,69 @@
+//! Sets of bytes.
+
+ghost use Rattle.std.specs.Prelude.{◌≡◌, ℕ, ◌<◌, ◌≤◌, ◌↔◌, ◌⊎◌, ◌/◌, ◌%◌, ◌^◌, IsTrue, length};
+ghost use Rattle.rawk_ere.specs.ByteSets.{IsIn, HasAlso, IsSetOf, IsInRanges};
+
+/// A set of bytes: a bit for each, the byte `b` at the bit `b % 64` of the word `b / 64`.
+pub type ByteSet = [u64; 4];
+
+/// Whether the byte is in the set.
+pub fn is_in(byte: u8, set: &ByteSet) -> bool
+    ensures { IsTrue result ↔ IsIn byte set.now }
+{
+    (set[(byte / 64) as usize] >> (byte % 64)) % 2 == 1
+}
+
+/// Adds a byte.
+pub fn add(set: &mut ByteSet, byte: u8)
+    ensures { HasAlso set.old set.new (λ b. b ≡ byte) }
+{
+    set[(byte / 64) as usize] |= 1 << (byte % 64);
+}
+
+/// Adds the bytes from the first to the second.
+pub fn add_range(set: &mut ByteSet, low: u8, high: u8)
+    requires { low ≤ high }
+    ensures { HasAlso set.old set.new (λ b. (low ≤ b) × (b ≤ high)) }
+{
+    for byte in low as usize..high as usize + 1 {
+        add(set, byte as u8);
+    }
+}
+
+/// No byte.
+pub fn empty() -> ByteSet
+    ensures { IsSetOf (λ _. ⊥) result }
+{
+    [0, 0, 0, 0]
+}
+
+/// One byte.
+pub fn of_byte(byte: u8) -> ByteSet
+    ensures { IsSetOf (λ b. b ≡ byte) result }
+{
+    let mut set = empty();
+    add(&mut set, byte);
+    set
+}
+
+/// Every byte.
+pub fn all() -> ByteSet
+    ensures { IsSetOf (λ _. Unit {0}) result }
+{
+    let mut set = empty();
+    add_range(&mut set, 0, 255);
+    set
+}
+
+/// The bytes that are not in the set.
+pub fn complement(set: &ByteSet) -> ByteSet
+    ensures { IsSetOf (λ b. IsIn b set.now → ⊥) result }
+{
+    let mut others = empty();
+    for byte in 0..256usize {
+        if !is_in(byte as u8, set) {
+            add(&mut others, byte as u8);
+        }
+    }
+    others
+}

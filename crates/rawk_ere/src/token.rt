@@ -1,0 +1,23 @@
+//! The tokens of a pattern.
+
+use crate::byte_set::ByteSet;
+use crate::node::Count;
+
+/// What a byte, an escape, a bracket expression or an operator of a pattern stands for.
+#[derive(Clone, Copy)]
+pub enum Token {
+    /// One byte of the set.
+    OneOf(ByteSet),
+    /// `^`
+    Start,
+    /// `$`
+    End,
+    /// `|`
+    Bar,
+    /// `(`
+    Open,
+    /// `)`
+    Close,
+    /// `*`, `+`, `?` or an interval
+    Times(Count),
+}

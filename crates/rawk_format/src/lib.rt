@@ -1,0 +1,9 @@
+//! printf over whole numbers.
+#![tactic(auto)]
+
+mod figure;
+mod layout;
+mod printf;
+mod specification;
+
+pub use printf::format;

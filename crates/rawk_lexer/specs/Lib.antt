@@ -1,0 +1,12 @@
+pub mod Cuts
+pub mod Ere
+pub mod EreCuts
+pub mod EreToken
+pub mod Escape
+pub mod Gaps
+pub mod Lex
+pub mod Lexemes
+pub mod Lines
+pub mod Moves
+pub mod Ready
+pub mod Token

@@ -1,0 +1,61 @@
+-- Bytes that a machine has dropped are gone, and nothing else has changed.
+use Rattle.std.proofs.Common.{◌≡◌, ℕ, ◌+◌, ◌-◌, ◌≤◌, ◌++◌, length, take, drop, refl, sym, ap, ◌∙◌, subst, arith, append_assoc}
+use Rattle.std.proofs.lemmas.List.{length-append, take-append-drop, length-take-le}
+use Rattle.rawk_value.specs.Values.{Bytes}
+use Rattle.rawk_tape.specs.Records.{Input}
+use Rattle.rawk_tape.specs.Inputs.{before}
+use Rattle.rawk_store.specs.State.{State}
+use Rattle.rawk_machine.specs.Standing.{Standing, MayCome, IsAt, dropped, whole, run_at, config_at, SiteFits}
+
+whole_dropped : (gone told bytes : Bytes) (s : State) (n : ℕ) → n ≤ length bytes → n ≤ s.consumed → whole gone told s ≡ whole (gone ++ take n bytes) told (record s { consumed = s.consumed - n })
+whole_dropped gone told bytes s n h k =
+    let e : length gone + s.consumed ≡ length (gone ++ take n bytes) + (s.consumed - n) = omega (arith, length-append gone (take n bytes), length-take-le n bytes h) in
+    ap (λ (c : ℕ). record (whole gone told s) { consumed = c }) e
+
+-- bytes that were dropped are gone
+pub at_dropped : {S : Type 0} (machine : Standing S) (n : ℕ) (input : Input) (gone told : Bytes) → n ≤ length machine.tape.bytes → n ≤ machine.state.consumed → IsAt machine input gone told → IsAt (dropped n machine) input (gone ++ take n machine.tape.bytes) told
+at_dropped machine n input gone told h k at =
+    let e = whole_dropped gone told machine.tape.bytes machine.state n h k in
+    record {
+      count = at.count;
+      earlier = at.earlier;
+      reached = at.reached ∙ ap (λ (s : State). config_at machine.ending machine.place machine.operands machine.keys machine.returns machine.phase (run_at machine.ending machine.site at.earlier s)) e;
+      number = at.number;
+      site = subst (λ (s : State). SiteFits machine.ending machine.site (run_at machine.ending machine.site at.earlier s)) e at.site;
+    }
+
+pub at_kept : {S : Type 0} (machine : Standing S) (n : ℕ) (input : Input) (gone told : Bytes) → n ≤ length machine.tape.bytes → n ≤ machine.state.consumed → IsAt (dropped n machine) input (gone ++ take n machine.tape.bytes) told → IsAt machine input gone told
+at_kept machine n input gone told h k at =
+    let e = sym (whole_dropped gone told machine.tape.bytes machine.state n h k) in
+    record {
+      count = at.count;
+      earlier = at.earlier;
+      reached = at.reached ∙ ap (λ (s : State). config_at machine.ending machine.place machine.operands machine.keys machine.returns machine.phase (run_at machine.ending machine.site at.earlier s)) e;
+      number = at.number;
+      site = subst (λ (s : State). SiteFits machine.ending machine.site (run_at machine.ending machine.site at.earlier s)) e at.site;
+    }
+
+-- these bytes, in two parts
+before_parts : (gone bytes : Bytes) (n : ℕ) (rest : Input) → before (gone ++ take n bytes) (before (drop n bytes) rest) ≡ before gone (before bytes rest)
+before_parts gone bytes n rest =
+    ap (λ (b : Bytes). (record { bytes = b; fails = rest.fails }))
+    (append_assoc gone (take n bytes) (drop n bytes ++ rest.bytes) ∙ ap (λ (b : Bytes). gone ++ b) (sym (append_assoc (take n bytes) (drop n bytes) rest.bytes) ∙ ap (λ (b : Bytes). b ++ rest.bytes) (take-append-drop n bytes)))
+
+pub come_kept : {S : Type 0} (may_give : S → Input → Type 0) (machine : Standing S) (n : ℕ) (gone : Bytes) (input : Input) → MayCome may_give (dropped n machine) (gone ++ take n machine.tape.bytes) input → MayCome may_give machine gone input
+come_kept may_give machine n gone input m =
+    let rest = m.may.rest in
+    record {
+      kept = before machine.tape.bytes rest;
+      may = record { rest = rest; comes = m.may.comes; whole = refl };
+      whole = m.whole ∙ ap (before (gone ++ take n machine.tape.bytes)) m.may.whole ∙ before_parts gone machine.tape.bytes n rest;
+    }
+
+pub come_dropped : {S : Type 0} (may_give : S → Input → Type 0) (machine : Standing S) (n : ℕ) (gone : Bytes) (input : Input) → MayCome may_give machine gone input → MayCome may_give (dropped n machine) (gone ++ take n machine.tape.bytes) input
+come_dropped may_give machine n gone input m =
+    let rest = m.may.rest in
+    let bytes = drop n machine.tape.bytes in
+    record {
+      kept = before bytes rest;
+      may = record { rest = rest; comes = m.may.comes; whole = refl };
+      whole = m.whole ∙ ap (before gone) m.may.whole ∙ sym (before_parts gone machine.tape.bytes n rest);
+    }

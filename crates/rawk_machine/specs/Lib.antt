@@ -1,0 +1,11 @@
+pub mod Standing
+pub mod InTrace
+pub mod Lent
+pub mod Moving
+pub mod Line
+pub mod Reading
+pub mod Travel
+pub mod Arrival
+pub mod Stood
+pub mod Elements
+pub mod Drops

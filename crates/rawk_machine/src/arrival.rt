@@ -1,0 +1,94 @@
+//! One step, up to a point that is entered or up to the end.
+
+ghost use Rattle.std.specs.Prelude.{◌≡◌, ◌<◌, ◌≤◌, ◌+◌, ◌^◌, List, None, Some, length, IfOk, OnOk, OnErr};
+ghost use Rattle.rawk_tape.specs.Records.{Input};
+ghost use Rattle.rawk_tape.specs.Tapes.{MayBe};
+ghost use Rattle.rawk_tape.specs.declared.source.Ending.{Ending as End};
+ghost use Rattle.rawk_store.specs.Stacked.{IsLive};
+ghost use Rattle.rawk_store.specs.Stores.{now_of, start_of};
+ghost use Rattle.rawk_machine.specs.Travel.{HasRoom};
+ghost use Rattle.rawk_machine.specs.Moving.{moving};
+ghost use Rattle.rawk_machine.specs.Arrival.{settled, site_by, with_registers, Arrives, ends_quietly, EndsByRead, IsSettled};
+
+use crate::travel::{Next, travel};
+use rawk_code::Code;
+use rawk_store::{Ending, Store};
+use rawk_tape::{Source, Tape};
+use std::alloc::{AllocError, Global};
+
+/// The site at an ending.
+fn site_at(ending: Ending, site: Option<usize>) -> Option<usize>
+    ensures { result ≡ site_by ending site }
+{
+    match ending {
+        Ending::Ended => None,
+        Ending::Faulted(_) => site,
+        Ending::Limited(before) => before,
+    }
+}
+
+/// Enters the point number `count`, or ends the run there at the limit of steps; or ends it where instructions led to the end.
+fn settle(store: &mut Store, to: Next, count: u64, limit: u64)
+    requires { HasRoom to store.old.registers.now.place }
+    ensures did { moving store.new ≡ with_registers (settled to count limit store.old.registers.now) (moving store.old) }
+    ensures start { start_of store.new ≡ start_of store.old }
+{
+    match to {
+        Next::On => {}
+        Next::Over(ending) => {
+            store.registers.now.ending = Some(ending);
+            store.registers.now.site = site_at(ending, store.registers.now.site);
+        }
+        Next::Arrive(site) => {
+            store.registers.now.site = site;
+            if count == limit {
+                store.registers.now.ending = Some(Ending::Limited(site));
+            } else {
+                store.registers.now.here = count;
+                store.registers.now.place += 1;
+            }
+        }
+    }
+}
+
+/// One step: instructions up to the point number `count`, which is entered, or up to the end. Where memory is refused, the parts
+/// are put back as they were; bytes may be read ahead then.
+pub fn step<R: Source + Drop>(
+    alloc: Global,
+    code: &Code,
+    store: &mut Store,
+    tape: &mut Tape<R>,
+    executed: &mut u128,
+    count: u64,
+    limit: u64,
+) -> Result<(), AllocError>
+    requires rest { start_of store.old ≡ now_of store.old }
+    requires live { IsLive store.old.operands.now }
+    requires running { store.old.registers.now.ending ≡ None }
+    requires consumed { tape.old.consumed ≡ store.old.registers.now.consumed }
+    ensures may { (kept : Input) → MayBe R.may_give tape.new kept → MayBe R.may_give tape.old kept }
+    ensures did { OnOk result (Arrives R.may_give code.now tape.new count limit (moving store.old) (moving store.new)) }
+    ensures settled { OnOk result (IsSettled count limit store.new.registers.now) }
+    ensures err { OnErr result (moving store.new ≡ moving store.old) }
+    ensures rest { start_of store.new ≡ now_of store.new }
+    ensures live { IsLive store.new.operands.now }
+    ensures consumed { tape.new.consumed ≡ store.new.registers.now.consumed }
+    ensures quiet { OnOk result (ends_quietly store.new.registers.now.ending) }
+    ensures failed { OnOk result (EndsByRead store.new.registers.now.ending (R.over tape.new.source ≡ Some End.Failed)) }
+    ensures counted { executed.old ≤ executed.new }
+    ensures risen { executed.old + 1 < 2 ^ 128 → executed.old < executed.new }
+{
+    let consumed = tape.consumed();
+    match travel(alloc, code, store, tape, executed) {
+        Ok(to) => {
+            settle(store, to, count, limit);
+            store.forget();
+            Ok(())
+        }
+        Err(refused) => {
+            store.undo_step();
+            tape.consume(consumed);
+            Err(refused)
+        }
+    }
+}

@@ -1,0 +1,267 @@
+//! A machine that runs a code from point to point.
+
+ghost use Rattle.std.specs.Prelude.{◌≡◌, ◌↔◌, ◌≤◌, ◌<◌, ◌+◌, ◌-◌, ◌^◌, [], ◌++◌, ℕ, List, None, Some, IsSome, length, take, drop, IfOk, OnOk, OnErr};
+ghost use Rattle.std.specs.Option.{option_map};
+ghost use Rattle.rawk_value.specs.Values.{Bytes};
+ghost use Rattle.rawk_tape.specs.Records.{Input};
+ghost use Rattle.rawk_tape.specs.declared.source.Ending.{Ending as End};
+ghost use Rattle.rawk_store.specs.Stores.{now_of, start_of};
+ghost use Rattle.rawk_machine.specs.Stood.{IsFirst};
+ghost use Rattle.rawk_machine.specs.Standing.{Standing, MayCome, IsAt, step_of, IsQuietStep, Stays, dropped};
+ghost use Rattle.rawk_machine.specs.Moving.{ending_of};
+
+use crate::arrival::step;
+use crate::start::{copy_settings, fill_globals};
+use crate::step::Step;
+use rawk_code::{Code, Settings};
+use rawk_store::{Ending, Keeper, Phase, Registers, Store};
+use rawk_tape::{Source, Tape};
+use rawk_value::Fault;
+use std::alloc::{AllocError, Global};
+use std::marker::Model;
+
+/// A machine at a point of the run of its code, or at its ending.
+///
+/// A contract sees it as a record (`Standing`); `IsAt` says that the code's run stands there on each input that may come.
+#[derive(Drop)]
+pub struct Machine<R: Source + Drop, K: Keeper> {
+    code: Code,
+    settings: Settings,
+    store: Store,
+    tape: Tape<R>,
+    keeper: K,
+    steps: u64,
+    point: u64,
+    executed: u128,
+}
+
+impl<R: Source + Drop, K: Keeper> Model for Machine<R, K> {
+    ghost use Rattle.std.specs.Prelude.{◌≡◌, Some};
+    ghost use Rattle.rawk_tape.specs.declared.source.Ending.{Ending};
+    ghost use Rattle.rawk_store.specs.Stores.{now_of};
+    ghost use Rattle.rawk_machine.specs.Standing.{Standing};
+
+    ghost Value = { Standing R };
+
+    ghost use Rattle.std.specs.Coded.{codes, coded_list, coded_ℕ};
+    ghost use Rattle.rawk_value.specs.contracts.value.Value as value;
+    ghost use Rattle.rawk_machine.specs.Elements.{elements_code};
+
+    ghost coded = { Prim.hlevel (codes, elements_code value.the_row.coded, R.code) };
+
+    ghost use Rattle.rawk_machine.specs.Stood.{standing_of, IsMachine};
+
+    ghost view = { λ m. standing_of m.code m.settings m.steps m.point m.tape (now_of m.store) m.executed };
+
+    ghost invariant = { λ m. IsMachine m.store m.tape.consumed m.point m.steps (R.over m.tape.source ≡ Some Ending.Failed) };
+}
+
+/// What registers answer: at a point, or how the run ended.
+fn answer(registers: &Registers) -> Step
+    ensures { result ≡ step_of (option_map ending_of registers.now.ending) registers.now.status }
+{
+    match registers.ending {
+        None => Step::At,
+        Some(Ending::Ended) => Step::Ended(registers.status),
+        Some(Ending::Faulted(fault)) => Step::Faulted(fault),
+        Some(Ending::Limited(_)) => Step::Faulted(Fault::StepLimit),
+    }
+}
+
+/// The registers before the first instruction.
+fn first_registers() -> Registers
+    ensures { result ≡ record { place = 0; phase = Phase.InBegin; status = 0; here = 0; site = None; consumed = 0; ending = None } }
+{
+    Registers {
+        place: 0,
+        phase: Phase::InBegin,
+        status: 0,
+        here: 0,
+        site: None,
+        consumed: 0,
+        ending: None,
+    }
+}
+
+/// The parts before the first instruction. It fails where memory is refused.
+fn first_store(alloc: Global, code: &Code, settings: &Settings) -> Result<Store, AllocError>
+    ensures { IfOk result (λ s. IsFirst code.now settings.now s) }
+{
+    let mut store = Store::new(alloc, first_registers());
+    fill_globals(alloc, &mut store.globals, code.names(), settings.as_slice())?;
+    store.forget();
+    Ok(store)
+}
+
+impl<R: Source + Drop, K: Keeper> Machine<R, K> {
+    /// A machine at point 0 of the run, or at an ending before it. `steps` is the number of points that the run may reach.
+    /// It fails where memory is refused.
+    pub fn new(
+        alloc: Global,
+        code: Code,
+        settings: &Settings,
+        source: R,
+        keeper: K,
+        steps: u64,
+    ) -> Result<Self, AllocError>
+        requires { R.over source ≡ None }
+        ensures code { IfOk result (λ m. m.code ≡ code) }
+        ensures settings { IfOk result (λ m. m.settings ≡ settings.now) }
+        ensures sets { IfOk result (λ m. m.sets ≡ []) }
+        ensures steps { IfOk result (λ m. m.steps ≡ steps) }
+        ensures point { IfOk result (λ m. m.point ≡ 0) }
+        ensures may { IfOk result (λ m. (input : Input) → MayCome R.may_give m [] input → R.may_give source input) }
+        ensures still { IfOk result (λ m. (gone : Bytes) → (input : Input) × MayCome R.may_give m gone input) }
+        ensures stands { IfOk result (λ m. (input : Input) → MayCome R.may_give m [] input → IsAt m input [] []) }
+    {
+        let settings = copy_settings(alloc, settings)?;
+        let mut store = first_store(alloc, &code, &settings)?;
+        let mut tape = Tape::new(alloc, source);
+        let mut executed = 0;
+        step(alloc, &code, &mut store, &mut tape, &mut executed, 0, steps)?;
+        Ok(Machine {
+            code,
+            settings,
+            store,
+            tape,
+            keeper,
+            steps,
+            point: 0,
+            executed,
+        })
+    }
+
+    /// Runs to the next point or to the ending; at the ending it answers the same again and changes nothing. It fails where
+    /// memory is refused, and then the machine stands as before but for `executed` and for bytes read ahead.
+    pub fn advance(&mut self, alloc: Global) -> Result<Step, AllocError>
+        ensures code { self.new.code ≡ self.old.code }
+        ensures settings { self.new.settings ≡ self.old.settings }
+        ensures sets { self.new.sets ≡ self.old.sets }
+        ensures steps { self.new.steps ≡ self.old.steps }
+        ensures may { (gone : Bytes) (input : Input) → MayCome R.may_give self.new gone input → MayCome R.may_give self.old gone input }
+        ensures still { (gone : Bytes) → (input : Input) × MayCome R.may_give self.new gone input }
+        ensures stands { (input : Input) (gone told : Bytes) → MayCome R.may_give self.new gone input → IsAt self.old input gone told → IsAt self.new input gone told }
+        ensures moves { OnOk result (self.old.ending ≡ None → self.new.point ≡ self.old.point + 1) }
+        ensures rests { IsSome self.old.ending → self.new ≡ self.old }
+        ensures err { OnErr result (Stays self.old self.new) }
+        ensures within { self.new.point ≤ self.new.steps }
+        ensures answer { IfOk result (λ s. s ≡ step_of self.new.ending self.new.state.status) }
+        ensures counted { self.old.ending ≡ None → self.old.executed + 1 < 2 ^ 128 → self.old.executed < self.new.executed }
+        ensures quiet { IfOk result IsQuietStep }
+        ensures read_failed { IfOk result (λ s. s ≡ Step.Faulted Fault.ReadFailed → R.over self.new.tape.source ≡ Some End.Failed) }
+    {
+        match self.store.registers.now.ending {
+            None => {
+                step(
+                    alloc,
+                    &self.code,
+                    &mut self.store,
+                    &mut self.tape,
+                    &mut self.executed,
+                    self.point + 1,
+                    self.steps,
+                )?;
+                self.point += 1;
+                Ok(answer(&self.store.registers.now))
+            }
+            Some(_) => Ok(answer(&self.store.registers.now)),
+        }
+    }
+}
+
+impl<R: Source + Drop, K: Keeper> Machine<R, K> {
+    /// The number of the present point, or of the ending.
+    pub fn point(&self) -> u64
+        ensures { result ≡ self.now.point }
+    {
+        self.point
+    }
+
+    /// The site of the present point, or that of the ending; the reading of a record and an end without fault have none.
+    pub fn site(&self) -> Option<usize>
+        ensures { result ≡ self.now.site }
+    {
+        self.store.registers.now.site
+    }
+
+    /// How many instructions were ever run; it stays at the greatest number of 128 bits.
+    pub fn executed(&self) -> u128
+        ensures { result ≡ self.now.executed }
+    {
+        self.executed
+    }
+
+    /// The exit status so far.
+    pub fn status(&self) -> u8
+        ensures { result ≡ self.now.state.status }
+    {
+        self.store.registers.now.status
+    }
+
+    /// What the machine stands at: what the last `advance` answered. After `new` it tells whether the run is over before point 0.
+    pub fn step(&self) -> Step
+        ensures answer { result ≡ step_of self.now.ending self.now.state.status }
+        ensures quiet { IsQuietStep result }
+        ensures read_failed { result ≡ Step.Faulted Fault.ReadFailed → R.over self.now.tape.source ≡ Some End.Failed }
+    {
+        answer(&self.store.registers.now)
+    }
+
+    /// How many bytes were read ahead, and how many bytes of output were not given yet.
+    pub fn held(&self) -> (usize, usize)
+        ensures ahead { result.0 + self.now.tape.consumed ≡ length self.now.tape.bytes }
+        ensures output { result.1 ≡ length self.now.state.output }
+    {
+        (self.tape.held(), self.store.output.bytes().len())
+    }
+}
+
+impl<R: Source + Drop, K: Keeper> Machine<R, K> {
+    /// Gives the output that was not given yet into a buffer, whose room is used for the next output: a step so costs no
+    /// allocation. What the buffer held is dropped. It takes no memory.
+    pub fn give_into(&mut self, buffer: &mut Vec<u8>)
+        ensures given { buffer.new.items ≡ self.old.state.output }
+        ensures rest { self.new ≡ record self.old { state = record self.old.state { output = [] } } }
+        ensures may { (gone : Bytes) (input : Input) → MayCome R.may_give self.new gone input ↔ MayCome R.may_give self.old gone input }
+        ensures stands { (input : Input) (gone told : Bytes) → IsAt self.old input gone told → IsAt self.new input gone (told ++ buffer.new.items) }
+    {
+        self.store.output.give(buffer);
+    }
+
+    /// The output that was not given yet, moved out. It takes no memory.
+    pub fn give(&mut self, alloc: Global) -> Vec<u8>
+        ensures given { result.items ≡ self.old.state.output }
+        ensures rest { self.new ≡ record self.old { state = record self.old.state { output = [] } } }
+        ensures may { (gone : Bytes) (input : Input) → MayCome R.may_give self.new gone input ↔ MayCome R.may_give self.old gone input }
+        ensures stands { (input : Input) (gone told : Bytes) → IsAt self.old input gone told → IsAt self.new input gone (told ++ result.items) }
+    {
+        let mut buffer = Vec::new(alloc);
+        self.give_into(&mut buffer);
+        buffer
+    }
+}
+
+impl<R: Source + Drop, K: Keeper> Machine<R, K> {
+    /// The same, without its laws.
+    fn drop_front(&mut self) -> usize
+        ensures dropped { self.new ≡ dropped result self.old }
+        ensures within { result ≤ length self.old.tape.bytes }
+        ensures consumed { result ≤ self.old.state.consumed }
+    {
+        let consumed = self.tape.consumed();
+        let size = self.tape.forget();
+        self.store.registers.now.consumed = consumed - size;
+        self.store.forget();
+        size
+    }
+
+    /// Lets consumed bytes of the input go, once they are half of those kept, and answers how many. Each byte is so moved once on
+    /// average. It takes no memory.
+    pub fn drop_consumed(&mut self) -> usize
+        ensures dropped { self.new ≡ dropped result self.old }
+        ensures may { (gone : Bytes) (input : Input) → MayCome R.may_give self.new (gone ++ take result self.old.tape.bytes) input ↔ MayCome R.may_give self.old gone input }
+        ensures stands { (input : Input) (gone told : Bytes) → IsAt self.new input (gone ++ take result self.old.tape.bytes) told ↔ IsAt self.old input gone told }
+    {
+        self.drop_front()
+    }
+}

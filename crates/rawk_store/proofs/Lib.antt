@@ -1,0 +1,5 @@
+pub mod Backs
+pub mod Stacks
+pub mod Cuts
+pub mod Values
+pub mod Masks

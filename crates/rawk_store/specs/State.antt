@@ -1,0 +1,122 @@
+-- The state of a program, and what can be assigned in it.
+use Rattle.std.specs.Prelude.{ℕ, ◌-◌, ℤ, pos, negsuc, int_le, ◌==◌, Bool, if◌then◌else◌, List, [], ◌∷◌, ◌++◌, length, map, slice_index_or, slice_set, Result, Ok, Err}
+use Rattle.std.specs.FinMap.{FinMap}
+use Rattle.std.specs.Ordering.{nat_cmp}
+use Rattle.std.specs.Cmp.Lexicographic.{slice_cmp}
+use Rattle.rawk_value.specs.declared.value.Value.{Value}
+use Rattle.rawk_value.specs.declared.value.Value.TheVariants.{Uninitialized, Number, String, Input}
+use Rattle.rawk_value.specs.declared.fault.Fault.{Fault}
+use Rattle.rawk_value.specs.declared.fault.Fault.TheVariants.{FieldNumber}
+use Rattle.rawk_value.specs.Values.{Bytes, next_ok, is_empty, text_of}
+use Rattle.rawk_store.specs.Fields.{fields_of}
+
+-- the elements of an array, in byte order of their keys
+abbrev pub Elements : Type 0
+Elements = FinMap (slice_cmp nat_cmp) Value
+
+-- a local of an activation: a value, or the number of an array
+pub data Local : Type 0 where
+  Holds : Value → Local
+  Names : ℕ → Local
+
+-- an activation: its function, its locals, how many arrays there were before it, and its calling point
+pub record Frame : Type 0 where
+  pub function : ℕ
+  pub locals : List Local
+  pub arrays_before : ℕ
+  pub called_at : ℕ
+
+-- the state: the special variables come first among the globals, `whole` is `$0`, and `here` is the last point reached at the present depth
+pub record State : Type 0 where
+  pub globals : List Value
+  pub arrays : List Elements
+  pub frames : List Frame
+  pub ranges : List Bool
+  pub whole : Bytes
+  pub fields : List Value
+  pub consumed : ℕ
+  pub output : Bytes
+  pub status : ℕ
+  pub here : ℕ
+
+-- the numbers of the special variables; NF is the number of fields and has none
+abbrev pub NR : ℕ
+NR = 0
+
+abbrev pub FNR : ℕ
+FNR = 1
+
+abbrev pub FS : ℕ
+FS = 2
+
+abbrev pub OFS : ℕ
+OFS = 3
+
+abbrev pub ORS : ℕ
+ORS = 4
+
+abbrev pub RS : ℕ
+RS = 5
+
+abbrev pub SUBSEP : ℕ
+SUBSEP = 6
+
+abbrev pub CONVFMT : ℕ
+CONVFMT = 7
+
+abbrev pub OFMT : ℕ
+OFMT = 8
+
+abbrev pub RSTART : ℕ
+RSTART = 9
+
+abbrev pub RLENGTH : ℕ
+RLENGTH = 10
+
+-- the special variables at first
+abbrev pub first_specials : List Value
+first_specials =
+    Number (pos 0) ∷ Number (pos 0) ∷ String (32 ∷ []) ∷ String (32 ∷ []) ∷ String (10 ∷ []) ∷ String (10 ∷ []) ∷ String (28 ∷ [])
+    ∷ String (37 ∷ 46 ∷ 54 ∷ 103 ∷ []) ∷ String (37 ∷ 46 ∷ 54 ∷ 103 ∷ []) ∷ Number (pos 0) ∷ Number (negsuc 0) ∷ []
+
+abbrev pub global_value : ℕ → State → Value
+global_value x s = slice_index_or s.globals x Uninitialized
+
+abbrev pub global_text : ℕ → State → Bytes
+global_text x s = text_of (global_value x s)
+
+-- the value of a field: `$0` is field 0, and a field past the last is uninitialised
+abbrev pub field_value : ℕ → State → Value
+field_value n s = if n == 0 then Input s.whole else slice_index_or s.fields (n - 1) Uninitialized
+
+abbrev pub field_count : State → Value
+field_count s = Number (pos (length s.fields))
+
+-- with an empty record separator, a newline separates fields too
+abbrev pub is_paragraph : State → Bool
+is_paragraph s = is_empty (global_text RS s)
+
+abbrev pub with_global : ℕ → Value → State → State
+with_global x v s = record s { globals = slice_set s.globals x v }
+
+-- a place whose subscripts and field number are settled
+pub data Target : Type 0 where
+  Global : ℕ → Target
+
+-- a field number, at most 1,000,000
+abbrev pub field_number : ℤ → Result ℕ Fault
+field_number (pos n) = if int_le (pos n) (pos 1000000) then Ok n else Err FieldNumber
+field_number (negsuc n) = Err FieldNumber
+
+abbrev pub joined : Bytes → List Bytes → Bytes
+joined separator [] = []
+joined separator (t ∷ []) = t
+joined separator (t ∷ u ∷ more) = t ++ separator ++ joined separator (u ∷ more)
+
+-- `$0` is split by the separators of now
+abbrev pub with_record : Bytes → State → Result State Fault
+with_record text s = next_ok (fields_of text (global_text FS s) (is_paragraph s)) (λ texts. Ok (record s { whole = text; fields = map Input texts }))
+
+-- the state after an assignment, or its fault
+abbrev pub assigned : Target → Value → State → Result State Fault
+assigned (Global x) v s = Ok (with_global x v s)

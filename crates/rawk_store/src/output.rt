@@ -1,0 +1,117 @@
+//! The output that was not given away yet.
+
+ghost use Rattle.std.specs.Prelude.{◌≡◌, ◌≤◌, ◌++◌, [], OnErr, OnOk, length, take};
+ghost use Rattle.rawk_value.specs.Values.{int_text, text_of};
+ghost use Rattle.rawk_store.specs.Journaled.{at_rest};
+
+use rawk_value::{Value, push_number, push_text};
+use std::alloc::{AllocError, Global};
+use std::marker::Model;
+use std::mem;
+
+/// Bytes of output, beside how many of them there were when the step began.
+#[derive(Drop)]
+pub struct Output {
+    bytes: Vec<u8>,
+    began: usize,
+}
+
+impl Model for Output {
+    ghost use Rattle.std.specs.Prelude.{ℕ, List, ◌≤◌, length, take};
+    ghost use Rattle.rawk_store.specs.Journaled.{Journaled};
+
+    ghost Value = { Journaled (List ℕ) };
+
+    ghost view = { λ o. record { now = o.bytes.items; start = take o.began o.bytes.items } };
+
+    ghost invariant = { λ o. o.began ≤ length o.bytes.items };
+}
+
+impl Output {
+    /// No output.
+    pub fn new(alloc: Global) -> Self
+        ensures { result ≡ at_rest [] }
+    {
+        Output {
+            bytes: Vec::new(alloc),
+            began: 0,
+        }
+    }
+
+    /// The bytes.
+    pub fn bytes(&self) -> &[u8]
+        ensures { result.now ≡ self.now.now }
+    {
+        &self.bytes
+    }
+
+    /// Adds bytes. It fails where memory is refused.
+    pub fn push(&mut self, bytes: &[u8]) -> Result<(), AllocError>
+        ensures did { OnOk result (self.new.now ≡ self.old.now ++ bytes.now) }
+        ensures start { self.new.start ≡ self.old.start }
+        ensures err { OnErr result (self.new.now ≡ self.old.now) }
+    {
+        self.bytes.extend_from_slice(bytes)
+    }
+
+    /// Adds a value's text. It fails where memory is refused.
+    pub fn push_value(&mut self, value: &Value) -> Result<(), AllocError>
+        ensures did { OnOk result (self.new.now ≡ self.old.now ++ text_of value.now) }
+        ensures start { self.new.start ≡ self.old.start }
+        ensures err { OnErr result (self.new.now ≡ self.old.now) }
+    {
+        push_text(&mut self.bytes, value)
+    }
+
+    /// Adds a number's text. It fails where memory is refused.
+    pub fn push_number(&mut self, number: i64) -> Result<(), AllocError>
+        ensures did { OnOk result (self.new.now ≡ self.old.now ++ int_text number) }
+        ensures start { self.new.start ≡ self.old.start }
+        ensures err { OnErr result (self.new.now ≡ self.old.now) }
+    {
+        push_number(&mut self.bytes, number)
+    }
+
+    /// Gives the bytes away into a buffer, whose room is used for the next ones. It takes no memory.
+    pub fn give(&mut self, buffer: &mut Vec<u8>)
+        requires { self.old.start ≡ self.old.now }
+        ensures given { buffer.new.items ≡ self.old.now }
+        ensures rest { self.new ≡ at_rest [] }
+    {
+        buffer.clear();
+        mem::swap(&mut self.bytes, buffer);
+        self.began = 0;
+    }
+
+    /// Ends the step, and gives how many bytes there were when it began.
+    pub fn finish(&mut self) -> usize
+        ensures now { self.new ≡ at_rest self.old.now }
+        ensures back { take result self.old.now ≡ self.old.start }
+        ensures fits { result ≤ length self.old.now }
+    {
+        mem::replace(&mut self.began, self.bytes.len())
+    }
+
+    /// Ends the step, and forgets how it began.
+    pub fn forget(&mut self)
+        ensures { self.new ≡ at_rest self.old.now }
+    {
+        self.began = self.bytes.len();
+    }
+
+    /// Takes back what the step in progress added. It takes no memory and always succeeds.
+    pub fn undo_step(&mut self)
+        ensures { self.new ≡ at_rest self.old.start }
+    {
+        self.bytes.truncate(self.began);
+    }
+
+    /// Takes back what came after so many bytes. It takes no memory and always succeeds.
+    pub fn undo(&mut self, count: usize)
+        requires { count ≤ length self.old.now }
+        ensures { self.new ≡ at_rest (take count self.old.now) }
+    {
+        self.bytes.truncate(count);
+        self.began = count;
+    }
+}

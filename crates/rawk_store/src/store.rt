@@ -1,0 +1,111 @@
+//! The state of a run, beside what it was when the step began.
+
+ghost use Rattle.std.specs.Prelude.{◌≡◌};
+ghost use Rattle.rawk_store.specs.Stores.{IsNew, now_of, start_of};
+ghost use Rattle.rawk_store.specs.GroupBack.{FitsIn, put_back};
+ghost use Rattle.rawk_store.specs.Stacked.{IsLive};
+
+use crate::current::Current;
+use crate::operands::{Operands, OperandsGroup};
+use crate::output::Output;
+use crate::record::Record;
+use crate::registers::{Bank, Registers};
+use crate::slot_group::SlotGroup;
+use crate::slots::Slots;
+use rawk_value::Value;
+use std::alloc::Global;
+
+/// The globals, of which a number names one, from 0.
+pub type Cells = Slots<Value>;
+
+/// The parts of the state of a run. Each part keeps what the step in progress changed in it.
+#[derive(Drop)]
+pub struct Store {
+    pub globals: Cells,
+    pub operands: Operands,
+    pub current: Current,
+    pub output: Output,
+    pub registers: Bank,
+}
+
+/// What a step changed: for each place that it wrote what stood there when it began, once.
+#[derive(Drop)]
+pub struct Group {
+    pub globals: SlotGroup<Value>,
+    pub operands: OperandsGroup,
+    pub current: Option<Record>,
+    /// How many bytes of output there were.
+    pub output: usize,
+    pub registers: Registers,
+}
+
+impl Store {
+    /// No globals, no operands, the empty record, no output, and these registers. It takes no memory.
+    pub fn new(alloc: Global, registers: Registers) -> Self
+        ensures { IsNew registers result }
+    {
+        Store {
+            globals: Slots::new(alloc),
+            operands: Operands::new(alloc),
+            current: Current::new(alloc),
+            output: Output::new(alloc),
+            registers: Bank::new(registers),
+        }
+    }
+
+    /// Ends the step, and gives what it changed. It takes no memory.
+    pub fn finish(&mut self, alloc: Global) -> Group
+        ensures now { now_of self.new ≡ now_of self.old }
+        ensures rest { start_of self.new ≡ now_of self.old }
+        ensures back { put_back (now_of self.old) result ≡ start_of self.old }
+        ensures fits { FitsIn result (now_of self.old) }
+        ensures live { IsLive self.old.operands.now }
+    {
+        Group {
+            globals: self.globals.finish(alloc),
+            operands: self.operands.finish(alloc),
+            current: self.current.finish(alloc),
+            output: self.output.finish(),
+            registers: self.registers.finish(),
+        }
+    }
+
+    /// Ends the step, and forgets what it changed. Its buffers are used again: it takes no memory.
+    pub fn forget(&mut self)
+        ensures now { now_of self.new ≡ now_of self.old }
+        ensures rest { start_of self.new ≡ now_of self.old }
+        ensures live { IsLive self.old.operands.now }
+    {
+        self.globals.forget();
+        self.operands.forget();
+        self.current.forget();
+        self.output.forget();
+        self.registers.forget();
+    }
+
+    /// Puts back what the step in progress changed. It takes no memory and always succeeds.
+    pub fn undo_step(&mut self)
+        ensures now { now_of self.new ≡ start_of self.old }
+        ensures rest { start_of self.new ≡ start_of self.old }
+        ensures live { IsLive self.old.operands.start }
+    {
+        self.globals.undo_step();
+        self.operands.undo_step();
+        self.current.undo_step();
+        self.output.undo_step();
+        self.registers.undo_step();
+    }
+
+    /// Puts back what a step that ended changed, and leaves the newer values in the group. It takes no memory and always succeeds.
+    pub fn undo(&mut self, group: &mut Group)
+        requires { FitsIn group.old (now_of self.old) }
+        ensures now { now_of self.new ≡ put_back (now_of self.old) group.old }
+        ensures rest { start_of self.new ≡ now_of self.new }
+    {
+        self.globals.undo(&mut group.globals);
+        self.operands.undo(&mut group.operands);
+        self.current.undo(&mut group.current);
+        self.output.undo(group.output);
+        self.registers.undo(&mut group.registers);
+    }
+}

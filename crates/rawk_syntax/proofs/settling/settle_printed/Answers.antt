@@ -1,0 +1,21 @@
+use Rattle.std.proofs.Common.{◌≢◌, List, Result, Ok, Err, IfOk, [], ◌∷◌, ◌++◌, length, arith, ◌∙◌, ap}
+use Rattle.std.specs.Global.{Vec}
+use Rattle.rawk_syntax.specs.declared.draft.Expr as written
+use Rattle.rawk_syntax.specs.declared.tree.Expr.{Expr}
+use Rattle.rawk_syntax.specs.declared.tree.Expr.TheVariants as tree
+use Rattle.rawk_syntax.specs.declared.tree.Place.TheVariants as tree_place
+use Rattle.rawk_syntax.specs.Settled.{Names, Settles, SomeExprs, Prints}
+use Rattle.rawk_syntax.proofs.Settlements.{all_printed, record_printed}
+use Rattle.rawk_syntax.proofs.settling.settle_printed.Goals as goal
+
+all_if : {E : Type 0} (r : Result (Vec Expr) E) (es : List written.Expr) (a b : Names) → length es ≢ 0 → IfOk r (λ s. Settles (SomeExprs es s.items) a b) → IfOk r (λ s. Prints es s.items a b)
+all_if (Ok s) es a b some h = all_printed es s.items a b some h
+all_if (Err e) es a b some h = tt
+
+pub returns-then-list-eq0 : goal.returns-then-list-eq0
+returns-then-list-eq0 c =
+    record_printed c.args.list.now c.push.new.self.items c.in_ok-number.number c.args.names.now.items c.if-list-eq0.true
+    (c.in_ok-push.ensures.items ∙ ap (λ xs. xs ++ tree.Read (tree_place.Field c.in_ok-number.number) ∷ []) c.new-record.ensures.items) c.in_ok-number.ensures.ok
+
+pub returns : goal.returns
+returns c = all_if c.settle_list.result c.args.list.now c.args.names.now.items c.settle_list.new.names.items (omega arith) c.settle_list.ensures

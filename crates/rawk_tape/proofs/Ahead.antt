@@ -1,0 +1,53 @@
+-- What reading ahead leaves.
+use Rattle.std.proofs.Common.{◌⊎◌, inl, inr, ◌≡◌, ◌+◌, ◌-◌, ℕ, List, Option, None, Some, length, ◌++◌, drop, arith, subst, sym, ◌∙◌, ap, refl}
+use Rattle.std.proofs.lemmas.List.{length-append, append_assoc, append-nil, drop-append-le, drop_all}
+use Rattle.rawk_tape.specs.Records.{Input}
+use Rattle.rawk_tape.specs.Inputs.{before, CountsUp}
+use Rattle.rawk_tape.specs.declared.source.Ending.{Ending}
+use Rattle.rawk_tape.specs.Tapes.{Held, MayBe, ReadsOn, ReadsAhead, LastRead, IsUnsettled}
+use Rattle.rawk_tape.proofs.Handed.{counts_more}
+
+-- what may be after a read might have been before it
+pub MayBe-back : {S : Type 0} (may_give : S → Input → Type 0) (old new : Held S) (chunk : List ℕ) → new.bytes ≡ old.bytes ++ chunk → ((rest : Input) → may_give new.source rest → may_give old.source (before chunk rest)) → (input : Input) → MayBe may_give new input → MayBe may_give old input
+MayBe-back may_give old new chunk grown comes input may = record {
+  rest = before chunk may.rest;
+  comes = comes may.rest may.comes;
+  whole = may.whole ∙ (ap (λ (x : List ℕ). before x may.rest) grown ∙ ap (λ (x : List ℕ). record { bytes = x; fails = may.rest.fails }) (append_assoc old.bytes chunk may.rest.bytes));
+}
+
+-- nothing was read
+pub ahead_none : {S : Type 0} (may_give : S → Input → Type 0) (over : S → Option Ending) (handed : S → ℕ) (tape : Held S) → ReadsAhead may_give over handed tape tape
+ahead_none may_give over handed tape = record {
+  input = λ input may. may;
+  consumed = refl;
+  grown = sym (ap (λ (x : List ℕ). tape.bytes ++ x) (drop_all (length tape.bytes) tape.bytes (omega arith)) ∙ append-nil tape.bytes);
+  longer = omega arith;
+  counted = λ small. omega arith;
+  closed = λ ending is. refl;
+}
+
+-- one read more
+pub ahead_more : {S : Type 0} (may_give : S → Input → Type 0) (over : S → Option Ending) (handed : S → ℕ) (old now new : Held S) → ReadsAhead may_give over handed old now → over now.source ≡ None → ReadsOn may_give over handed now.source now.bytes new.source new.bytes → new.consumed ≡ now.consumed → ReadsAhead may_give over handed old new
+ahead_more {S = S} may_give over handed old now new a still r same =
+    let all : new.bytes ≡ old.bytes ++ (drop (length old.bytes) now.bytes ++ r.chunk) = r.grown ∙ (ap (λ (x : List ℕ). x ++ r.chunk) a.grown ∙ append_assoc old.bytes (drop (length old.bytes) now.bytes) r.chunk) in
+    let longer : length now.bytes + length r.chunk ≡ length new.bytes = sym (ap length r.grown ∙ length-append now.bytes r.chunk) in
+    let tail : drop (length old.bytes) new.bytes ≡ drop (length old.bytes) now.bytes ++ r.chunk = ap (drop (length old.bytes)) r.grown ∙ drop-append-le (length old.bytes) now.bytes r.chunk a.longer in
+    let n : (length now.bytes - length old.bytes) + length r.chunk ≡ length new.bytes - length old.bytes = omega (arith, a.longer) in
+    record {
+      input = λ input may. a.input input (MayBe-back may_give now new r.chunk r.grown r.comes input may);
+      consumed = same ∙ a.consumed;
+      grown = all ∙ ap (λ (x : List ℕ). old.bytes ++ x) (sym tail);
+      longer = omega (arith, a.longer);
+      counted = subst (CountsUp (handed old.source) (handed new.source)) n (counts_more _ _ _ _ _ a.counted r.counted);
+      closed = λ ending is. let e : over now.source ≡ Some ending = ap (λ (t : Held S). over t.source) (a.closed ending is) ∙ is in cc;
+    }
+
+-- one read more, behind bytes that did not settle the record
+pub last_read : {S : Type 0} (may_give : S → Input → Type 0) (over : S → Option Ending) (handed : S → ℕ) (old now new : Held S) (separator : List ℕ) (consumed : ℕ) → ReadsAhead may_give over handed old now → (now ≡ old) ⊎ LastRead separator consumed old.bytes now.bytes → ReadsOn may_give over handed now.source now.bytes new.source new.bytes → IsUnsettled separator now.bytes consumed → (new ≡ old) ⊎ LastRead separator consumed old.bytes new.bytes
+last_read {S = S} may_give over handed old now new separator consumed a earlier r unsettled =
+    let first : IsUnsettled separator old.bytes consumed =
+    elim earlier [
+      | inl none ↦ subst (λ (t : Held S). IsUnsettled separator t.bytes consumed) none unsettled
+      | inr some ↦ some.first
+    ] in
+    inr (record { held = now.bytes; chunk = r.chunk; before = a.grown; whole = r.grown; bounded = r.bounded; first = first; last = unsettled })

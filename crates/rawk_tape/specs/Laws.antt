@@ -1,0 +1,62 @@
+-- Laws of inputs and tapes, for the crates above: an input that may be, before and after bytes are let go, and records behind them.
+use Rattle.std.specs.Prelude.{◌≡◌, ℕ, ◌+◌, Bool, true, false, cond, [], ◌∷◌, ◌++◌, length, take, drop, Option, None, Some, Result, Ok, Err}
+use Rattle.std.proofs.Common.{refl, sym, ap, subst, ◌∙◌, arith}
+use Rattle.std.proofs.lemmas.List.{append_assoc, take-append-drop}
+use Rattle.std.proofs.Math.Seq.{drop-append-add}
+use Rattle.rawk_value.specs.Values.{Bytes}
+use Rattle.rawk_value.specs.declared.fault.Fault.{Fault}
+use Rattle.rawk_value.specs.declared.fault.Fault.TheVariants.{ReadFailed}
+use Rattle.rawk_tape.specs.Records.{Input, Found, found, next_line, next_paragraph, next_record}
+use Rattle.rawk_tape.specs.Inputs.{before}
+use Rattle.rawk_tape.specs.Tapes.{Held, MayBe}
+
+-- some input may always be the tape's, where its source always gives some
+pub some_input : {S : Type 0} (may_give : S → Input → Type 0) (gives_some : (s : S) → (rest : Input) × may_give s rest) (tape : Held S) → (input : Input) × MayBe may_give tape input
+some_input may_give gives_some tape =
+    let some = gives_some tape.source in
+    (before tape.bytes some.0, record { rest = some.0; comes = some.1; whole = refl })
+
+-- what may be is the same with another count of consumed bytes
+pub MayBe-consumed : {S : Type 0} (may_give : S → Input → Type 0) (tape : Held S) (count : ℕ) (input : Input) → MayBe may_give (record tape { consumed = count }) input → MayBe may_give tape input
+MayBe-consumed may_give tape count input may = record { rest = may.rest; comes = may.comes; whole = may.whole }
+
+pub before-before : (front back : Bytes) (input : Input) → before front (before back input) ≡ before (front ++ back) input
+before-before front back input = ap (λ (x : Bytes). record { bytes = x; fails = input.fails }) (sym (append_assoc front back input.bytes))
+
+-- what may be once bytes were let go might have been behind them before
+pub MayBe-forgotten : {S : Type 0} (may_give : S → Input → Type 0) (old new : Held S) (size : ℕ) → new.source ≡ old.source → new.bytes ≡ drop size old.bytes → (input : Input) → MayBe may_give new input → MayBe may_give old (before (take size old.bytes) input)
+MayBe-forgotten may_give old new size source bytes input may = record {
+  rest = may.rest;
+  comes = subst (λ s. may_give s may.rest) source may.comes;
+  whole =
+      ap (before (take size old.bytes)) may.whole
+      ∙ (before-before (take size old.bytes) new.bytes may.rest
+      ∙ ap (λ (x : Bytes). before x may.rest) (ap (λ (x : Bytes). take size old.bytes ++ x) bytes ∙ take-append-drop size old.bytes));
+}
+
+-- the answer where n bytes more stand before the input
+abbrev pub moved : ℕ → Result (Option Found) Fault → Result (Option Found) Fault
+moved n (Ok (Some record_found)) = found record_found.text (n + record_found.count)
+moved n (Ok None) = Ok None
+moved n (Err fault) = Err fault
+
+line_moved : (here fails empty : Bool) (text rest : Bytes) (n a b c d : ℕ) → c ≡ n + a → d ≡ n + b → cond here (found text c) (cond fails (Err ReadFailed) (cond empty (Ok None) (found rest d))) ≡ moved n (cond here (found text a) (cond fails (Err ReadFailed) (cond empty (Ok None) (found rest b))))
+line_moved true fails empty text rest n a b c d e f = ap (found text) e
+line_moved false true empty text rest n a b c d e f = refl
+line_moved false false true text rest n a b c d e f = refl
+line_moved false false false text rest n a b c d e f = ap (found rest) f
+
+paragraph_moved : (fails empty : Bool) (text : Bytes) (n a c : ℕ) → c ≡ n + a → cond fails (Err ReadFailed) (cond empty (Ok None) (found text c)) ≡ moved n (cond fails (Err ReadFailed) (cond empty (Ok None) (found text a)))
+paragraph_moved true empty text n a c e = refl
+paragraph_moved false true text n a c e = refl
+paragraph_moved false false text n a c e = ap (found text) e
+
+-- the next record behind bytes that stand before the input
+pub next_record-before : (front : Bytes) (input : Input) (count : ℕ) (separator : Bytes) → next_record (before front input) (length front + count) separator ≡ moved (length front) (next_record input count separator)
+next_record-before front input count [] =
+    let rest : drop (length front + count) (front ++ input.bytes) ≡ drop count input.bytes = drop-append-add front input.bytes count in
+    ap (λ (x : Bytes). next_paragraph input.fails x (length front + count)) rest ∙ paragraph_moved _ _ _ (length front) _ _ (omega arith)
+next_record-before front input count (b ∷ []) =
+    let rest : drop (length front + count) (front ++ input.bytes) ≡ drop count input.bytes = drop-append-add front input.bytes count in
+    ap (λ (x : Bytes). next_line b input.fails x (length front + count)) rest ∙ line_moved _ _ _ _ _ (length front) _ _ _ _ (omega arith) (omega arith)
+next_record-before front input count (b ∷ c ∷ more) = refl

@@ -1,0 +1,6 @@
+pub mod Records
+pub mod Inputs
+pub mod Sources
+pub mod Tapes
+pub mod Paragraphs
+pub mod Laws

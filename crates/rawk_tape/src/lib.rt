@@ -1,0 +1,24 @@
+//! Sources and sinks of bytes, and the records of an input.
+#![tactic(auto)]
+
+mod buffer;
+mod bytes_sink;
+mod bytes_source;
+mod found;
+mod search;
+mod sink;
+mod source;
+mod std_sink;
+mod std_source;
+mod tape;
+#[cfg(test)]
+mod tests;
+
+pub use bytes_sink::BytesSink;
+pub use bytes_source::BytesSource;
+pub use found::Found;
+pub use sink::{Sink, write_all};
+pub use source::{DeviceFault, Ending, Source};
+pub use std_sink::StdSink;
+pub use std_source::StdSource;
+pub use tape::Tape;

@@ -1,0 +1,8 @@
+//! What the words of a command line ask for.
+#![tactic(auto)]
+
+pub mod invocation;
+pub mod options;
+
+pub use invocation::{Invocation, S, Text};
+pub use options::settings_of;
