@@ -1,11 +1,11 @@
 -- What a whole run tells, from what its parts do.
-use Rattle.std.proofs.Common.{◌≡◌, ℕ, ◌++◌, List, [], Bool, true, refl, sym, ◌∙◌, ap, subst}
+use Rattle.std.proofs.Common.{◌≡◌, ℕ, ◌++◌, List, [], true, ◌∙◌, ap, subst}
 use Rattle.rawk_value.specs.Values.{Bytes}
 use Rattle.rawk_value.specs.declared.fault.Fault.TheVariants.{OutOfMemory}
 use Rattle.rawk_tape.specs.Records.{Input}
 use Rattle.rawk_syntax.specs.declared.tree.Program.{Program}
 use Rattle.rawk_syntax.specs.Texts.{IsProgram}
-use Rattle.rawk_code.specs.Actions.{SetAt, Given}
+use Rattle.rawk_code.specs.Actions.{SetAt}
 use Rattle.rawk_code.specs.Laws.{FirstOutputLaw}
 use Rattle.rawk_code.specs.Settings.{settings_fit}
 use Rattle.rawk_code.specs.Trace.{FirstValue, Trace, trace}

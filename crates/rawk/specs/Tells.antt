@@ -1,5 +1,5 @@
 -- What a run tells, of any text, first values, source and sink.
-use Rattle.std.specs.Prelude.{◌≡◌, ℕ, ◌≤◌, ◌++◌, Bool, true, false, List, [], length}
+use Rattle.std.specs.Prelude.{◌≡◌, ℕ, ◌≤◌, ◌++◌, true, false, List, [], length}
 use Rattle.rawk_value.specs.Values.{Bytes}
 use Rattle.rawk_tape.specs.Records.{Input}
 use Rattle.rawk_syntax.specs.declared.draft.Item.{Item}

@@ -1,10 +1,3 @@
-pub mod Repeated
-pub mod Paths
-pub mod SetLemmas
-pub mod WalkLemmas
-pub mod EreLemmas
-pub mod SizeLemmas
-pub mod CodeLemmas
 pub mod PartLemmas
 pub mod ReadingLemmas
 pub mod ByteSetLemmas
@@ -13,8 +6,3 @@ pub mod BracketLemmas
 pub mod IntervalLemmas
 pub mod ScanLemmas
 pub mod ReadsLemmas
-pub mod OpenLemmas
-pub mod NeedPaths
-pub mod SearchLemmas
-pub mod TableLemmas
-pub mod BuildLemmas

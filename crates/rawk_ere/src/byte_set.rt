@@ -1,17 +1,9 @@
-//! Sets of bytes.
+//! Sets of bytes that are made.
 
 ghost use Rattle.std.specs.Prelude.{◌≡◌, ℕ, ◌<◌, ◌≤◌, ◌↔◌, ◌⊎◌, ◌/◌, ◌%◌, ◌^◌, IsTrue, length};
-ghost use Rattle.rawk_ere.specs.ByteSets.{IsIn, HasAlso, IsSetOf, IsInRanges};
+ghost use Rattle.rawk_ere_walk.specs.ByteSets.{IsIn, HasAlso, IsSetOf, IsInRanges};
 
-/// A set of bytes: a bit for each, the byte `b` at the bit `b % 64` of the word `b / 64`.
-pub type ByteSet = [u64; 4];
-
-/// Whether the byte is in the set.
-pub fn is_in(byte: u8, set: &ByteSet) -> bool
-    ensures { IsTrue result ↔ IsIn byte set.now }
-{
-    (set[(byte / 64) as usize] >> (byte % 64)) % 2 == 1
-}
+use rawk_ere_walk::byte_set::{ByteSet, is_in};
 
 /// Adds a byte.
 pub fn add(set: &mut ByteSet, byte: u8)

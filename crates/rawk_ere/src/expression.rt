@@ -1,63 +1,35 @@
 //! Extended regular expressions, compiled.
 
 ghost use Rattle.std.specs.Prelude.{◌≡◌, ◌+◌, ◌-◌, ◌*◌, ◌<◌, ◌≤◌, length, ℕ, Some, IfOk, IfErr};
-ghost use Rattle.rawk_ere.specs.Tree.{size_of, IsWithinLimits};
+ghost use Rattle.rawk_ere_walk.specs.Tree.{size_of, IsWithinLimits};
 ghost use Rattle.rawk_ere.specs.Reads.{Reads, IsRefused};
-ghost use Rattle.rawk_ere.specs.Node.{tree_of};
-ghost use Rattle.rawk_ere.specs.Code.{code_of};
-ghost use Rattle.rawk_ere.specs.Ends.{IsLongest, IsMatch};
-ghost use Rattle.rawk_ere.specs.Open.{IsOpenMatch, IsSettled, IsOpenFrom};
-ghost use Rattle.rawk_ere.specs.Table.{IsTable};
-ghost use Rattle.std.specs.Option.{ForSome};
-ghost use Rattle.rawk_ere.specs.Search.{IsBetween, AreBetween};
+ghost use Rattle.rawk_ere_walk.specs.Code.{code_of};
+ghost use Rattle.rawk_ere_walk.specs.Ends.{IsLongest, IsMatch};
+ghost use Rattle.rawk_ere_walk.specs.Open.{IsOpenMatch, IsSettled, IsOpenFrom};
+ghost use Rattle.rawk_ere_walk.specs.Search.{IsBetween, AreBetween};
 
-use crate::code::{Instruction, emit};
 use crate::error::EreError;
-use crate::node::Node;
 use crate::read::read;
-use crate::search::{first, first_by, first_open, longest, open_start};
-use crate::table::{Table, build, run};
+use rawk_ere_walk::compiled::Automaton;
 use std::alloc::{AllocError, Global};
 use std::marker::Model;
 
 /// An extended regular expression with its automaton. A contract sees its tree.
 #[derive(Drop)]
 pub struct Ere {
-    node: Node,
-    code: Vec<Instruction>,
-    table: Option<Table>,
+    automaton: Automaton,
 }
 
 /// The tree of the expression.
 impl Model for Ere {
-    ghost use Rattle.rawk_ere.specs.Tree.{Tree};
-    ghost use Rattle.rawk_ere.specs.TreeCode.{tree_code};
+    ghost use Rattle.rawk_ere_walk.specs.Tree.{Tree};
+    ghost use Rattle.rawk_ere_walk.specs.TreeCode.{tree_code};
 
     ghost Value = { Tree };
 
     ghost coded = { tree_code };
 
-    ghost use Rattle.std.specs.Prelude.{◌≡◌};
-    ghost use Rattle.rawk_ere.specs.Node.{tree_of};
-    ghost use Rattle.rawk_ere.specs.Code.{code_of};
-
-    ghost view = { λ e. tree_of e.node };
-
-    ghost use Rattle.rawk_ere.specs.Table.{IsTable};
-    ghost use Rattle.std.specs.Option.{ForSome};
-
-    ghost invariant = { λ e. (e.code.items ≡ code_of (tree_of e.node))
-        × ForSome e.table (λ t. IsTable e.code.items t.sets.items t.next.items t.last_ends.items t.start t.later) };
-}
-
-// The table of a code that is short and needs few rows.
-fn small_table(alloc: Global, code: &[Instruction]) -> Result<Option<Table>, AllocError>
-    ensures { IfOk result (λ table. ForSome table (λ t. IsTable code.now t.sets.items t.next.items t.last_ends.items t.start t.later)) }
-{
-    if code.len() > 256 {
-        return Ok(None);
-    }
-    build(alloc, code, 64)
+    ghost view = { λ e. e.automaton };
 }
 
 impl Ere {
@@ -69,18 +41,8 @@ impl Ere {
         ensures refused { IfErr result (λ x. IsRefused x pattern.now) }
     {
         let node = read(alloc, pattern)?;
-        let ere = Ere::new(alloc, node)?;
-        Ok(ere)
-    }
-
-    // The automaton of the tree.
-    fn new(alloc: Global, node: Node) -> Result<Ere, AllocError>
-        ensures { IfOk result (λ e. e ≡ tree_of node) }
-    {
-        let mut code = Vec::new(alloc);
-        emit(&mut code, &node)?;
-        let table = small_table(alloc, &code)?;
-        Ok(Ere { node, code, table })
+        let automaton = Automaton::new(alloc, node)?;
+        Ok(Ere { automaton })
     }
 
     /// How many states the automaton has.
@@ -88,7 +50,7 @@ impl Ere {
         ensures value { result ≡ length (code_of self.now) + 1 }
         ensures within { result ≤ 2 * size_of self.now + 1 }
     {
-        self.code.len() + 1
+        self.automaton.states()
     }
 
     /// The greatest end of a match that begins at `from`, if there is one. It reads no byte twice.
@@ -102,13 +64,7 @@ impl Ere {
         ensures is { IfOk result (IsLongest text.now self.now from) }
         ensures within { IfOk result (IsBetween from (length text.now)) }
     {
-        if let Some(table) = &self.table {
-            if from < text.len() {
-                return Ok(run(table, &self.code, text, from));
-            }
-        }
-        let walked = longest(alloc, &self.code, text, from, true)?;
-        Ok(walked.longest)
+        self.automaton.longest_at(alloc, text, from)
     }
 
     /// The same, with how often a state was entered at a place: at most once for each state at each place.
@@ -123,8 +79,7 @@ impl Ere {
         ensures within { IfOk result (λ r. IsBetween from (length text.now) r.0) }
         ensures entered { IfOk result (λ r. r.1 ≤ (length text.now - from + 1) * (length (code_of self.now) + 1)) }
     {
-        let walked = longest(alloc, &self.code, text, from, true)?;
-        Ok((walked.longest, walked.entered))
+        self.automaton.longest_at_counted(alloc, text, from)
     }
 
     /// The leftmost match from `from` on, and the longest there: its begin and its end.
@@ -138,10 +93,7 @@ impl Ere {
         ensures is { IfOk result (IsMatch text.now self.now from) }
         ensures within { IfOk result (AreBetween from (length text.now)) }
     {
-        match &self.table {
-            None => first(alloc, &self.code, text, from),
-            Some(table) => first_by(alloc, table, &self.code, text, from),
-        }
+        self.automaton.find(alloc, text, from)
     }
 
     /// The leftmost nonempty match from `from` on, and the longest there, if it stays that in every longer text that begins
@@ -157,7 +109,7 @@ impl Ere {
         ensures settled { IfOk result (λ o. (m : ℕ × ℕ) → o ≡ Some m → IsSettled text.now self.now from m) }
         ensures within { IfOk result (AreBetween from (length text.now)) }
     {
-        first_open(alloc, &self.code, text, from)
+        self.automaton.find_open(alloc, text, from)
     }
 
     /// The first place from `from` on where a nonempty match may begin, in this text or in a longer one that begins with it;
@@ -166,6 +118,6 @@ impl Ere {
         requires { from ≤ length text.now }
         ensures { IfOk result (IsOpenFrom text.now self.now from) }
     {
-        open_start(alloc, &self.code, text, from)
+        self.automaton.open_from(alloc, text, from)
     }
 }

@@ -10,8 +10,8 @@ use crate::bytes::unescape;
 use crate::error::EreError;
 use crate::interval::{Brace, brace_at};
 use crate::lead::{Lead, led_by};
-use crate::node::Count;
 use crate::token::Token;
+use rawk_ere_walk::node::Count;
 use std::alloc::{AllocError, Global};
 
 // The byte itself.

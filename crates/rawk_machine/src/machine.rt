@@ -1,6 +1,6 @@
 //! A machine that runs a code from point to point.
 
-ghost use Rattle.std.specs.Prelude.{◌≡◌, ◌↔◌, ◌≤◌, ◌<◌, ◌+◌, ◌-◌, ◌^◌, [], ◌++◌, ℕ, List, None, Some, IsSome, length, take, drop, IfOk, OnOk, OnErr};
+ghost use Rattle.std.specs.Prelude.{◌≡◌, ◌↔◌, ◌≤◌, ◌<◌, ◌+◌, ◌-◌, ◌*◌, ◌^◌, [], ◌++◌, ℕ, List, None, Some, IsSome, length, take, drop, IfOk, OnOk, OnErr};
 ghost use Rattle.std.specs.Option.{option_map};
 ghost use Rattle.rawk_value.specs.Values.{Bytes};
 ghost use Rattle.rawk_tape.specs.Records.{Input};
@@ -242,11 +242,12 @@ impl<R: Source + Drop, K: Keeper> Machine<R, K> {
 }
 
 impl<R: Source + Drop, K: Keeper> Machine<R, K> {
-    /// The same, without its laws.
+    /// Lets consumed bytes go, as `drop_consumed` does.
     fn drop_front(&mut self) -> usize
         ensures dropped { self.new ≡ dropped result self.old }
         ensures within { result ≤ length self.old.tape.bytes }
         ensures consumed { result ≤ self.old.state.consumed }
+        ensures fewer { 2 * self.new.tape.consumed ≤ length self.new.tape.bytes }
     {
         let consumed = self.tape.consumed();
         let size = self.tape.forget();
@@ -259,6 +260,7 @@ impl<R: Source + Drop, K: Keeper> Machine<R, K> {
     /// average. It takes no memory.
     pub fn drop_consumed(&mut self) -> usize
         ensures dropped { self.new ≡ dropped result self.old }
+        ensures fewer { 2 * self.new.tape.consumed ≤ length self.new.tape.bytes }
         ensures may { (gone : Bytes) (input : Input) → MayCome R.may_give self.new (gone ++ take result self.old.tape.bytes) input ↔ MayCome R.may_give self.old gone input }
         ensures stands { (input : Input) (gone told : Bytes) → IsAt self.new input (gone ++ take result self.old.tape.bytes) told ↔ IsAt self.old input gone told }
     {

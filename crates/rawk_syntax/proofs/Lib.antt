@@ -5,4 +5,5 @@ pub mod Steps
 pub mod Sound
 pub mod SoundPrograms
 pub mod Whole
+pub mod Groups
 pub mod WholePrograms

@@ -1,5 +1,5 @@
 -- What the parser of programs reads is derived by the grammar.
-use Rattle.std.proofs.Common.{◌≡◌, ℕ, zero, suc, Bool, true, false, cond, ◌⊎◌, inl, inr, ⊎_elim, List, [], ◌∷◌, ◌++◌, Result, Ok, Err, IfOk, refl, sym, subst, ◌∙◌, append_assoc, append-nil}
+use Rattle.std.proofs.Common.{◌≡◌, ℕ, zero, suc, ◌≤◌, Bool, true, false, cond, ◌⊎◌, inl, inr, ⊎_elim, List, [], ◌∷◌, ◌++◌, length, Result, Ok, Err, IfOk, refl, sym, subst, ◌∙◌, append_assoc, append-nil, arith}
 use Rattle.rawk_lexer.specs.declared.token.Kind.{Kind}
 use Rattle.rawk_lexer.specs.declared.token.Kind.TheVariants as k
 use Rattle.rawk_lexer.specs.Lex.{kind, next, spelling, left}
@@ -9,13 +9,13 @@ use Rattle.rawk_syntax.specs.declared.draft.Expr.{Expr}
 use Rattle.rawk_syntax.specs.declared.draft.Stmt.{Stmt}
 use Rattle.rawk_syntax.specs.declared.draft.Stmt.TheVariants as tree
 use Rattle.rawk_syntax.specs.declared.draft.Item.{Item}
-use Rattle.rawk_syntax.specs.Parser.{Input, Reads, and_then, expect, sees, after, newlines, pure}
+use Rattle.rawk_syntax.specs.Parser.{Input, Outcome, Reads, and_then, expect, sees, after, newlines, pure}
 use Rattle.rawk_syntax.specs.Expression.{expression}
 use Rattle.rawk_syntax.specs.Statement as x
 use Rattle.rawk_syntax.specs.Tokens.{Spells, Newlines}
 use Rattle.rawk_syntax.specs.Grammar.{Derives, Whole, Listed, one, several}
-use Rattle.rawk_syntax.specs.Programs.{Ends, semicolon, newline, brace, States, evaluate, print, print_record, Bodies, no_statement, a_statement, Acts, braces, Parts, begin, ending, main, Separates, nothing, a_semicolon, a_newline, Texts, finish, a_part}
-use Rattle.rawk_syntax.proofs.Steps.{and_then_ok, cond_ok, at_ok, not_ok, spells, sees_kind, eaten, keeps, kept, expect_ok, newlines_are}
+use Rattle.rawk_syntax.specs.Programs.{Ends, semicolon, newline, brace, Encloses, parentheses, States, evaluate, print, print_enclosed, print_record, Bodies, no_statement, a_statement, Acts, braces, Parts, begin, ending, main, Separates, nothing, a_semicolon, a_newline, Texts, finish, a_part}
+use Rattle.rawk_syntax.proofs.Steps.{and_then_ok, cond_ok, done, at_ok, not_ok, spells, sees_kind, eaten, keeps, kept, expect_ok, newlines_are}
 use Rattle.rawk_syntax.proofs.Sound.{expression_sound}
 
 end_by_sound : (i : Input) (r : Unit {0} × Input) (c : Kind) → kind i ≡ c → x.end_by c i ≡ Ok r → Ends i r.1
@@ -52,29 +52,64 @@ list_from_sound d (suc n) found i r h =
     go e j first rest (inr w) =
         at_ok (λ y m. (es : List Expr) × (y ≡ found ++ es) × Derives d (Listed es) i m) _ _ r (e ∷ [], refl, keeps (λ m. Derives d (Listed (e ∷ [])) i m) k.Comma j w.0 (one first)) w.1
 
-list_sound : (d : ℕ) (i : Input) (r : List Expr × Input) → x.list (suc d) i ≡ Ok r → Derives d (Listed r.0) i r.1
+pub list_sound : (d : ℕ) (i : Input) (r : List Expr × Input) → x.list (suc d) i ≡ Ok r → Derives d (Listed r.0) i r.1
 unfolding x.list
 list_sound d i r h =
     let g = list_from_sound d (left i) [] i r h in
     let same : g.0 ≡ r.0 = sym g.1 in
     subst (λ es. Derives d (Listed es) i r.1) same g.2
 
--- a list, or none
+-- where no construct may be open no expression is read
+no_list : {C : Type 0} (n : ℕ) (found : List Expr) (i : Input) (r : List Expr × Input) → x.list_from 0 n found i ≡ Ok r → C
+unfolding x.list_from expression
+no_list zero found i r h = not_ok _ r h
+no_list (suc n) found i r h = not_ok _ r h
+
+enclosed_sound : (d : ℕ) (i : Input) (r : List Expr × Input) → kind i ≡ k.LeftParen → x.enclosed (suc d) i ≡ Ok r → 2 ≤ length r.0 → Encloses d r.0 i r.1
+unfolding x.enclosed x.list
+enclosed_sound zero i r s h =
+    let a = and_then_ok (x.list 0 (next i)) _ r h in
+    no_list (left (next i)) [] (next i) a.0 a.1
+enclosed_sound (suc d) i r s h =
+    let a = and_then_ok (x.list (suc d) (next i)) _ r h in
+    let b = and_then_ok (expect k.RightParen a.0.1) _ r a.2 in
+    at_ok (λ es j. 2 ≤ length es → Encloses (suc d) es i j) _ _ r (λ two. parentheses (spells k.LeftParen i s) (list_sound d (next i) a.0 a.1) two (expect_ok k.RightParen _ b.0 b.1)) b.2
+
+several_are : (es : List Expr) → x.is_several es ≡ true → 2 ≤ length es
+several_are [] h = cc
+several_are (e ∷ []) h = cc
+several_are (e ∷ f ∷ es) h = omega arith
+
+several_sound : (d : ℕ) (e : Refused) (i : Input) (r : List Expr × Input) → kind i ≡ k.LeftParen → x.several (suc d) e i ≡ Ok r → Encloses d r.0 i r.1
+unfolding x.several
+several_sound d e i r s h = let a = and_then_ok (x.enclosed (suc d) i) _ r h in go a.0 (enclosed_sound d i a.0 s a.1) (x.is_several a.0.0) refl a.2
+  where
+    go : (q : List Expr × Input) → (2 ≤ length q.0 → Encloses d q.0 i q.1) → (b : Bool) → x.is_several q.0 ≡ b → cond b (Ok (q.0, q.1)) (Err e) ≡ Ok r → Encloses d r.0 i r.1
+    go q g true two h = at_ok (λ es j. Encloses d es i j) q.0 q.1 r (g (several_are q.0 two)) h
+    go q g false two h = not_ok e r h
+
+-- a list, one in parentheses, or none
 Prints : ℕ → List Expr → Input → Input → Type 0
-Prints d es i j = Derives d (Listed es) i j ⊎ ((es ≡ []) × (i ≡ j))
+Prints d es i j = Derives d (Listed es) i j ⊎ (Encloses d es i j ⊎ ((es ≡ []) × (i ≡ j)))
 
 printed_sound : (d : ℕ) (i : Input) (r : List Expr × Input) → x.printed (suc d) i ≡ Ok r → Prints d r.0 i r.1
 unfolding x.printed Prints
-printed_sound d i r h =
-    ⊎_elim
-    (λ w. at_ok (λ es j. Prints d es i j) _ _ r (inr (refl, refl)) w.1)
-    (λ w. inl (list_sound d i r w.1))
-    (cond_ok (x.closes (kind i)) (pure []) (x.list (suc d)) i (Ok r) h)
+printed_sound d i r h = go (x.closes (kind i)) (x.list (suc d) i) refl h
+  where
+    or_sound : (e : Refused) (b : Bool) → sees k.LeftParen i ≡ b → cond b (x.several (suc d) e i) (Err e) ≡ Ok r → Prints d r.0 i r.1
+    or_sound e true s h = inr (inl (several_sound d e i r (sees_kind k.LeftParen i s) h))
+    or_sound e false s h = not_ok e r h
+
+    go : (b : Bool) (o : Outcome (List Expr)) → x.list (suc d) i ≡ o → cond b (done [] i) (x.or_enclosed (suc d) o i) ≡ Ok r → Prints d r.0 i r.1
+    go true o e h = at_ok (λ es j. Prints d es i j) _ _ r (inr (inr (refl, refl))) h
+    go false (Ok q) e h = at_ok (λ es j. Prints d es i j) q.0 q.1 r (inl (list_sound d i q e)) h
+    go false (Err e) _ h = or_sound e (sees k.LeftParen i) refl h
 
 print_sound : (d : ℕ) (es : List Expr) (w : List ℕ) (i j l m : Input) → Spells k.Print w i j → Prints d es j l → Ends l m → States d (tree.Print (left i) es) i m
 unfolding Prints
 print_sound d es w i j l m s (inl g) e = print s g e
-print_sound d es w i j l m s (inr g) e =
+print_sound d es w i j l m s (inr (inl g)) e = print_enclosed s g e
+print_sound d es w i j l m s (inr (inr g)) e =
     let e' : Ends j m = subst (λ q. Ends q m) (sym g.1) e in
     subst (λ fs. States d (tree.Print (left i) fs) i m) (sym g.0) (print_record s e')
 

@@ -64,6 +64,22 @@ assignment_joiner : (c : Kind) (how : Assignment) → x.assignment c ≡ Some ho
 assignment_joiner k.Plus how h = cc
 assignment_joiner _ how h = refl
 
+-- what stands after a list
+abbrev pub ends_list : Kind → Bool
+ends_list k.RightParen = true
+ends_list c = y.closes c
+
+pub closes_list : (c : Kind) → y.closes c ≡ true → ends_list c ≡ true
+closes_list k.RightParen h = refl
+closes_list _ h = h
+
+ends_list_ends : (c : Kind) → ends_list c ≡ true → ends c ≡ true
+ends_list_ends k.RightParen h = refl
+ends_list_ends k.Newline h = refl
+ends_list_ends k.Semicolon h = refl
+ends_list_ends k.RightBrace h = refl
+ends_list_ends _ h = cc
+
 pub closes_ends : (c : Kind) → y.closes c ≡ true → ends c ≡ true
 closes_ends k.Newline h = refl
 closes_ends k.Semicolon h = refl
@@ -161,7 +177,7 @@ Complete d (Sum e) i j = (starts (kind i) ≡ true) × (x.joiner (kind j) ≡ No
 Complete d (Links xs) i j = (n : ℕ) (found : List Link) → left i ≤ n → x.joiner (kind j) ≡ None → x.links_from (x.expression d) n found i ≡ Ok (found ++ xs, j)
 Complete d (Primary e) i j = (starts (kind i) ≡ true) × (x.primary (x.expression d) i ≡ Ok (e, j))
 Complete d (APlace p) i j = (starts_place (kind i) ≡ true) × (x.place (x.expression d) i ≡ Ok (p, j))
-Complete d (Listed es) i j = (starts (kind i) ≡ true) × ((n : ℕ) (found : List Expr) → left i ≤ n → y.closes (kind j) ≡ true → y.list_from (suc d) n found i ≡ Ok (found ++ es, j))
+Complete d (Listed es) i j = (starts (kind i) ≡ true) × ((n : ℕ) (found : List Expr) → left i ≤ n → ends_list (kind j) ≡ true → y.list_from (suc d) n found i ≡ Ok (found ++ es, j))
 
 whole_is : (deeper : Wanted → Parser Expr) (e : Expr) (i j : Input) → x.sum deeper i ≡ Ok (e, j) → x.assignment (kind j) ≡ None → x.whole deeper i ≡ Ok (e, j)
 unfolding x.whole
@@ -239,12 +255,12 @@ field_is d e w i j l s h =
     by_kind (x.place_by (x.expression (suc d))) k.Dollar i s.is_kind
     ∙ then_ok (x.primary (x.expression d) (next i)) (λ q. pure (spot.Field q)) e l (ap (x.primary (x.expression d)) s.is_next ∙ h)
 
-one_is : (d n : ℕ) (found : List Expr) (e : Expr) (i j : Input) → 0 < n → x.whole (x.expression d) i ≡ Ok (e, j) → y.closes (kind j) ≡ true → y.list_from (suc d) n found i ≡ Ok (found ++ e ∷ [], j)
+one_is : (d n : ℕ) (found : List Expr) (e : Expr) (i j : Input) → 0 < n → x.whole (x.expression d) i ≡ Ok (e, j) → ends_list (kind j) ≡ true → y.list_from (suc d) n found i ≡ Ok (found ++ e ∷ [], j)
 unfolding y.list_from x.expression
 one_is d zero found e i j some h held = absurd (omega arith)
 one_is d (suc n) found e i j some h held =
     then_ok (x.whole (x.expression d) i) (λ v. eat k.Comma >>= (λ b. cond b (λ m. y.list_from (suc d) n (found ++ v ∷ []) (newlines m)) (pure (found ++ v ∷ [])))) e j h
-    ∙ leaves k.Comma j (λ m. y.list_from (suc d) n (found ++ e ∷ []) (newlines m)) (pure (found ++ e ∷ [])) (apart y.closes (kind j) k.Comma held refl)
+    ∙ leaves k.Comma j (λ m. y.list_from (suc d) n (found ++ e ∷ []) (newlines m)) (pure (found ++ e ∷ [])) (apart ends_list (kind j) k.Comma held refl)
 
 several_is : (d n : ℕ) (found : List Expr) (e : Expr) (es : List Expr) (w : List ℕ) (i j l m o : Input) → 0 < n → x.whole (x.expression d) i ≡ Ok (e, j) → Spells k.Comma w j l → newlines l ≡ m → left m < left i → left i ≤ n
     → ((n : ℕ) (found : List Expr) → left m ≤ n → y.list_from (suc d) n found m ≡ Ok (found ++ es, o)) → y.list_from (suc d) n found i ≡ Ok (found ++ e ∷ es, o)
@@ -295,7 +311,7 @@ complete (field {d = d} {e = e} {w = w} {i = i} {j = j} {l = l} s h) =
 complete (one {d = d} {e = e} {i = i} {j = j} h) =
     let g : Complete d (Whole e) i j = complete h in
     let some = some_starts i g.0 in
-    (g.0, λ n found le q. one_is d n found e i j (omega arith) (g.1 (closes_ends (kind j) q)) q)
+    (g.0, λ n found le q. one_is d n found e i j (omega arith) (g.1 (ends_list_ends (kind j) q)) q)
 complete (several {d = d} {e = e} {es = es} {w = w} {i = i} {j = j} {l = l} {m = m} {n = o} h s t v) =
     let g : Complete d (Whole e) i j = complete h in
     let r : Complete d (Listed es) m o = complete v in

@@ -1,5 +1,5 @@
 -- The parser of programs reads all that the grammar derives.
-use Rattle.std.proofs.Common.{◌≡◌, ◌≢◌, ℕ, zero, suc, ◌<◌, ◌≤◌, Bool, true, false, cond, List, [], ◌∷◌, ◌++◌, Result, Ok, Err, refl, sym, ap, ◌∙◌, append_assoc, append-nil, arith}
+use Rattle.std.proofs.Common.{◌≡◌, ◌≢◌, ℕ, zero, suc, ◌<◌, ◌≤◌, Bool, true, false, cond, List, [], ◌∷◌, ◌++◌, length, Result, Ok, Err, refl, sym, ap, ◌∙◌, append_assoc, append-nil, arith}
 use Rattle.rawk_lexer.specs.declared.token.Kind.{Kind}
 use Rattle.rawk_lexer.specs.declared.token.Kind.TheVariants as k
 use Rattle.rawk_lexer.specs.Lex.{kind, next, spelling, left}
@@ -17,10 +17,12 @@ use Rattle.rawk_syntax.specs.Expression as x
 use Rattle.rawk_syntax.specs.Statement as y
 use Rattle.rawk_syntax.specs.Tokens.{Spells, Newlines}
 use Rattle.rawk_syntax.specs.Grammar.{Derives, Whole, Listed}
-use Rattle.rawk_syntax.specs.Programs.{Ends, semicolon, newline, brace, States, evaluate, print, print_record, Bodies, no_statement, a_statement, Acts, braces, Parts, begin, ending, main, Separates, nothing, a_semicolon, a_newline, Texts, finish, a_part}
+use Rattle.rawk_syntax.specs.Programs.{Ends, semicolon, newline, brace, Encloses, parentheses, States, evaluate, print, print_enclosed, print_record, Bodies, no_statement, a_statement, Acts, braces, Parts, begin, ending, main, Separates, nothing, a_semicolon, a_newline, Texts, finish, a_part}
 use Rattle.rawk_syntax.specs.Texts.{IsItems}
 use Rattle.rawk_syntax.proofs.Steps.{done}
-use Rattle.rawk_syntax.proofs.Whole.{starts, closes_ends, apart, seen, not_seen, expect_is, eats, leaves, then_ok, by_kind, spells_shrink, newlines_shrink, newlines_exact, takes, complete, Complete}
+use Rattle.rawk_syntax.proofs.SoundPrograms.{list_sound}
+use Rattle.rawk_syntax.proofs.Groups.{not_listed}
+use Rattle.rawk_syntax.proofs.Whole.{starts, closes_ends, closes_list, ends_list, apart, seen, not_seen, expect_is, eats, leaves, then_ok, by_kind, spells_shrink, newlines_shrink, newlines_exact, takes, complete, Complete}
 
 -- ---- statements
 
@@ -61,11 +63,54 @@ listed_is : (d : ℕ) (es : List Expr) (i j : Input) → Derives d (Listed es) i
 unfolding y.printed y.list
 listed_is d es i j h s =
     let g : Complete d (Listed es) i j = complete h in
-    ap (λ b. cond b (pure []) (y.list (suc d)) i) (starts_opens (kind i) g.0) ∙ g.1 (left i) [] (omega arith) s
+    ap (λ b. cond b (done [] i) (y.or_enclosed (suc d) (y.list (suc d) i) i)) (starts_opens (kind i) g.0)
+    ∙ ap (λ o. y.or_enclosed (suc d) o i) (g.1 (left i) [] (omega arith) (closes_list (kind j) s))
 
 nothing_is : (d : ℕ) (i : Input) → y.closes (kind i) ≡ true → y.printed (suc d) i ≡ Ok ([], i)
 unfolding y.printed
-nothing_is d i s = ap (λ b. cond b (pure []) (y.list (suc d)) i) s
+nothing_is d i s = ap (λ b. cond b (done [] i) (y.or_enclosed (suc d) (y.list (suc d) i) i)) s
+
+are_several : (es : List Expr) → 2 ≤ length es → y.is_several es ≡ true
+are_several [] h = absurd (omega arith)
+are_several (e ∷ []) h = absurd (omega arith)
+are_several (e ∷ f ∷ es) h = refl
+
+pub record Enclosed (d : ℕ) (es : List Expr) (i j : Input) : Type 0 where
+  pub first : kind i ≡ k.LeftParen
+  pub less : left j < left i
+  pub two : 2 ≤ length es
+  pub read : y.enclosed (suc d) i ≡ Ok (es, j)
+
+in_parentheses : (d : ℕ) (es : List Expr) (v w : List ℕ) (i j l m : Input)
+    → Spells k.LeftParen v i j → Derives d (Listed es) j l → Spells k.RightParen w l m → y.enclosed (suc (suc d)) i ≡ Ok (es, m)
+unfolding y.enclosed y.list
+in_parentheses d es v w i j l m s h t =
+    let g : Complete d (Listed es) j l = complete h in
+    then_ok (y.list (suc d) (next i)) (λ fs. expect k.RightParen >> pure fs) es l (ap (y.list (suc d)) s.is_next ∙ g.1 (left j) [] (omega arith) (ap ends_list t.is_kind))
+    ∙ then_ok (expect k.RightParen l) (λ _. pure es) tt m (expect_is k.RightParen w l m t)
+
+enclosed : {d : ℕ} {es : List Expr} {i j : Input} → Encloses d es i j → Enclosed d es i j
+enclosed (parentheses {d = d} {es = es} {v = v} {w = w} {i = i} {j = j} {l = l} {m = m} s h two t) =
+    let a = spells_shrink k.LeftParen v i j (λ q. cc) s in
+    let b = takes h in
+    let c = spells_shrink k.RightParen w l m (λ q. cc) t in
+    record { first = s.is_kind; less = omega arith; two = two; read = in_parentheses d es v w i j l m s h t }
+
+several_is : (d : ℕ) (e : Refused) (es : List Expr) (i j : Input) → Enclosed d es i j → y.several (suc d) e i ≡ Ok (es, j)
+unfolding y.several
+several_is d e es i j g =
+    then_ok (y.enclosed (suc d) i) (λ fs l. cond (y.is_several fs) (Ok (fs, l)) (Err e)) es j g.read
+    ∙ ap (λ b. cond b (done es j) (Err e)) (are_several es g.two)
+
+enclosed_is : (d : ℕ) (es : List Expr) (i j : Input) → Encloses d es i j → y.printed (suc d) i ≡ Ok (es, j)
+unfolding y.printed
+enclosed_is d es i j h =
+    let g = enclosed h in
+    ap (λ b. cond b (done [] i) (y.or_enclosed (suc d) (y.list (suc d) i) i)) (ap y.closes g.first) ∙ go g (y.list (suc d) i) refl
+  where
+    go : Enclosed d es i j → (o : Outcome (List Expr)) → y.list (suc d) i ≡ o → y.or_enclosed (suc d) o i ≡ Ok (es, j)
+    go g (Ok r) e = absurd (not_listed h (list_sound d i r e))
+    go g (Err e) _ = ap (λ b. cond b (y.several (suc d) e i) (Err e)) (seen k.LeftParen i g.first) ∙ several_is d e es i j g
 
 print_is : (d : ℕ) (es : List Expr) (w : List ℕ) (i j l m : Input) → Spells k.Print w i j → y.printed (suc d) j ≡ Ok (es, l) → Ends l m → y.statement (suc d) i ≡ Ok (tree.Print (left i) es, m)
 unfolding y.statement
@@ -98,6 +143,11 @@ stated (print {d = d} {es = es} {w = w} {i = i} {j = j} {l = l} {m = m} s h t) =
     let b = ends_shrink l m t in
     let c = spells_shrink k.Print w i j (λ q. cc) s in
     record { first = ap begins s.is_kind; less = omega arith; read = print_is d es w i j l m s (listed_is d es j l h (ends_close l m t)) t }
+stated (print_enclosed {d = d} {es = es} {w = w} {i = i} {j = j} {l = l} {m = m} s h t) =
+    let a = (enclosed h).less in
+    let b = ends_shrink l m t in
+    let c = spells_shrink k.Print w i j (λ q. cc) s in
+    record { first = ap begins s.is_kind; less = omega arith; read = print_is d es w i j l m s (enclosed_is d es j l h) t }
 stated (print_record {d = d} {w = w} {i = i} {j = j} {l = l} s t) =
     let b = ends_shrink j l t in
     let c = spells_shrink k.Print w i j (λ q. cc) s in

@@ -1,5 +1,5 @@
 -- The grammar of statements, actions and programs (POSIX awk, "Grammar").
-use Rattle.std.specs.Prelude.{◌≡◌, ℕ, suc, List, [], ◌∷◌}
+use Rattle.std.specs.Prelude.{◌≡◌, ℕ, suc, ◌≤◌, List, [], ◌∷◌, length}
 use Rattle.rawk_lexer.specs.declared.token.Kind.TheVariants as k
 use Rattle.rawk_lexer.specs.Lex.{kind, left}
 use Rattle.rawk_syntax.specs.declared.draft.Expr.{Expr}
@@ -17,11 +17,18 @@ pub data Ends : Input → Input → Type 0 where
   newline : {w : List ℕ} {i j : Input} → Spells k.Newline w i j → Ends i j
   brace : {i : Input} → kind i ≡ k.RightBrace → Ends i i
 
+-- two expressions or more in parentheses; the parenthesis is a construct that is open
+pub data Encloses : ℕ → List Expr → Input → Input → Type 0 where
+  parentheses : {d : ℕ} {es : List Expr} {v w : List ℕ} {i j l m : Input}
+      → Spells k.LeftParen v i j → Derives d (Listed es) j l → 2 ≤ length es → Spells k.RightParen w l m → Encloses (suc d) es i m
+
 -- A statement, whose place is how many bytes are left at its first token.
 pub data States : ℕ → Stmt → Input → Input → Type 0 where
   evaluate : {d : ℕ} {e : Expr} {i j l : Input} → Derives d (Whole e) i j → Ends j l → States d (tree.Do (left i) e) i l
   print : {d : ℕ} {es : List Expr} {w : List ℕ} {i j l m : Input}
       → Spells k.Print w i j → Derives d (Listed es) j l → Ends l m → States d (tree.Print (left i) es) i m
+  print_enclosed : {d : ℕ} {es : List Expr} {w : List ℕ} {i j l m : Input}
+      → Spells k.Print w i j → Encloses d es j l → Ends l m → States d (tree.Print (left i) es) i m
   print_record : {d : ℕ} {w : List ℕ} {i j l : Input} → Spells k.Print w i j → Ends j l → States d (tree.Print (left i) []) i l
 
 -- any number of statements, with newlines free between them

@@ -1,15 +1,18 @@
 -- Statements, actions and programs, as functions on the text.
-use Rattle.std.specs.Prelude.{ℕ, zero, suc, Bool, true, false, if◌then◌else◌, List, [], ◌∷◌, ◌++◌}
+use Rattle.std.specs.Prelude.{ℕ, zero, suc, Bool, true, false, if◌then◌else◌, List, [], ◌∷◌, ◌++◌, Ok, Err}
 use Rattle.rawk_lexer.specs.declared.token.Kind.{Kind}
 use Rattle.rawk_lexer.specs.declared.token.Kind.TheVariants as k
 use Rattle.rawk_lexer.specs.Lex.{kind, next, left}
+use Rattle.rawk_syntax.specs.declared.refusal.RefusalKind.TheVariants as refused
+use Rattle.rawk_syntax.specs.declared.refused.Refused.{Refused}
+use Rattle.rawk_syntax.specs.declared.refused.Refused.TheVariants.{Here}
 use Rattle.rawk_syntax.specs.declared.grammar.Wanted.TheVariants as want
 use Rattle.rawk_syntax.specs.declared.draft.Expr.{Expr}
 use Rattle.rawk_syntax.specs.declared.draft.Stmt.{Stmt}
 use Rattle.rawk_syntax.specs.declared.draft.Stmt.TheVariants as tree
 use Rattle.rawk_syntax.specs.declared.draft.Item.{Item}
 use Rattle.rawk_syntax.specs.declared.draft.Item.TheVariants as part
-use Rattle.rawk_syntax.specs.Parser.{Input, Parser, ◌>>=◌, ◌>>◌, pure, refuse, peek, take_token, sees, after, eat, expect, newlines}
+use Rattle.rawk_syntax.specs.Parser.{Input, Outcome, Parser, ◌>>=◌, ◌>>◌, pure, refuse, peek, take_token, sees, after, eat, expect, newlines}
 use Rattle.rawk_syntax.specs.Expression.{expression}
 
 abbrev pub closes : Kind → Bool
@@ -38,8 +41,27 @@ list_from d (suc n) found = do
 unfoldable pub list : ℕ → Parser (List Expr)
 list d = λ i. list_from d (left i) [] i
 
+-- expressions in parentheses
+unfoldable pub enclosed : ℕ → Parser (List Expr)
+enclosed zero = λ i. Err (Here refused.TooDeep (left i))
+enclosed (suc d) = take_token >> (do es ← list d; expect k.RightParen; pure es)
+
+abbrev pub is_several : List Expr → Bool
+is_several (e ∷ f ∷ es) = true
+is_several _ = false
+
+-- two expressions or more in parentheses; else the refusal that is given
+unfoldable pub several : ℕ → Refused → Parser (List Expr)
+several d e = enclosed d >>= (λ es j. if is_several es then Ok (es, j) else Err e)
+
+-- a list that is refused may be one in parentheses
+abbrev pub or_enclosed : ℕ → Outcome (List Expr) → Parser (List Expr)
+or_enclosed d (Ok r) = λ i. Ok r
+or_enclosed d (Err e) = λ i. if sees k.LeftParen i then several d e i else Err e
+
+-- the list of a `print`, which may be missing
 unfoldable pub printed : ℕ → Parser (List Expr)
-printed d = λ i. (if closes (kind i) then pure [] else list d) i
+printed d = λ i. if closes (kind i) then Ok ([], i) else or_enclosed d (list d i) i
 
 unfoldable pub statement : ℕ → Parser Stmt
 statement d = λ i.

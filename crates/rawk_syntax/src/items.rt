@@ -6,6 +6,7 @@ ghost use Rattle.rawk_syntax.specs.Statement as spec;
 
 use crate::draft::{Expr, Item, Stmt};
 use crate::grammar::{Wanted, expression};
+use crate::refusal::RefusalKind;
 use crate::refused::Refused;
 use crate::tokens::{eat, expect, refuse, sees, skip_newlines};
 use rawk_items::{Boxed, Items};
@@ -49,15 +50,64 @@ fn list(alloc: Global, tokens: &mut Cursor<'_>, depth: usize) -> Result<Items<Ex
     Err(refuse(tokens))
 }
 
-/// The list of a `print`, which may be missing.
+/// Expressions in parentheses, with commas between them.
+#[tactic(auto, unfolding(crate::specs::Statement::enclosed))]
+fn enclosed(alloc: Global, tokens: &mut Cursor<'_>, depth: usize) -> Result<Items<Expr>, Refused>
+    ensures { Reads (spec.enclosed depth tokens.old) result tokens.new }
+{
+    if depth == 0 {
+        return Err(Refused::Here(RefusalKind::TooDeep, tokens.left()));
+    }
+    tokens.take();
+    let values = list(alloc, tokens, depth - 1)?;
+    expect(tokens, Kind::RightParen)?;
+    Ok(values)
+}
+
+fn is_several(values: &[Expr]) -> bool
+    ensures { result ≡ spec.is_several values.now }
+{
+    matches!(values, [_, _, ..])
+}
+
+/// Two expressions or more in parentheses; for fewer the refusal is the given one.
+#[tactic(auto, unfolding(crate::specs::Statement::several))]
+fn several(
+    alloc: Global,
+    tokens: &mut Cursor<'_>,
+    depth: usize,
+    refused: Refused,
+) -> Result<Items<Expr>, Refused>
+    ensures { Reads (spec.several depth refused tokens.old) result tokens.new }
+{
+    let values = enclosed(alloc, tokens, depth)?;
+    if is_several(values.as_slice()) {
+        Ok(values)
+    } else {
+        Err(refused)
+    }
+}
+
+/// The list of a `print`, which may be missing. What is refused as a list, and begins with a parenthesis, may be one in parentheses.
 #[tactic(auto, unfolding(crate::specs::Statement::printed))]
 fn printed(alloc: Global, tokens: &mut Cursor<'_>, depth: usize) -> Result<Items<Expr>, Refused>
     ensures { Reads (spec.printed depth tokens.old) result tokens.new }
 {
     if closes(tokens.peek()) {
-        Ok(Items::new(alloc))
-    } else {
-        list(alloc, tokens, depth)
+        return Ok(Items::new(alloc));
+    }
+    let text = tokens.rest();
+    match list(alloc, tokens, depth) {
+        Ok(values) => Ok(values),
+        Err(Refused::OutOfMemory) => Err(Refused::OutOfMemory),
+        Err(refused) => {
+            *tokens = Cursor::new(text);
+            if sees(tokens, Kind::LeftParen) {
+                several(alloc, tokens, depth, refused)
+            } else {
+                Err(refused)
+            }
+        }
     }
 }
 

@@ -29,7 +29,8 @@ const DEEPEST: usize = 200;
 /// It refuses a text of more than 1,048,576 bytes, or with more than 200 constructs open at once (`TooDeep`); a text that the
 /// grammar does not give, by the token at which it stops (`Syntax`, `BadToken`, `Unterminated`, `LeftOut`); a constant that is
 /// not whole or does not fit 64 bits (`BadNumber`). `OutOfMemory` is the refusal of a growth, and its line is 0.
-/// It goes over the text once, and looks each name up among the program's own names that it met before.
+/// It goes over the text once, but over a list in parentheses behind `print` at most twice, and looks each name up among the
+/// program's own names that it met before.
 pub fn parse(alloc: Global, text: &[u8]) -> Result<Program, Refusal>
     // The program is that of a tree which the grammar gives the text, within the limits.
     ensures found { IfOk result (λ p. IsProgram text.now p) }
@@ -91,8 +92,9 @@ mod tests {
         }
     }
 
-    fn nested(alloc: Global, depth: usize) -> Result<Vec<u8>, AllocError> {
-        let mut text = Vec::from_slice(alloc, b"BEGIN { print ")?;
+    fn nested(alloc: Global, before: &[u8], depth: usize) -> Result<Vec<u8>, AllocError> {
+        let mut text = Vec::from_slice(alloc, b"BEGIN { print (")?;
+        text.extend_from_slice(before)?;
         for _turn in 0..depth {
             text.push(b'(')?;
         }
@@ -100,7 +102,7 @@ mod tests {
         for _turn in 0..depth {
             text.push(b')')?;
         }
-        text.extend_from_slice(b" }")?;
+        text.extend_from_slice(b") }")?;
         Ok(text)
     }
 
@@ -145,10 +147,42 @@ mod tests {
     }
 
     #[test]
+    fn lists_in_parentheses(rt: HostRuntime) -> Result<(), Fail> {
+        let alloc = rt.alloc();
+        let texts: [(&[u8], (u8, u64)); 16] = [
+            (b"BEGIN { print (1, 2) }", (0, 0)),
+            (
+                b"BEGIN { print (1,\n\n(2),\nx = 3); print(4, 5)\nprint }",
+                (0, 0),
+            ),
+            (b"BEGIN { print ((1), 2) }", (0, 0)),
+            (b"BEGIN { print (1) }", (0, 0)),
+            (b"BEGIN { print (1)+2 }", (0, 0)),
+            (b"BEGIN { print ((1)+2), (3) }", (0, 0)),
+            (b"BEGIN { print (1, 2), 3 }", (2, 1)),
+            (b"BEGIN { print (1, 2) + 1 }", (2, 1)),
+            (b"BEGIN { print ((1), 2), 3 }", (2, 1)),
+            (b"BEGIN { print ((1, 2)) }", (2, 1)),
+            (b"BEGIN { print 0, (1, 2) }", (2, 1)),
+            (b"BEGIN { print (1, 2 }", (2, 1)),
+            (b"BEGIN { print (1,\n) }", (2, 2)),
+            (b"BEGIN { print () }", (2, 1)),
+            (b"BEGIN { print (1,\n2.5) }", (4, 2)),
+            (b"BEGIN { print (1, 2) > \"f\" }", (6, 1)),
+        ];
+        for (text, told) in texts {
+            assert_eq!(rt; told_of(alloc, text), told);
+        }
+        Ok(())
+    }
+
+    #[test]
     fn limits(rt: HostRuntime) -> Result<(), Fail> {
         let alloc = rt.alloc();
-        assert_eq!(rt; told_of(alloc, &nested(alloc, 199)?), (0, 0));
-        assert_eq!(rt; told_of(alloc, &nested(alloc, 200)?), (9, 1));
+        assert_eq!(rt; told_of(alloc, &nested(alloc, b"", 198)?), (0, 0));
+        assert_eq!(rt; told_of(alloc, &nested(alloc, b"", 199)?), (9, 1));
+        assert_eq!(rt; told_of(alloc, &nested(alloc, b"2, ", 198)?), (0, 0));
+        assert_eq!(rt; told_of(alloc, &nested(alloc, b"2, ", 199)?), (9, 1));
         assert_eq!(rt; told_of(alloc, &long(alloc, 1_048_576)?), (0, 0));
         assert_eq!(rt; told_of(alloc, &long(alloc, 1_048_577)?), (9, 1));
         Ok(())

@@ -1,4 +1,4 @@
-use Rattle.std.proofs.Common.{◌≡◌, Bool, true, false, refl, sym, ◌∙◌, ap, subst}
+use Rattle.std.proofs.Common.{◌≡◌, true, false, refl, sym, ◌∙◌, subst}
 use Rattle.rawk_code.specs.Correct.{CodeOf}
 use Rattle.rawk_code.specs.Settings.{settings_fit}
 use Rattle.rawk.specs.declared.report.Report.{Report}

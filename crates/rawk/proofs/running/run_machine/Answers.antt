@@ -1,7 +1,6 @@
-use Rattle.std.proofs.Common.{◌≡◌, ◌+◌, ◌<◌, ◌++◌, List, ℕ, [], Option, None, Some, length, take, arith, rules, refl, sym, ◌∙◌, ap, subst}
+use Rattle.std.proofs.Common.{◌≡◌, ◌<◌, ◌++◌, List, ℕ, Option, None, Some, length, take, rules, sym, ◌∙◌, ap, subst}
 use Rattle.rawk_value.specs.Values.{Bytes}
 use Rattle.rawk_value.specs.declared.fault.Fault.TheVariants.{WriteFailed, OutOfMemory}
-use Rattle.rawk_code.specs.Actions.{Ending}
 use Rattle.rawk_machine.specs.declared.step.Step.{Step}
 use Rattle.rawk_machine.specs.Standing.{Standing, IsAt, step_of}
 use Rattle.rawk.specs.declared.report.Report.{Report}
@@ -9,7 +8,7 @@ use Rattle.rawk.specs.declared.report.Cause.TheVariants as cause
 use Rattle.rawk_store.specs.State.{State}
 use Rattle.rawk_code.specs.Trace.{line_at}
 use Rattle.rawk.specs.Runs.{Runs, stopped_by, refused_behind, told_of}
-use Rattle.rawk.proofs.SoFar.{Same, Settled, settled_after, advanced, ended, goes_on, not_written, refused}
+use Rattle.rawk.proofs.SoFar.{Settled, settled_after, advanced, ended, goes_on, not_written, refused}
 use Rattle.rawk.proofs.running.run_machine.Goals as goal
 
 -- the sink fails

@@ -1,0 +1,18 @@
+use Rattle.std.proofs.Common.{true, ap, ◌∙◌}
+use Rattle.rawk_ere_walk.specs.Code.{code_of}
+use Rattle.rawk_ere_walk.proofs.EreLemmas.{longest_from_farthest}
+use Rattle.rawk_ere_walk.proofs.SearchLemmas.{way_between}
+use Rattle.rawk_ere_walk.proofs.compiled.Automaton.longest_at.Goals as goal
+
+pub returns-clause-is : goal.returns-clause-is
+returns-clause-is c =
+    let is = c.deref-2.ensures.value ∙ c.self.invariant.0 ∙ ap code_of c.self.view_is in
+    longest_from_farthest c.deref-2.result.now c.args.text.now c.args.self.now c.args.from c.in_ok-walked.walked.longest is c.in_ok-walked.ensures.farthest
+
+pub returns-then-from-text-clause-is : goal.returns-then-from-text-clause-is
+returns-then-from-text-clause-is c =
+    let is = c.deref.ensures.value ∙ c.self.invariant.0 ∙ ap code_of c.self.view_is in
+    longest_from_farthest c.deref.result.now c.args.text.now c.args.self.now c.args.from c.run.result is c.run.ensures
+
+pub returns-then-from-text-clause-within : goal.returns-then-from-text-clause-within
+returns-then-from-text-clause-within c = way_between c.deref.result.now c.args.text.now true c.args.from c.run.result c.requires c.run.ensures

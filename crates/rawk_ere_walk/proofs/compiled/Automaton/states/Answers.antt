@@ -1,0 +1,12 @@
+use Rattle.std.proofs.Common.{length, ap, arith, ◌∙◌}
+use Rattle.rawk_ere_walk.specs.Code.{code_of}
+use Rattle.rawk_ere_walk.proofs.SizeLemmas.{code_short}
+use Rattle.rawk_ere_walk.proofs.compiled.Automaton.states.Goals as goal
+
+pub returns : goal.returns
+returns c =
+    let e = ap length (c.self.invariant.0 ∙ ap code_of c.self.view_is) in
+    record {
+      value = omega (arith, e, c.self.inside.code.ok.0);
+      within = omega (arith, e, code_short c.args.self.now, c.self.inside.code.ok.0);
+    }

@@ -1,0 +1,156 @@
+//! Trees of extended regular expressions, compiled.
+
+ghost use Rattle.std.specs.Prelude.{◌≡◌, ◌+◌, ◌-◌, ◌*◌, ◌<◌, ◌≤◌, length, ℕ, Some, IfOk, IfErr};
+ghost use Rattle.rawk_ere_walk.specs.Tree.{size_of, IsWithinLimits};
+ghost use Rattle.rawk_ere_walk.specs.Node.{tree_of};
+ghost use Rattle.rawk_ere_walk.specs.Code.{code_of};
+ghost use Rattle.rawk_ere_walk.specs.Ends.{IsLongest, IsMatch};
+ghost use Rattle.rawk_ere_walk.specs.Open.{IsOpenMatch, IsSettled, IsOpenFrom};
+ghost use Rattle.rawk_ere_walk.specs.Table.{IsTable};
+ghost use Rattle.std.specs.Option.{ForSome};
+ghost use Rattle.rawk_ere_walk.specs.Search.{IsBetween, AreBetween};
+
+use crate::code::{Instruction, emit};
+use crate::node::Node;
+use crate::search::{first, first_by, first_open, longest, open_start};
+use crate::table::{Table, build, run};
+use std::alloc::{AllocError, Global};
+use std::marker::Model;
+
+/// The tree of an extended regular expression, with its automaton. A contract sees the tree.
+#[derive(Drop)]
+pub struct Automaton {
+    node: Node,
+    code: Vec<Instruction>,
+    table: Option<Table>,
+}
+
+/// The tree of the expression.
+impl Model for Automaton {
+    ghost use Rattle.rawk_ere_walk.specs.Tree.{Tree};
+    ghost use Rattle.rawk_ere_walk.specs.TreeCode.{tree_code};
+
+    ghost Value = { Tree };
+
+    ghost coded = { tree_code };
+
+    ghost use Rattle.std.specs.Prelude.{◌≡◌};
+    ghost use Rattle.rawk_ere_walk.specs.Node.{tree_of};
+    ghost use Rattle.rawk_ere_walk.specs.Code.{code_of};
+
+    ghost view = { λ e. tree_of e.node };
+
+    ghost use Rattle.rawk_ere_walk.specs.Table.{IsTable};
+    ghost use Rattle.std.specs.Option.{ForSome};
+
+    ghost invariant = { λ e. (e.code.items ≡ code_of (tree_of e.node))
+        × ForSome e.table (λ t. IsTable e.code.items t.sets.items t.next.items t.last_ends.items t.start t.later) };
+}
+
+// The table of a code that is short and needs few rows.
+fn small_table(alloc: Global, code: &[Instruction]) -> Result<Option<Table>, AllocError>
+    ensures { IfOk result (λ table. ForSome table (λ t. IsTable code.now t.sets.items t.next.items t.last_ends.items t.start t.later)) }
+{
+    if code.len() > 256 {
+        return Ok(None);
+    }
+    build(alloc, code, 64)
+}
+
+impl Automaton {
+    /// The automaton of the tree.
+    pub fn new(alloc: Global, node: Node) -> Result<Automaton, AllocError>
+        ensures { IfOk result (λ e. e ≡ tree_of node) }
+    {
+        let mut code = Vec::new(alloc);
+        emit(&mut code, &node)?;
+        let table = small_table(alloc, &code)?;
+        Ok(Automaton { node, code, table })
+    }
+
+    /// How many states the automaton has.
+    pub fn states(&self) -> usize
+        ensures value { result ≡ length (code_of self.now) + 1 }
+        ensures within { result ≤ 2 * size_of self.now + 1 }
+    {
+        self.code.len() + 1
+    }
+
+    /// The greatest end of a match that begins at `from`, if there is one. It reads no byte twice.
+    pub fn longest_at(
+        &self,
+        alloc: Global,
+        text: &[u8],
+        from: usize,
+    ) -> Result<Option<usize>, AllocError>
+        requires { from ≤ length text.now }
+        ensures is { IfOk result (IsLongest text.now self.now from) }
+        ensures within { IfOk result (IsBetween from (length text.now)) }
+    {
+        if let Some(table) = &self.table {
+            if from < text.len() {
+                return Ok(run(table, &self.code, text, from));
+            }
+        }
+        let walked = longest(alloc, &self.code, text, from, true)?;
+        Ok(walked.longest)
+    }
+
+    /// The same, with how often a state was entered at a place: at most once for each state at each place.
+    pub fn longest_at_counted(
+        &self,
+        alloc: Global,
+        text: &[u8],
+        from: usize,
+    ) -> Result<(Option<usize>, u128), AllocError>
+        requires { from ≤ length text.now }
+        ensures is { IfOk result (λ r. IsLongest text.now self.now from r.0) }
+        ensures within { IfOk result (λ r. IsBetween from (length text.now) r.0) }
+        ensures entered { IfOk result (λ r. r.1 ≤ (length text.now - from + 1) * (length (code_of self.now) + 1)) }
+    {
+        let walked = longest(alloc, &self.code, text, from, true)?;
+        Ok((walked.longest, walked.entered))
+    }
+
+    /// The leftmost match from `from` on, and the longest there: its begin and its end.
+    pub fn find(
+        &self,
+        alloc: Global,
+        text: &[u8],
+        from: usize,
+    ) -> Result<Option<(usize, usize)>, AllocError>
+        requires { from ≤ length text.now }
+        ensures is { IfOk result (IsMatch text.now self.now from) }
+        ensures within { IfOk result (AreBetween from (length text.now)) }
+    {
+        match &self.table {
+            None => first(alloc, &self.code, text, from),
+            Some(table) => first_by(alloc, table, &self.code, text, from),
+        }
+    }
+
+    /// The leftmost nonempty match from `from` on, and the longest there, if it stays that in every longer text that begins
+    /// with this one. None: there is none, or reading from a place up to it wants to know what follows the text.
+    pub fn find_open(
+        &self,
+        alloc: Global,
+        text: &[u8],
+        from: usize,
+    ) -> Result<Option<(usize, usize)>, AllocError>
+        requires { from ≤ length text.now }
+        ensures is { IfOk result (IsOpenMatch text.now self.now from) }
+        ensures settled { IfOk result (λ o. (m : ℕ × ℕ) → o ≡ Some m → IsSettled text.now self.now from m) }
+        ensures within { IfOk result (AreBetween from (length text.now)) }
+    {
+        first_open(alloc, &self.code, text, from)
+    }
+
+    /// The first place from `from` on where a nonempty match may begin, in this text or in a longer one that begins with it;
+    /// the end of the text if there is none. A search in a longer text may go on from there.
+    pub fn open_from(&self, alloc: Global, text: &[u8], from: usize) -> Result<usize, AllocError>
+        requires { from ≤ length text.now }
+        ensures { IfOk result (IsOpenFrom text.now self.now from) }
+    {
+        open_start(alloc, &self.code, text, from)
+    }
+}

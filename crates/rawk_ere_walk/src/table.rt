@@ -1,0 +1,232 @@
+//! The sets of states that a walk can be in between two bytes, each found once, and where each byte leads.
+
+ghost use Rattle.std.specs.Prelude.{◌≡◌, ℕ, ◌+◌, ◌-◌, ◌*◌, ◌<◌, ◌≤◌, ◌↔◌, true, List, [], ◌++◌, length, slice_index_or, false, IfOk, OnOk, IsTrue, Contains};
+ghost use Rattle.rawk_ere_walk.specs.Sets.{Adds, Closes, IsFarthest};
+ghost use Rattle.rawk_ere_walk.specs.Table.{members, Begins, LeadsBy, EndsLast, AreFilled, AreStarts, IsTable, IsPlaced, Extends, AreAlike, AreMarkedAlike, IsTarget};
+ghost use Rattle.std.specs.Option.{ForSome};
+
+use crate::code::Instruction;
+use crate::set::StateSet;
+use crate::walk::{close, noted, read, reads_from};
+use std::alloc::{AllocError, Global};
+
+/// The rows.
+#[derive(Drop)]
+pub struct Table {
+    pub sets: Vec<StateSet>,
+    pub next: Vec<usize>,
+    pub last_ends: Vec<bool>,
+    pub start: usize,
+    pub later: usize,
+}
+
+/// The end of the longest way through the code from a place before the text's end.
+pub fn run(table: &Table, code: &[Instruction], text: &[u8], from: usize) -> Option<usize>
+    requires within { from < length text.now }
+    requires table { IsTable code.now table.now.sets.items table.now.next.items table.now.last_ends.items table.now.start table.now.later }
+    ensures { IsFarthest code.now true text.now from result }
+{
+    let mut row = if from == 0 { table.start } else { table.later };
+    let mut longest = None;
+    for at in from..text.len() {
+        let now = &table.sets[row];
+        if now.len() == 0 {
+            return longest;
+        }
+        longest = noted(longest, now, code.len(), at);
+        row = table.next[row * 256 + text[at] as usize];
+    }
+    if table.last_ends[row] {
+        Some(text.len())
+    } else {
+        longest
+    }
+}
+
+/// The table of the code, if it has fewer than `most` rows.
+pub fn build(alloc: Global, code: &[Instruction], most: usize) -> Result<Option<Table>, AllocError>
+    ensures { IfOk result (λ table. ForSome table (λ t. IsTable code.now t.sets.items t.next.items t.last_ends.items t.start t.later)) }
+{
+    let mut sets = Vec::new(alloc);
+    let first = begin(alloc, code, true)?;
+    let start = place(&mut sets, first)?;
+    let other = begin(alloc, code, false)?;
+    let later = place(&mut sets, other)?;
+    let alike = find_alike(alloc, code)?;
+    let mut next = Vec::new(alloc);
+    for row in 0..most {
+        if row == sets.len() {
+            let last_ends = find_last(alloc, code, &sets)?;
+            return Ok(Some(Table {
+                sets,
+                next,
+                last_ends,
+                start,
+                later,
+            }));
+        }
+        fill(alloc, code, &alike, &mut sets, &mut next, row)?;
+    }
+    Ok(None)
+}
+
+// Finds the rows that the bytes lead to from a row.
+fn fill(
+    alloc: Global,
+    code: &[Instruction],
+    alike: &[bool],
+    sets: &mut Vec<StateSet>,
+    next: &mut Vec<usize>,
+    row: usize,
+) -> Result<(), AllocError>
+    requires within { row < length sets.old.items }
+    requires alike { AreMarkedAlike code.now alike.now }
+    requires done { length next.old.items ≡ 256 * row }
+    requires filled { AreFilled code.now sets.old.items next.old.items }
+    ensures done { OnOk result (length next.new.items ≡ 256 * (row + 1)) }
+    ensures filled { OnOk result (AreFilled code.now sets.new.items next.new.items) }
+    ensures extends { OnOk result (Extends sets.old.items sets.new.items) }
+{
+    for byte in 0..256usize {
+        let index = target(alloc, code, alike, sets, next, row, byte as u8)?;
+        next.push(index)?;
+    }
+    Ok(())
+}
+
+// The row that the byte leads to; where the byte is like the one before it, that is known.
+fn target(
+    alloc: Global,
+    code: &[Instruction],
+    alike: &[bool],
+    sets: &mut Vec<StateSet>,
+    next: &[usize],
+    row: usize,
+    byte: u8,
+) -> Result<usize, AllocError>
+    requires within { row < length sets.old.items }
+    requires alike { AreMarkedAlike code.now alike.now }
+    requires done { length next.now ≡ 256 * row + byte }
+    requires filled { AreFilled code.now sets.old.items next.now }
+    ensures { IfOk result (λ index. IsTarget code.now sets.old.items sets.new.items row byte index) }
+{
+    if is_alike(alike, byte) && next.len() > 0 {
+        return Ok(next[next.len() - 1]);
+    }
+    let to = step(alloc, code, &sets[row], byte)?;
+    let index = place(sets, to)?;
+    Ok(index)
+}
+
+// Whether the byte is marked.
+fn is_alike(alike: &[bool], byte: u8) -> bool
+    ensures { result ≡ slice_index_or alike.now byte false }
+{
+    let index = byte as usize;
+    if index < alike.len() {
+        alike[index]
+    } else {
+        false
+    }
+}
+
+// Whether each state reads both bytes or none.
+fn are_alike(code: &[Instruction], a: u8, b: u8) -> bool
+    ensures { result ≡ true → AreAlike code.now a b }
+{
+    for state in 0..code.len() {
+        if reads_from(code, state, a) != reads_from(code, state, b) {
+            return false;
+        }
+    }
+    true
+}
+
+// The marks of the bytes that are like the ones before them.
+fn find_alike(alloc: Global, code: &[Instruction]) -> Result<Vec<bool>, AllocError>
+    ensures { IfOk result (λ marks. AreMarkedAlike code.now marks.items) }
+{
+    let mut marks = Vec::new(alloc);
+    marks.push(false)?;
+    for byte in 1..256usize {
+        let like = are_alike(code, (byte - 1) as u8, byte as u8);
+        marks.push(like)?;
+    }
+    Ok(marks)
+}
+
+// The states at the start of a match.
+fn begin(alloc: Global, code: &[Instruction], first: bool) -> Result<StateSet, AllocError>
+    ensures { IfOk result (λ set. Begins code.now (IsTrue first) set.1) }
+{
+    let mut set = StateSet::new(alloc, code.len() + 1)?;
+    set.add(0);
+    close(code, &mut set, first, false);
+    Ok(set)
+}
+
+// The states after a byte.
+fn step(
+    alloc: Global,
+    code: &[Instruction],
+    from: &StateSet,
+    byte: u8,
+) -> Result<StateSet, AllocError>
+    ensures { IfOk result (λ to. LeadsBy code.now byte from.now.1 to.1) }
+{
+    let mut to = StateSet::new(alloc, code.len() + 1)?;
+    read(code, from, &mut to, byte);
+    close(code, &mut to, false, false);
+    Ok(to)
+}
+
+// The row of the set, made if there is none.
+fn place(sets: &mut Vec<StateSet>, set: StateSet) -> Result<usize, AllocError>
+    ensures { IfOk result (λ row. IsPlaced sets.old.items sets.new.items set.1 row) }
+{
+    let found = row_of(sets, &set);
+    if let Some(row) = found {
+        return Ok(row);
+    }
+    let row = sets.len();
+    sets.push(set)?;
+    Ok(row)
+}
+
+// A row with the same members.
+fn row_of(sets: &[StateSet], set: &StateSet) -> Option<usize>
+    ensures { ForSome result (λ row. (row < length sets.now) × ((q : ℕ) → Contains set.now.1 q ↔ Contains (members sets.now row) q)) }
+{
+    for index in 0..sets.len() {
+        if set.is_same(&sets[index]) {
+            return Some(index);
+        }
+    }
+    None
+}
+
+// Whether the set leads to the end of the code at the end of the text.
+fn ends_last(alloc: Global, code: &[Instruction], set: &StateSet) -> Result<bool, AllocError>
+    ensures { IfOk result (λ ends. EndsLast code.now set.now.1 ends) }
+{
+    let mut copy = StateSet::new(alloc, code.len() + 1)?;
+    copy.add_all(set);
+    close(code, &mut copy, false, true);
+    Ok(copy.contains(code.len()))
+}
+
+// The same of each set.
+fn find_last(
+    alloc: Global,
+    code: &[Instruction],
+    sets: &[StateSet],
+) -> Result<Vec<bool>, AllocError>
+    ensures all { IfOk result (λ ends. length ends.items ≡ length sets.now) }
+    ensures each { IfOk result (λ ends. (r : ℕ) → r < length sets.now → EndsLast code.now (members sets.now r) (slice_index_or ends.items r false)) }
+{
+    let mut found = Vec::new(alloc);
+    for index in 0..sets.len() {
+        found.push(ends_last(alloc, code, &sets[index])?)?;
+    }
+    Ok(found)
+}
