@@ -24,6 +24,16 @@ RULED = {("a{,3}", "aaa"): "syntax", ("a{1,256}", "a"): "syntax", ("a{3,2}", "a"
          ("[", "a"): "syntax", ("[]", "a"): "syntax", ("[^]", "a"): "syntax", ("[a", "a"): "syntax", ("(", "a"): "syntax", (")", "a"): "syntax", ("*a", "a"): "syntax", ("a|*b", "a"): "syntax", ("^*", "a"): "syntax",
          ("(*a)", "a"): "syntax", ("a\\", "a"): "syntax", ("\\y", "a"): "syntax", ("a{x", "a{x"): "0,3", ("{", "a{"): "1,2", ("]", "a]"): "1,2", ("}", "a}"): "1,2", ("a**", "aab"): "0,2", ("a{", "a{"): "0,2"}
 
+# single calls: the word, the pattern, the place, the text, how often a state may be entered at most, and the answer
+A30 = "a" * 30
+CALLS = [("find", "a{2,3}", "0", "aaaa", "0,3"), ("find", "(a|ab)(c|bcd)(d*)", "0", "abcd", "0,4"), ("find", "[]a]+", "0", "x]a]", "1,4"), ("find", "a{x", "0", "a{x", "0,3"), ("find", "x*", "2", "abxx", "2,4"),
+         ("find", "b$", "0", "bab", "2,3"), ("find", "^a", "1", "aa", "none"), ("longest", "a{2,3}", "1", "aaaa", "4"), ("longest", "a{2,3}", "3", "aaaa", "none"), ("parse", "a{,3}", "syntax"), ("parse", "^*", "syntax"),
+         ("parse", "(a{255}){127}", "read"), ("parse", "(a{255}){128}", "too large"), ("find", "(a*)*b", "0", A30, "none"), ("find", "(a?){30}a{30}", "0", A30, "0,30"), ("counted", "(a?){30}a{30}", "0", A30, "9517", "30"),
+         ("open", "ab+", "0", "xab", "none"), ("open", "ab+", "0", "xabc", "1,3"), ("open", "ab+", "2", "xabc", "none"), ("find", "a*b|c", "0", "a" * 200 + "c", "200,201"), ("find", "a*b|c", "0", "a" * 200 + "cab", "200,201"),
+         ("find", "a*b|c", "0", "ca" * 2 + "a" * 100 + "b", "0,1"), ("find", "(ab)*x|(ba)*y|c", "0", "ab" * 100 + "c", "200,201"), ("find", "zzz+y", "0", "x" * 200 + "zzzzy", "200,205"), ("find", "zzz+y", "0", "zz" + "x" * 200, "none"),
+         ("find", "q|z", "0", "x" * 100 + "z", "100,101"), ("find", "k|q|z", "1", "k" + "x" * 100 + "q", "101,102"), ("find", "^a|$", "0", "b" * 100, "100,100"), ("find", "a$|^", "1", "b" * 100, "none"),
+         ("find", "^$", "0", "", "0,0"), ("find", "(a|b)*c|ba", "0", "ab" * 60 + "d", "1,3"), ("find", "[a-y]+z|a", "3", "b" * 90 + "a", "90,91"), ("longest", "(a|b)*c", "1", "abcabc", "3"), ("longest", "$", "3", "abc", "3"), ("longest", "^", "0", "abc", "0")]
+
 def cases(): return [(p, t) for p in TEXTS for t in TEXTS[p]]
 
 def ask(pattern, text):
@@ -36,5 +46,6 @@ def main():
     for case in cases() + list(RULED):
         if sys.argv[1] == "stdin": print("match\t" + case[0] + "\t" + case[1].replace("\t", "~"))
         else: print(RULED.get(case) or ask(*case))
+    for call in CALLS: print("\t".join(call[:-1]) if sys.argv[1] == "stdin" else call[-1])
 
 main()

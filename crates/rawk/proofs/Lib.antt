@@ -1,2 +1,3 @@
 mod SoFar
 mod Told
+mod Held

@@ -1,2 +1,3 @@
 pub mod Runs
 pub mod Tells
+pub mod Debugs

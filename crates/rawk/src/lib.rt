@@ -1,10 +1,12 @@
-//! AWK over whole numbers: runs, their reports, and the program from its words to its status.
+//! AWK over whole numbers: runs, sessions, their reports, and the program from its words to its status.
 #![tactic(auto)]
 
+mod debugging;
 mod performing;
 mod report;
 mod running;
 
+pub use debugging::debug_from;
 pub use performing::perform;
 pub use rawk_code::Settings;
 pub use rawk_syntax::RefusalKind;

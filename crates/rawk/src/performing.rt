@@ -1,5 +1,6 @@
 //! The program from its words to its status.
 
+use crate::debugging::debug_from;
 use crate::report::{Cause, Report};
 use crate::running::run;
 use rawk_tape::{StdSink, StdSource};
@@ -37,17 +38,21 @@ impl<F: Read, I: Read> Read for InputReader<F, I> {
 }
 
 /// Does what the words of the command line ask for, and answers the status of the process. Where the standard output is
-/// a terminal, each step's output appears before the next step; else it is held back up to 64 KiB.
+/// a terminal, or commands come from the standard input, each step's output or each answer appears before the next one; else it
+/// is held back up to 64 KiB.
 pub fn perform<R: Env + Files + AllocGlobal + Input + Print + Eprint>(
     rt: &R,
     is_terminal: bool,
 ) -> u8 {
-    let room = if is_terminal { 0 } else { OUTPUT_BUFFER };
     match invocation(rt) {
-        Ok(invocation) => match run_invocation(rt, &invocation, room) {
-            Ok(status) => status,
-            Err(refusal) => refused(rt, &refusal),
-        },
+        Ok(invocation) => {
+            let at_once = is_terminal || invocation.commands == Some(Text::StandardInput);
+            let room = if at_once { 0 } else { OUTPUT_BUFFER };
+            match run_invocation(rt, &invocation, room) {
+                Ok(status) => status,
+                Err(refusal) => refused(rt, &refusal),
+            }
+        }
         Err(refusal) => refused(rt, &refusal),
     }
 }
@@ -97,7 +102,7 @@ fn not_text(alloc: Global) -> S {
     }
 }
 
-/// Runs, and answers the status.
+/// Runs, or holds a session, and answers the status.
 fn run_invocation<R: Files + AllocGlobal + Input + Print + Eprint>(
     rt: &R,
     invocation: &Invocation,
@@ -105,18 +110,34 @@ fn run_invocation<R: Files + AllocGlobal + Input + Print + Eprint>(
 ) -> Result<u8, S> {
     let alloc = rt.alloc();
     let program = bytes_of(rt, &invocation.program)?;
+    let commands = match &invocation.commands {
+        Some(text) => Some(input_of(rt, text)?),
+        None => None,
+    };
     let input = input_of(rt, &invocation.input)?;
     let Ok(mut buffer) = BufWriter::with_capacity(alloc, room, io::writer(rt)) else {
         return Err(S::Memory(AllocError));
     };
-    let report = run(
-        alloc,
-        &invocation.settings,
-        program.as_slice(),
-        StdSource::new(input),
-        &mut StdSink::new(&mut buffer),
-        invocation.steps,
-    );
+    let report = match commands {
+        Some(commands) => debug_from(
+            alloc,
+            &invocation.settings,
+            program.as_slice(),
+            StdSource::new(input),
+            StdSource::new(commands),
+            &mut StdSink::new(&mut buffer),
+            invocation.steps,
+            invocation.history,
+        ),
+        None => run(
+            alloc,
+            &invocation.settings,
+            program.as_slice(),
+            StdSource::new(input),
+            &mut StdSink::new(&mut buffer),
+            invocation.steps,
+        ),
+    };
     if buffer.flush().is_err() {
         return Ok(write_failed(rt));
     }

@@ -52,7 +52,7 @@ fn told(lines: &[u64], step: Step, site: Option<usize>, point: u64) -> Option<Re
 }
 
 /// The report of a run that something outside the program stopped.
-fn stopped(fault: Fault, point: u64) -> Report
+pub(crate) fn stopped(fault: Fault, point: u64) -> Report
     ensures { result ≡ stopped_by (Cause.Faulted fault) point }
 {
     Report {
@@ -76,7 +76,7 @@ fn refused_at(lines: &[u64], site: Option<usize>, point: u64) -> Report
 }
 
 /// The report of a refused text.
-fn text_refused(refusal: Refusal) -> Report
+pub(crate) fn text_refused(refusal: Refusal) -> Report
     ensures { result ≡ refused_by refusal }
 {
     Report {
@@ -88,7 +88,7 @@ fn text_refused(refusal: Refusal) -> Report
 }
 
 /// The report of first values that can't be assigned.
-fn settings_refused() -> Report
+pub(crate) fn settings_refused() -> Report
     ensures { result ≡ stopped_by Cause.BadAssignment 0 }
 {
     Report {
@@ -152,6 +152,7 @@ fn run_machine<R: Source + Drop, W: Sink>(
     sink: &mut W,
 ) -> Report
     requires fresh { machine.old.point ≡ 0 }
+    requires alone { machine.old.unset ≡ [] }
     requires stands { (input : Input) → MayCome R.may_give machine.old [] input → IsAt machine.old input [] [] }
     requires still { (input : Input) × MayCome R.may_give machine.old [] input }
     ensures runs { (p : Program) → CodeOf p machine.old.code → p.lines.items ≡ lines.now → Runs R.may_give W.may_hold p machine.old sink.old sink.new result }

@@ -6,6 +6,7 @@ pub mod compiler;
 mod emit;
 pub mod fitting;
 pub mod laws;
+pub mod sets;
 pub mod settings;
 #[cfg(test)]
 mod tests;
@@ -13,4 +14,5 @@ mod tests;
 pub use code::{Around, Code, Instr, Operand, Simple, Simples};
 pub use compiler::compile;
 pub use fitting::fits;
+pub use sets::SetAt;
 pub use settings::{FirstValue, Settings};

@@ -6,7 +6,7 @@ use Rattle.rawk_ere.specs.declared.token.Token.TheVariants as token
 use Rattle.rawk_ere.specs.declared.bracket.Place.{Place}
 use Rattle.rawk_ere.specs.declared.bracket.Place.TheVariants.{First, AfterByte, AfterRange}
 use Rattle.rawk_ere.specs.declared.bracket.Item.{Item}
-use Rattle.rawk_ere_walk.specs.ByteSets.{HasAlso, IsInRanges, IsSetOf, IsIn}
+use Rattle.rawk_ere_code.specs.ByteSets.{HasAlso, IsInRanges, IsSetOf, IsIn}
 use Rattle.rawk_ere.specs.Pattern.{begins, item_at, ranges_in, closes, Items, closed, more, IsBracket, IsBracketed}
 use Rattle.rawk_ere.proofs.ByteSetLemmas.{also_none, also_both, set_with, set_where}
 

@@ -3,7 +3,7 @@ use Rattle.std.proofs.Common.{◌≡◌, ℕ, ◌<◌, min, false, true, Some, N
 use Rattle.rawk_ere.specs.declared.token.Token.{Token}
 use Rattle.rawk_ere.specs.declared.error.EreError.{EreError}
 use Rattle.rawk_ere.specs.declared.error.EreError.TheVariants as error
-use Rattle.rawk_ere_walk.specs.Tree.{Tree, size_of}
+use Rattle.rawk_ere_code.specs.Tree.{Tree, size_of}
 use Rattle.rawk_ere.specs.Pattern.{AreTokens, IsScanRefused}
 use Rattle.rawk_ere.specs.Reading.{run, fresh, is_formed, IsTreeRefused}
 use Rattle.rawk_ere.specs.Reads.{Reads, IsRefused}

@@ -7,7 +7,7 @@ use Rattle.rawk_ere.specs.declared.lead.Lead.{Lead}
 use Rattle.rawk_ere.specs.declared.lead.Lead.TheVariants as lead
 use Rattle.rawk_ere.specs.declared.bracket.Place.{Place}
 use Rattle.rawk_ere.specs.declared.bracket.Item.{Item}
-use Rattle.rawk_ere_walk.specs.ByteSets.{IsSetOf, IsInRanges}
+use Rattle.rawk_ere_code.specs.ByteSets.{IsSetOf, IsInRanges}
 use Rattle.rawk_ere.specs.Pattern.{Items, closed, more, ranges_in, IsBracket, Braced, Itself, Wrong, Interval, braced, lead_of, IsOneOf, IsBracketed, IsBraced, IsLed, IsToken, AreTokens}
 use Rattle.rawk_ere.proofs.ByteSetLemmas.{set_same}
 

@@ -3,8 +3,8 @@ use Rattle.std.specs.Prelude.{◌≡◌, ℕ, zero, suc, ◌+◌, ◌-◌, ◌*�
 use Rattle.std.specs.List.{starts_with}
 use Rattle.rawk_ere.specs.declared.error.EreError.{EreError}
 use Rattle.rawk_ere.specs.declared.error.EreError.TheVariants as error
-use Rattle.rawk_ere_walk.specs.declared.node.Count.{Count}
-use Rattle.rawk_ere_walk.specs.declared.node.Count.TheVariants.{Star, Plus, Maybe, AtLeast, Between}
+use Rattle.rawk_ere_code.specs.declared.node.Count.{Count}
+use Rattle.rawk_ere_code.specs.declared.node.Count.TheVariants.{Star, Plus, Maybe, AtLeast, Between}
 use Rattle.rawk_ere.specs.declared.token.Token.{Token}
 use Rattle.rawk_ere.specs.declared.token.Token.TheVariants as token
 use Rattle.rawk_ere.specs.declared.bracket.Class.{Class}
@@ -17,7 +17,7 @@ use Rattle.rawk_ere.specs.declared.interval.Brace.{Brace}
 use Rattle.rawk_ere.specs.declared.interval.Brace.TheVariants as brace
 use Rattle.rawk_ere.specs.declared.lead.Lead.{Lead}
 use Rattle.rawk_ere.specs.declared.lead.Lead.TheVariants as lead
-use Rattle.rawk_ere_walk.specs.ByteSets.{IsSetOf, IsInRanges}
+use Rattle.rawk_ere_code.specs.ByteSets.{IsSetOf, IsInRanges}
 
 abbrev pub is_digit : ℕ → Bool
 is_digit b = nat_le 48 b && nat_le b 57

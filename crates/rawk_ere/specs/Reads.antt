@@ -3,7 +3,7 @@ use Rattle.std.specs.Prelude.{◌≡◌, ℕ, List, []}
 use Rattle.rawk_ere.specs.declared.token.Token.{Token}
 use Rattle.rawk_ere.specs.declared.error.EreError.{EreError}
 use Rattle.rawk_ere.specs.declared.error.EreError.TheVariants as error
-use Rattle.rawk_ere_walk.specs.Tree.{Tree, IsWithinLimits}
+use Rattle.rawk_ere_code.specs.Tree.{Tree, IsWithinLimits}
 use Rattle.rawk_ere.specs.Grammar.{Alternatives, Derives}
 use Rattle.rawk_ere.specs.Pattern.{AreTokens}
 

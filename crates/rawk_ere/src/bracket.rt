@@ -2,14 +2,14 @@
 
 ghost use Rattle.std.specs.Prelude.{◌≡◌, ℕ, ◌+◌, ◌-◌, ◌<◌, ◌≤◌, ◌⊎◌, List, [], ◌∷◌, ◌++◌, length, drop, Some, None, MatchOption, codes, nat_eq, true, false, ◌&&◌};
 ghost use Rattle.std.specs.List.{starts_with};
-ghost use Rattle.rawk_ere_walk.specs.ByteSets.{HasAlso, IsInRanges};
+ghost use Rattle.rawk_ere_code.specs.ByteSets.{HasAlso, IsInRanges};
 ghost use Rattle.rawk_ere.specs.Pattern.{class_at, name_length, ranges_of, ranges_in, IsOrdered, begins, endpoint, begun_with, begun_by, hyphen, named, item_at, closes, Items, IsBracketed};
 ghost use Rattle.rawk_ere.specs.declared.token.Token.{Token};
 
 use crate::byte_set::{add_range, complement, empty};
 use crate::bytes::{is_at, unescape};
 use crate::token::Token;
-use rawk_ere_walk::byte_set::ByteSet;
+use rawk_ere_code::byte_set::ByteSet;
 
 /// A class of bytes that has a name.
 #[derive(Clone, Copy)]

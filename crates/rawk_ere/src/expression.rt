@@ -1,11 +1,11 @@
 //! Extended regular expressions, compiled.
 
 ghost use Rattle.std.specs.Prelude.{◌≡◌, ◌+◌, ◌-◌, ◌*◌, ◌<◌, ◌≤◌, length, ℕ, Some, IfOk, IfErr};
-ghost use Rattle.rawk_ere_walk.specs.Tree.{size_of, IsWithinLimits};
+ghost use Rattle.rawk_ere_code.specs.Tree.{size_of, IsWithinLimits};
 ghost use Rattle.rawk_ere.specs.Reads.{Reads, IsRefused};
-ghost use Rattle.rawk_ere_walk.specs.Code.{code_of};
-ghost use Rattle.rawk_ere_walk.specs.Ends.{IsLongest, IsMatch};
-ghost use Rattle.rawk_ere_walk.specs.Open.{IsOpenMatch, IsSettled, IsOpenFrom};
+ghost use Rattle.rawk_ere_code.specs.Code.{code_of};
+ghost use Rattle.rawk_ere_code.specs.Ends.{IsLongest, IsMatch};
+ghost use Rattle.rawk_ere_code.specs.Open.{IsOpenMatch, IsSettled, IsOpenFrom};
 ghost use Rattle.rawk_ere_walk.specs.Search.{IsBetween, AreBetween};
 
 use crate::error::EreError;
@@ -22,8 +22,8 @@ pub struct Ere {
 
 /// The tree of the expression.
 impl Model for Ere {
-    ghost use Rattle.rawk_ere_walk.specs.Tree.{Tree};
-    ghost use Rattle.rawk_ere_walk.specs.TreeCode.{tree_code};
+    ghost use Rattle.rawk_ere_code.specs.Tree.{Tree};
+    ghost use Rattle.rawk_ere_code.specs.TreeCode.{tree_code};
 
     ghost Value = { Tree };
 

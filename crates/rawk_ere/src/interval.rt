@@ -4,7 +4,7 @@ ghost use Rattle.std.specs.Prelude.{◌≡◌, ℕ, ◌+◌, ◌-◌, ◌<◌, �
 ghost use Rattle.rawk_ere.specs.Pattern.{IsBraceAt, IsBraceWithin, braced, after_comma, after_least, without_least, exactly, at_least, between, digits_from, begins, begins_digit};
 
 use crate::bytes::{digit_at, digits, is_at};
-use rawk_ere_walk::node::Count;
+use rawk_ere_code::node::Count;
 
 /// What a `{` begins.
 #[derive(Clone, Copy)]

@@ -1,12 +1,12 @@
 //! A part of an expression that is being read, with its measures.
 
 ghost use Rattle.std.specs.Prelude.{◌≡◌, ◌+◌, ◌*◌, ◌<◌, ◌≤◌, min, ◌⊎◌, IfOk, IfErr, [], ◌∷◌, List};
-ghost use Rattle.rawk_ere_walk.specs.Tree.{Empty, OneOf, Start, End, Join, Either, Group, Repeat, size_of, nesting_of, repeated_size};
-ghost use Rattle.rawk_ere_walk.specs.Node.{tree_of};
+ghost use Rattle.rawk_ere_code.specs.Tree.{Empty, OneOf, Start, End, Join, Either, Group, Repeat, size_of, nesting_of, repeated_size};
+ghost use Rattle.rawk_ere_code.specs.Node.{tree_of};
 
 use crate::error::EreError;
-use rawk_ere_walk::byte_set::ByteSet;
-use rawk_ere_walk::node::{Count, Node};
+use rawk_ere_code::byte_set::ByteSet;
+use rawk_ere_code::node::{Count, Node};
 use std::alloc::{AllocError, Global};
 use std::marker::Model;
 
@@ -20,16 +20,16 @@ pub struct Part {
 
 /// The tree of the part.
 impl Model for Part {
-    ghost use Rattle.rawk_ere_walk.specs.Tree.{Tree};
-    ghost use Rattle.rawk_ere_walk.specs.TreeCode.{tree_code};
+    ghost use Rattle.rawk_ere_code.specs.Tree.{Tree};
+    ghost use Rattle.rawk_ere_code.specs.TreeCode.{tree_code};
 
     ghost Value = { Tree };
 
     ghost coded = { tree_code };
 
     ghost use Rattle.std.specs.Prelude.{◌≡◌, ◌≤◌, min};
-    ghost use Rattle.rawk_ere_walk.specs.Tree.{size_of, nesting_of};
-    ghost use Rattle.rawk_ere_walk.specs.Node.{tree_of};
+    ghost use Rattle.rawk_ere_code.specs.Tree.{size_of, nesting_of};
+    ghost use Rattle.rawk_ere_code.specs.Node.{tree_of};
 
     ghost view = { λ p. tree_of p.node };
 

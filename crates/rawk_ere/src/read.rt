@@ -1,8 +1,8 @@
 //! From tokens to the tree.
 
 ghost use Rattle.std.specs.Prelude.{◌≡◌, ◌+◌, ◌<◌, ◌≤◌, ◌⊎◌, ◌↔◌, List, [], ◌∷◌, length, drop, reverse, IfOk, IfErr, IsTrue, Some, None, Option, true, false, nat_eq};
-ghost use Rattle.rawk_ere_walk.specs.Tree.{Tree, OneOf, nesting_of, IsWithinLimits};
-ghost use Rattle.rawk_ere_walk.specs.Node.{tree_of};
+ghost use Rattle.rawk_ere_code.specs.Tree.{Tree, OneOf, nesting_of, IsWithinLimits};
+ghost use Rattle.rawk_ere_code.specs.Node.{tree_of};
 ghost use Rattle.rawk_ere.specs.Reads.{Reads, IsRefused, IsReadOnce};
 ghost use Rattle.rawk_ere.specs.Reading.{fresh, pieces_with, branch_of, whole_of, with_atom, with_anchor, with_bar, with_count, step, run, is_formed, depth_of, IsStepRefused, IsTreeRefused};
 
@@ -10,7 +10,7 @@ use crate::error::EreError;
 use crate::part::Part;
 use crate::scan::scan;
 use crate::token::Token;
-use rawk_ere_walk::node::{Count, Node};
+use rawk_ere_code::node::{Count, Node};
 use std::alloc::{AllocError, Global};
 
 /// What has been read of a group: the branches before the last bar, the pieces after it that stand as they are, and the

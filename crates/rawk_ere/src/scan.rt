@@ -11,7 +11,7 @@ use crate::error::EreError;
 use crate::interval::{Brace, brace_at};
 use crate::lead::{Lead, led_by};
 use crate::token::Token;
-use rawk_ere_walk::node::Count;
+use rawk_ere_code::node::Count;
 use std::alloc::{AllocError, Global};
 
 // The byte itself.

@@ -1,7 +1,7 @@
 //! The tokens of a pattern.
 
-use rawk_ere_walk::byte_set::ByteSet;
-use rawk_ere_walk::node::Count;
+use rawk_ere_code::byte_set::ByteSet;
+use rawk_ere_code::node::Count;
 
 /// What a byte, an escape, a bracket expression or an operator of a pattern stands for.
 #[derive(Clone, Copy)]

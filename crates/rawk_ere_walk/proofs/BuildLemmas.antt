@@ -9,7 +9,7 @@ use Rattle.std.proofs.lemmas.Option.{slice_get_within}
 use Rattle.std.proofs.lemmas.List.{get_or_past}
 use Rattle.std.proofs.lemmas.Bool.{cases_eq, cases_lt}
 use Rattle.std.proofs.lemmas.List.{append-nil}
-use Rattle.rawk_ere_walk.specs.declared.code.Instruction.{Instruction}
+use Rattle.rawk_ere_code.specs.declared.code.Instruction.{Instruction}
 use Rattle.rawk_ere_walk.specs.Sets.{Closes, ReadsFrom}
 use Rattle.rawk_ere_walk.specs.Table.{members, Begins, LeadsBy, AreFilled, AreStarts, IsPlaced, Extends, AreAlike, AreMarkedAlike, IsTarget}
 
@@ -199,3 +199,6 @@ only_false (suc k) = refl
 
 pub marked_none : (code : List Instruction) (marks : List Bool) → marks ≡ false ∷ [] → AreMarkedAlike code marks
 marked_none code marks e k is = absurd (true≢false (sym is ∙ ap (λ l. get_or l k false) e ∙ only_false k))
+
+pub some_is : {T : Type 0} (P : T → Type 0) (x : T) → P x → ForSome (Some x) P
+some_is P x h = λ y is. let e : x ≡ y = cc in subst P e h

@@ -3,14 +3,14 @@ use Rattle.std.proofs.Common.{◌≡◌, ℕ, zero, suc, ◌+◌, ◌≤◌, Boo
 use Rattle.std.specs.Prelude.{IfOk}
 use Rattle.std.proofs.Common.{Result, Ok, Err}
 use Rattle.std.proofs.lemmas.Option.{slice_get_within}
-use Rattle.rawk_ere_walk.specs.declared.code.Instruction.{Instruction}
-use Rattle.rawk_ere_walk.specs.Tree.{Tree}
-use Rattle.rawk_ere_walk.specs.Ends.{Ends, IsLongest, IsMatch}
-use Rattle.rawk_ere_walk.specs.Open.{IsOpenMatch, IsSettled, MayBegin, IsOpenFrom}
+use Rattle.rawk_ere_code.specs.declared.code.Instruction.{Instruction}
+use Rattle.rawk_ere_code.specs.Tree.{Tree}
+use Rattle.rawk_ere_code.specs.Ends.{Ends, IsLongest, IsMatch}
+use Rattle.rawk_ere_code.specs.Open.{IsOpenMatch, IsSettled, MayBegin, IsOpenFrom}
 use Rattle.rawk_ere_walk.specs.Search.{IsFirst, IsFirstOpen, MayStart, IsOpenStart}
 use Rattle.rawk_ere_walk.proofs.OpenLemmas.{settled, none_before}
 use Rattle.rawk_ere_walk.proofs.NeedPaths.{wants_is}
-use Rattle.rawk_ere_walk.specs.Code.{code_of, Path}
+use Rattle.rawk_ere_code.specs.Code.{code_of, Path}
 use Rattle.rawk_ere_walk.specs.Sets.{IsFarthest}
 use Rattle.rawk_ere_walk.proofs.Paths.{has_all, completes, sounds}
 

@@ -1,12 +1,11 @@
-pub mod Repeated
 pub mod Paths
 pub mod SetLemmas
 pub mod WalkLemmas
 pub mod EreLemmas
 pub mod SizeLemmas
-pub mod CodeLemmas
 pub mod OpenLemmas
 pub mod NeedPaths
 pub mod SearchLemmas
 pub mod TableLemmas
 pub mod BuildLemmas
+pub mod WideLemmas

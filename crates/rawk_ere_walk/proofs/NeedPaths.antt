@@ -3,15 +3,15 @@ use Rattle.std.proofs.Common.{◌≡◌, ℕ, zero, suc, ◌+◌, ◌-◌, ◌<�
 use Rattle.std.specs.Prelude.{slice_get, ◌↔◌}
 use Rattle.std.proofs.lemmas.Option.{slice_get_within}
 use Rattle.std.proofs.lemmas.Bool.{cases_lt}
-use Rattle.rawk_ere_walk.specs.declared.node.Count.{Count}
-use Rattle.rawk_ere_walk.specs.declared.node.Count.TheVariants.{Star, Plus, Maybe, AtLeast, Between}
-use Rattle.rawk_ere_walk.specs.Tree.{Tree}
-use Rattle.rawk_ere_walk.specs.Tree as tree
-use Rattle.rawk_ere_walk.specs.declared.code.Instruction.{Instruction}
-use Rattle.rawk_ere_walk.specs.declared.code.Instruction.TheVariants.{Bytes, Start, End, Split, Go, Back, Fork}
-use Rattle.rawk_ere_walk.specs.Ends.{Allows, Times, IsLast, Ends}
-use Rattle.rawk_ere_walk.specs.Open.{AllowsMore, Needs}
-use Rattle.rawk_ere_walk.specs.Code.{star_code, plus_code, maybe_code, times_code, maybes_code, count_code, either_code, code_of, Hops, Path}
+use Rattle.rawk_ere_code.specs.declared.node.Count.{Count}
+use Rattle.rawk_ere_code.specs.declared.node.Count.TheVariants.{Star, Plus, Maybe, AtLeast, Between}
+use Rattle.rawk_ere_code.specs.Tree.{Tree}
+use Rattle.rawk_ere_code.specs.Tree as tree
+use Rattle.rawk_ere_code.specs.declared.code.Instruction.{Instruction}
+use Rattle.rawk_ere_code.specs.declared.code.Instruction.TheVariants.{Bytes, Start, End, Split, Go, Back, Fork}
+use Rattle.rawk_ere_code.specs.Ends.{Allows, Times, IsLast, Ends}
+use Rattle.rawk_ere_code.specs.Open.{AllowsMore, Needs}
+use Rattle.rawk_ere_code.specs.Code.{star_code, plus_code, maybe_code, times_code, maybes_code, count_code, either_code, code_of, Hops, Path}
 use Rattle.rawk_ere_walk.specs.Sets.{Asks, AsksAt, WantsFrom}
 use Rattle.rawk_ere_walk.proofs.Paths.{HasAt, has_front, has_back, has_all, Leads, Does, known_step, hop, Completes, completes, split_times, join_times, times_go, After, ends_in}
 

@@ -4,11 +4,11 @@ use Rattle.std.specs.Prelude.{slice_get}
 use Rattle.std.proofs.Math.ListN.{get_or-append}
 use Rattle.std.proofs.lemmas.Bool.{cases_lt}
 use Rattle.std.proofs.lemmas.Option.{slice_get_within, slice_get-get_or, get_or_from_slice_get}
-use Rattle.rawk_ere_walk.specs.declared.node.Count.{Count}
-use Rattle.rawk_ere_walk.specs.declared.node.Count.TheVariants.{Star, Plus, Maybe, AtLeast, Between}
-use Rattle.rawk_ere_walk.specs.Tree.{Tree, Empty, OneOf, Start, End, Join, Either, Group, Repeat}
-use Rattle.rawk_ere_walk.specs.Ends.{Allows, Times, Ends}
-use Rattle.rawk_ere_walk.specs.Open.{AllowsMore, Needs, IsOpenMatch, IsSettled, MayBegin}
+use Rattle.rawk_ere_code.specs.declared.node.Count.{Count}
+use Rattle.rawk_ere_code.specs.declared.node.Count.TheVariants.{Star, Plus, Maybe, AtLeast, Between}
+use Rattle.rawk_ere_code.specs.Tree.{Tree, Empty, OneOf, Start, End, Join, Either, Group, Repeat}
+use Rattle.rawk_ere_code.specs.Ends.{Allows, Times, Ends}
+use Rattle.rawk_ere_code.specs.Open.{AllowsMore, Needs, IsOpenMatch, IsSettled, MayBegin}
 
 allows_more : (count : Count) (k m : ℕ) → k < m → Allows count m → AllowsMore count k
 allows_more Star k m lt a = tt

@@ -3,10 +3,10 @@ use Rattle.std.proofs.Common.{◌≡◌, ℕ, zero, suc, ◌+◌, ◌<◌, ◌�
 use Rattle.std.specs.Prelude.{IsTrue, ◌↔◌}
 use Rattle.std.proofs.lemmas.Bool.{cases_eq, cases_lt}
 use Rattle.std.proofs.lemmas.Option.{slice_get_within}
-use Rattle.rawk_ere_walk.specs.declared.code.Instruction.{Instruction}
-use Rattle.rawk_ere_walk.specs.Code.{Path}
+use Rattle.rawk_ere_code.specs.declared.code.Instruction.{Instruction}
+use Rattle.rawk_ere_code.specs.Code.{Path}
 use Rattle.rawk_ere_walk.specs.Sets.{IsFarthest, WantsFrom}
-use Rattle.rawk_ere_walk.specs.Search.{IsBetween, AreBetween, Way, IsFirst, IsFirstOpen, MayStart, IsOpenStart}
+use Rattle.rawk_ere_walk.specs.Search.{IsBetween, AreBetween, Way, BeginsIn, BeginsNone, EndsFrom, IsFirstBegin, IsFirst, IsFound, IsFirstOpen, MayStart, IsOpenStart}
 use Rattle.rawk_ere_walk.proofs.WalkLemmas.{path_up, path_within}
 
 module _ (code : List Instruction) (s : List ℕ) where
@@ -22,23 +22,85 @@ module _ (code : List Instruction) (s : List ℕ) where
     | inr h ↦ slice_get_within s i h.0 h.1
   ]
 
-  -- no way begins before here
-  abbrev pub NoneBefore : ℕ → ℕ → Type 0
-  NoneBefore p here = (i j : ℕ) → p ≤ i → i < here → Way code s true i j → ⊥
-
-  pub none_more : (p here : ℕ) (o : Option ℕ) → o ≡ None → NoneBefore p here → IsFarthest code true s here o → NoneBefore p (here + 1)
+  pub none_more : (p here : ℕ) (o : Option ℕ) → o ≡ None → BeginsNone code s p here → IsFarthest code true s here o → BeginsNone code s p (here + 1)
   none_more p here o e n f = λ i j le lt w. elim (cases_eq i here) [
     | inl is ↦ (let g = subst (λ x. IsFarthest code true s here x) e f in g j w.0 (subst (λ x. Path code true s w.0 0 x (length code) j) is w.1))
     | inr other ↦ (let o : i ≡ here → ⊥ = other in n i j le (omega (arith, o)) w)
   ]
 
-  pub first_none : (p here : ℕ) → length s < here → NoneBefore p here → IsFirst code s p None
+  pub first_none : (p here : ℕ) → length s < here → BeginsNone code s p here → IsFirst code s p None
   first_none p here lt n = λ i j le end w. n i j le (omega arith) w
 
-  pub first_here : (p here j : ℕ) (o : Option ℕ) → o ≡ Some j → p ≤ here → NoneBefore p here → IsFarthest code true s here o → IsFirst code s p (Some (here, j))
+  pub first_here : (p here j : ℕ) (o : Option ℕ) → o ≡ Some j → p ≤ here → BeginsNone code s p here → IsFarthest code true s here o → IsFirst code s p (Some (here, j))
   first_here p here j o e le n f =
       let g = subst (λ x. IsFarthest code true s here x) e f in
       (le, g.0, λ i k from w. elim (cases_lt i here) [ inl lt ↦ absurd (n i k from lt w) | inr ge ↦ ge ], λ k w. g.1 k w.0 w.1)
+
+  -- half of the places are left
+  pub half_ends : (low upto end middle : ℕ) (r : Option ℕ) (j : ℕ) → r ≡ Some j → EndsFrom code s low middle r → BeginsIn code s low middle
+  half_ends low upto end middle r j e f = let g = subst (EndsFrom code s low middle) e f in (g.0, j, g.1, g.2, g.3)
+
+  pub half_none : (p low high middle : ℕ) (r : Option ℕ) → r ≡ None → EndsFrom code s low middle r → BeginsNone code s p low → BeginsNone code s p (middle + 1)
+  half_none p low high middle r e f n = λ i j le lt w. elim (cases_lt i low) [
+    | inl before ↦ n i j le before w
+    | inr ge ↦ (let g = subst (EndsFrom code s low middle) e f in g (i, j, ge, omega arith, w))
+  ]
+
+  pub half_left : (low high middle : ℕ) (r : Option ℕ) → r ≡ None → EndsFrom code s low middle r → BeginsIn code s low high → BeginsIn code s (middle + 1) high
+  half_left low high middle r e f b = elim (cases_lt middle b.0) [
+    | inl after ↦ (b.0, b.1, omega arith, b.3, b.4)
+    | inr upto ↦ (let g = subst (EndsFrom code s low middle) e f in absurd (g (b.0, b.1, b.2, upto, b.4)))
+  ]
+
+  pub half_done : (p low high : ℕ) → p ≤ low → high ≤ low → BeginsNone code s p low → BeginsIn code s low high → IsFirstBegin code s p low
+  half_done p low high le done n b =
+      let is : b.0 ≡ low = (let l = b.2 in let h = b.3 in omega (arith, l, h)) in
+      record { low = le; here = (b.1, subst (λ x. Way code s true x b.1) is b.4); before = n }
+
+  -- the longest way from a place before which none begins
+  pub found_here : (p here j : ℕ) (o : Option ℕ) → o ≡ Some j → p ≤ here → here ≤ length s → BeginsNone code s p here → IsFarthest code true s here o → IsFound code s p (Some (here, j))
+  found_here p here j o e le end n f =
+      let g = subst (IsBetween here (length s)) e (way_between true here o end f) in (first_here p here j o e le n f, (le, g.0, g.1))
+
+  -- the longest way from where the first one begins
+  pub first_longest : (p b : ℕ) (o : Option ℕ) (r : Option (ℕ × ℕ)) → b ≤ length s → IsFirstBegin code s p b → IsFarthest code true s b o → ((j : ℕ) → o ≡ Some j → r ≡ Some (b, j)) → IsFound code s p r
+  first_longest p b None r end is f sp = absurd (f is.here.0 is.here.1.0 is.here.1.1)
+  first_longest p b (Some l) r end is f sp = subst (IsFound code s p) (sym (sp l refl)) (found_here p b l (Some l) refl is.low end is.before f)
+
+  -- what is found further on, where none begins before
+  pub found_from : (p q : ℕ) (r : Option (ℕ × ℕ)) → p ≤ q → BeginsNone code s p q → IsFound code s q r → IsFound code s p r
+  found_from p q None le n f = (λ i j from end w. elim (cases_lt i q) [ inl lt ↦ n i j from lt w | inr ge ↦ f.0 i j ge end w ], tt)
+  found_from p q (Some m) le n f = (
+    (omega (arith, f.1.0), f.0.1, λ i j from w. elim (cases_lt i q) [ inl lt ↦ absurd (n i j from lt w) | inr ge ↦ f.0.2 i j ge w ], f.0.3),
+    (omega (arith, f.1.0), f.1.1, f.1.2),
+  )
+
+  pub none_join : (p q r : ℕ) → BeginsNone code s p q → BeginsNone code s q r → BeginsNone code s p r
+  none_join p q r a b = λ i j from lt w. elim (cases_lt i q) [ inl before ↦ a i j from before w | inr ge ↦ b i j ge lt w ]
+
+  -- what is known at the end of the text
+  pub found_none : (p : ℕ) (o : Option ℕ) → o ≡ None → BeginsNone code s p (length s) → IsFarthest code true s (length s) o → IsFound code s p None
+  found_none p o e n f = (first_none p (length s + 1) (omega arith) (none_more p (length s) o e n f), tt)
+
+  -- a way that begins by some place begins after those where none does
+  pub begins_left : (p at upto end : ℕ) (r : Option ℕ) → r ≡ Some end → upto ≤ length s → EndsFrom code s p upto r → BeginsNone code s p at → (at ≤ end) × (end ≤ length s) × BeginsIn code s at end
+  begins_left p at upto end r e le f n =
+      let g = subst (EndsFrom code s p upto) e f in
+      let up = path_up code true s g.3.0 0 g.0 (length code) end g.3.1 in
+      let down = path_within code true s g.3.0 0 g.0 (length code) end (omega (arith, g.2)) g.3.1 in
+      let past : at ≤ g.0 = elim (cases_lt g.0 at) [ inl lt ↦ absurd (n g.0 end g.1 lt g.3) | inr ge ↦ ge ] in
+      (omega (arith, past), down, (g.0, end, past, up, g.3))
+
+  -- an end tells of a begin
+  pub begins_of : (p upto end : ℕ) (r : Option ℕ) → r ≡ Some end → upto ≤ length s → EndsFrom code s p upto r → (p ≤ end) × (end ≤ length s) × BeginsIn code s p end
+  begins_of p upto end r e le f =
+      let g = subst (EndsFrom code s p upto) e f in
+      let up = path_up code true s g.3.0 0 g.0 (length code) end g.3.1 in
+      let down = path_within code true s g.3.0 0 g.0 (length code) end (omega (arith, g.2)) g.3.1 in
+      (omega (arith, g.1), down, (g.0, end, g.1, up, g.3))
+
+  pub none_first : (p : ℕ) (r : Option ℕ) → r ≡ None → EndsFrom code s p (length s) r → IsFound code s p None
+  none_first p r e f = let g = subst (EndsFrom code s p (length s)) e f in (λ i j le end w. g (i, j, le, end, w), tt)
 
   pub first_between : (p here j : ℕ) (o : Option ℕ) → o ≡ Some j → p ≤ here → IsBetween here (length s) o → AreBetween p (length s) (Some (here, j))
   first_between p here j o e le b = let g = subst (IsBetween here (length s)) e b in (le, g.0, g.1)

@@ -1,13 +1,13 @@
 -- The code is at most twice as long as the tree is large.
 use Rattle.std.proofs.Common.{◌≡◌, ℕ, zero, suc, ◌+◌, ◌*◌, ◌≤◌, List, [], ◌∷◌, length, arith, length-append}
 use Rattle.std.proofs.Math.Nat.{mul-le-mul_left}
-use Rattle.rawk_ere_walk.specs.declared.node.Count.{Count}
-use Rattle.rawk_ere_walk.specs.declared.node.Count.TheVariants.{Star, Plus, Maybe, AtLeast, Between}
-use Rattle.rawk_ere_walk.specs.Tree.{Tree, repeated_size, size_of}
-use Rattle.rawk_ere_walk.specs.Tree as tree
-use Rattle.rawk_ere_walk.specs.declared.code.Instruction.{Instruction}
-use Rattle.rawk_ere_walk.specs.declared.code.Instruction.TheVariants.{Go, Back, Fork}
-use Rattle.rawk_ere_walk.specs.Code.{plus_code, maybe_code, times_code, maybes_code, count_code, code_of}
+use Rattle.rawk_ere_code.specs.declared.node.Count.{Count}
+use Rattle.rawk_ere_code.specs.declared.node.Count.TheVariants.{Star, Plus, Maybe, AtLeast, Between}
+use Rattle.rawk_ere_code.specs.Tree.{Tree, repeated_size, size_of}
+use Rattle.rawk_ere_code.specs.Tree as tree
+use Rattle.rawk_ere_code.specs.declared.code.Instruction.{Instruction}
+use Rattle.rawk_ere_code.specs.declared.code.Instruction.TheVariants.{Go, Back, Fork}
+use Rattle.rawk_ere_code.specs.Code.{plus_code, maybe_code, times_code, maybes_code, count_code, code_of}
 
 length-times : (m : ℕ) (part : List Instruction) → length (times_code m part) ≡ m * length part
 length-times zero part = omega arith

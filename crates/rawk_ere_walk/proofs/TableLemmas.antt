@@ -1,13 +1,18 @@
 -- A walk by the table is a walk of state sets.
-use Rattle.std.proofs.Common.{◌≡◌, ℕ, zero, suc, ◌+◌, ◌*◌, ◌/◌, ◌%◌, ◌<◌, ◌≤◌, ◌⊎◌, inl, inr, Bool, true, false, List, [], length, get_or, Option, Some, None, refl, sym, ap, ◌∙◌, subst, arith, true≢false}
-use Rattle.std.specs.Prelude.{◌↔◌, IsTrue, Contains, slice_index, slice_index_or}
+use Rattle.std.proofs.Common.{◌≡◌, ℕ, zero, suc, ◌+◌, ◌-◌, ◌*◌, ◌/◌, ◌%◌, ◌<◌, ◌≤◌, ◌⊎◌, inl, inr, Bool, true, false, List, [], length, drop, get_or, Option, Some, None, refl, sym, ◌∙◌, subst, arith, true≢false, ap}
+use Rattle.std.specs.Prelude.{◌↔◌, IsTrue, Contains, slice_index}
 use Rattle.std.proofs.lemmas.Option.{slice_get_within}
+use Rattle.std.proofs.lemmas.Bool.{cases_eq, cases_lt}
+use Rattle.std.proofs.lemmas.List.{get_or-drop}
 use Rattle.std.proofs.lemmas.List.Elements.{Contains-append_cases}
-use Rattle.rawk_ere_walk.specs.declared.code.Instruction.{Instruction}
-use Rattle.rawk_ere_walk.specs.Ends.{IsLast}
-use Rattle.rawk_ere_walk.specs.Code.{Hops, Step, Path}
+use Rattle.rawk_ere_code.specs.declared.code.Instruction.{Instruction}
+use Rattle.rawk_ere_code.specs.Ends.{IsLast}
+use Rattle.rawk_ere_code.specs.Code.{Hops, Step, Path, wide_code}
 use Rattle.rawk_ere_walk.specs.Sets.{Adds, Closes, AreReached, IsFarthestBefore, IsFarthest}
-use Rattle.rawk_ere_walk.specs.Table.{members, Begins, LeadsBy, EndsLast, AreFilled, AreStarts}
+use Rattle.rawk_ere_walk.specs.Search.{EndsFrom, Widens, BeginsNone}
+use Rattle.rawk_ere_walk.specs.Begins.{begins_with}
+use Rattle.rawk_ere_walk.specs.declared.table.Table.{Table}
+use Rattle.rawk_ere_walk.specs.Table.{members, Begins, LeadsBy, EndsLast, AreFilled, AreStarts, IsTable}
 use Rattle.rawk_ere_walk.proofs.SetLemmas.{Contains-none}
 use Rattle.rawk_ere_walk.proofs.WalkLemmas.{hops_where, closes_where, path_of_hops, path_more, path_last, path_join, path_up, step_up, reached_first, reached_more, none_before, noted_is, farthest_stop, farthest_end}
 
@@ -55,9 +60,9 @@ module _ (code : List Instruction) (s : List ℕ) where
     all = λ q n le p. r.all q n le (close_path n 0 i q at lt p);
   }
 
-  last_all : (i at : ℕ) (set copy new : List ℕ) → i < at → at ≡ length s → AreReached code false s i at set → Adds (length code + 1) [] copy (Contains set)
+  last_all : (i at : ℕ) (set copy new : List ℕ) → i ≤ at → at ≡ length s → AreReached code false s i at set → Adds (length code + 1) [] copy (Contains set)
       → Closes (length code + 1) code (at ≡ 0) (IsLast true s at) copy new → (q n : ℕ) → q ≤ length code → Path code true s n 0 i q at → Contains new q
-  last_all i at set copy new lt e r a c q zero le p = absurd (omega (arith, p.1))
+  last_all i at set copy new lt e r a c q zero le p = c.keeps q (a.has q (r.all q zero le p) (omega arith))
   last_all i at set copy new lt e r a c q (suc n) le p =
       let t = path_last code true s n 0 i q at p in
       let lr = slice_get_within code t.0 t.3.0 t.3.1 in
@@ -73,7 +78,7 @@ module _ (code : List Instruction) (s : List ℕ) where
       ]
 
   -- at the end of the text
-  pub reached_last : (i at : ℕ) (set copy new : List ℕ) → i < at → at ≡ length s → AreReached code false s i at set → Adds (length code + 1) [] copy (Contains set)
+  pub reached_last : (i at : ℕ) (set copy new : List ℕ) → i ≤ at → at ≡ length s → AreReached code false s i at set → Adds (length code + 1) [] copy (Contains set)
       → Closes (length code + 1) code (at ≡ 0) (IsLast true s at) copy new → AreReached code true s i at new
   reached_last i at set copy new lt e r a c = record {
     sound = λ q h.
@@ -102,9 +107,9 @@ module _ (code : List Instruction) (s : List ℕ) where
       (closes_where (length code + 1) code (IsTrue false) (at + 1 ≡ 0) (IsTrue false) (IsLast false s (at + 1)) l.mid new
       (λ h. absurd (not_true h), λ h. absurd (omega (arith, h))) (open_last (at + 1)) l.closes)
 
-  pub ends_reached : (i at : ℕ) (set : List ℕ) (ends : Bool) (l : EndsLast code set ends) → i < at → at ≡ length s → AreReached code false s i at set → AreReached code true s i at l.new
-  ends_reached i at set ends l lt e r =
-      reached_last i at set l.copy l.new lt e r l.copies
+  pub ends_reached : (i at : ℕ) (set : List ℕ) (ends : Bool) (l : EndsLast code set ends) → i ≤ at → 0 < at → at ≡ length s → AreReached code false s i at set → AreReached code true s i at l.new
+  ends_reached i at set ends l le pos e r =
+      reached_last i at set l.copy l.new le e r l.copies
       (closes_where (length code + 1) code (IsTrue false) (at ≡ 0) (IsTrue true) (IsLast true s at) l.copy l.new
       (λ h. absurd (not_true h), λ h. absurd (omega (arith, h))) (λ h. (h, e), λ h. h.0) l.closes)
 
@@ -114,10 +119,10 @@ module _ (code : List Instruction) (s : List ℕ) where
     pub reached : AreReached code false s i at (members sets row)
     pub before : IsFarthestBefore code true s i at longest
 
-  pub running_end : (sets : List (ℕ × List ℕ)) (i at row : ℕ) (longest result : Option ℕ) (ends : Bool) → EndsLast code (members sets row) ends → i < at → at ≡ length s → Running sets i at row longest
+  pub running_end : (sets : List (ℕ × List ℕ)) (i at row : ℕ) (longest result : Option ℕ) (ends : Bool) → EndsLast code (members sets row) ends → i ≤ at → 0 < at → at ≡ length s → Running sets i at row longest
       → (IsTrue ends × (result ≡ Some at)) ⊎ ((IsTrue ends → ⊥) × (result ≡ longest)) → IsFarthest code true s i result
-  running_end sets i at row longest result ends l lt e r c =
-      let reached = ends_reached i at (members sets row) ends l lt e r.reached in
+  running_end sets i at row longest result ends l le pos e r c =
+      let reached = ends_reached i at (members sets row) ends l le pos e r.reached in
       let noted = noted_is code true s i at l.new longest result reached (elim c [ inl h ↦ inl (l.is.0 h.0, h.1) | inr h ↦ inr (λ x. h.0 (l.is.1 x), h.1) ]) r.before in
       farthest_end code true s i (at + 1) result (omega arith) (omega arith) noted
 
@@ -133,22 +138,80 @@ module _ (code : List Instruction) (s : List ℕ) where
     before = none_before code true s i;
   }
 
-  pub running_stop : (sets : List (ℕ × List ℕ)) (i at row : ℕ) (set : ℕ × List ℕ) (longest : Option ℕ) → i ≤ at → at < length s → set ≡ slice_index_or sets row (0, []) → length set.1 ≡ 0 → Running sets i at row longest → IsFarthest code true s i longest
-  running_stop sets i at row set longest le lt e z r =
-      farthest_stop code true s i at (members sets row) longest le (sym (ap (λ (p : ℕ × List ℕ). length p.1) e) ∙ z) (reached_within i at (members sets row) lt r.reached) r.before
+  pub running_stop : (sets : List (ℕ × List ℕ)) (i at row : ℕ) (longest : Option ℕ) → i ≤ at → at < length s → length (members sets row) ≡ 0 → Running sets i at row longest → IsFarthest code true s i longest
+  running_stop sets i at row longest le lt z r = farthest_stop code true s i at (members sets row) longest le z (reached_within i at (members sets row) lt r.reached) r.before
 
-  pub running_next : (sets : List (ℕ × List ℕ)) (next : List ℕ) (i at row b row' : ℕ) (set : ℕ × List ℕ) (longest result : Option ℕ) → AreFilled code sets next → length next ≡ 256 * length sets
-      → i ≤ at → at < length s → b ≡ get_or s at 0 → b < 256 → row' ≡ get_or next (row * 256 + b) 0 → set ≡ slice_index_or sets row (0, [])
-      → (Contains set.1 (length code) × (result ≡ Some at)) ⊎ ((Contains set.1 (length code) → ⊥) × (result ≡ longest)) → Running sets i at row longest → Running sets i (at + 1) row' result
-  running_next sets next i at row b row' set longest result f all le lt eb lb e is c r =
+  pub running_next : (sets : List (ℕ × List ℕ)) (next : List ℕ) (i at row b row' : ℕ) (longest result : Option ℕ) (ends : Bool) → AreFilled code sets next → length next ≡ 256 * length sets
+      → i ≤ at → at < length s → b ≡ get_or s at 0 → b < 256 → row' ≡ get_or next (row * 256 + b) 0 → IsTrue ends ↔ Contains (members sets row) (length code)
+      → (IsTrue ends × (result ≡ Some at)) ⊎ ((IsTrue ends → ⊥) × (result ≡ longest)) → Running sets i at row longest → Running sets i (at + 1) row' result
+  running_next sets next i at row b row' longest result ends f all le lt eb lb e is c r =
       let k = row * 256 + b in
       let lk : k < length next = omega (arith, r.within, all) in
       let d : k / 256 ≡ row = omega arith in
       let m : k % 256 ≡ b = omega arith in
       let there = subst (λ x. LeadsBy code b (members sets row) (members sets x)) (sym e) (subst (λ x. LeadsBy code x (members sets row) (members sets (slice_index next k))) m (subst (λ x. LeadsBy code (k % 256) (members sets x) (members sets (slice_index next k))) d (f.leads k lk))) in
-      let here = subst (λ (p : ℕ × List ℕ). (Contains p.1 (length code) × (result ≡ Some at)) ⊎ ((Contains p.1 (length code) → ⊥) × (result ≡ longest))) is c in
+      let here = elim c as (λ _. (Contains (members sets row) (length code) × (result ≡ Some at)) ⊎ ((Contains (members sets row) (length code) → ⊥) × (result ≡ longest))) [
+        | inl h ↦ inl (is.0 h.0, h.1)
+        | inr h ↦ inr (λ x. h.0 (is.1 x), h.1)
+      ] in
       record {
         within = omega (arith, f.target k lk, e);
         reached = leads_reached i at b (members sets row) (members sets row') le lt eb r.reached there;
         before = noted_is code true s i at (members sets row) longest result (reached_within i at (members sets row) lt r.reached) here r.before;
       }
+
+  -- an end at the row is one of a way
+  pub running_way : (sets : List (ℕ × List ℕ)) (i at row : ℕ) (longest : Option ℕ) → at < length s → Contains (members sets row) (length code) → Running sets i at row longest → (n : ℕ) × Path code true s n 0 i (length code) at
+  running_way sets i at row longest lt h r = (reached_within i at (members sets row) lt r.reached).sound (length code) h
+
+  pub running_way_last : (sets : List (ℕ × List ℕ)) (i at row : ℕ) (longest : Option ℕ) (ends : Bool) (l : EndsLast code (members sets row) ends) → i ≤ at → 0 < at → at ≡ length s → IsTrue ends → Running sets i at row longest
+      → (n : ℕ) × Path code true s n 0 i (length code) at
+  running_way_last sets i at row longest ends l le pos e h r = (ends_reached i at (members sets row) ends l le pos e r.reached).sound (length code) (l.is.0 h)
+
+  -- where nothing is left, nothing ends
+  none_last : (set : List ℕ) (ends : Bool) → length set ≡ 0 → EndsLast code set ends → IsTrue ends → ⊥
+  none_last set ends z l h =
+      let o = l.closes.only (length code) (l.is.0 h) in
+      elim (Contains-append_cases [] l.copies.more o.0 (subst (λ l. Contains l o.0) l.copies.is o.1)) as (λ _. ⊥) [
+        | inl u ↦ Contains-none o.0 u
+        | inr v ↦ (let x = l.copies.only o.0 v in omega (arith, x.1))
+      ]
+
+  -- no way begins with the byte at the place
+  pub begins_not : (t : Table) (is : IsTable code t) (at b : ℕ) → 0 < at → at < length s → b ≡ get_or s at 0 → b < 256 → get_or t.ends.items t.later false ≡ false → get_or t.next.items (t.later * 256 + b) 0 ≡ t.dead
+      → (j : ℕ) → (n : ℕ) × Path code true s n 0 at (length code) j → ⊥
+  begins_not t is at b pos lt eb lb ne nd j w =
+      let r0 = running_start is.sets t.start t.later at t.later is.starts (inr (λ z. omega (arith, z), refl)) in
+      let r1 = running_next is.sets t.next.items at at t.later b t.dead None None (get_or t.ends.items t.later false) is.filled is.all (omega arith) lt eb lb (sym nd) (is.ends_are t.later r0.within) (inr (λ x. true≢false (sym x ∙ ne), refl)) r0 in
+      let z = is.none r1.within in
+      let f : IsFarthest code true s at None = elim (cases_lt (at + 1) (length s)) [
+        | inl more ↦ running_stop is.sets at (at + 1) t.dead None (omega arith) more z r1
+        | inr last ↦
+            running_end is.sets at (at + 1) t.dead None None (get_or t.last_ends.items t.dead false) (is.last t.dead r1.within) (omega arith) (omega arith) (omega arith) r1 (inr (none_last (members is.sets t.dead) (get_or t.last_ends.items t.dead false) z (is.last t.dead r1.within), refl))
+      ] in
+      f j w.0 w.1
+
+  -- nor with those that are passed over
+  pub begins_none_seek : (t : Table) (is : IsTable code t) (from n : ℕ) (rest : List ℕ) → 0 < from → from + n ≤ length s → rest ≡ drop from s → ((k : ℕ) → get_or s k 0 < 256) → ((k : ℕ) → k < n → begins_with t.begins (get_or rest k 0) ≡ false)
+      → BeginsNone code s from (from + n)
+  begins_none_seek t is from n rest pos le er fits h = λ i j low lt w.
+      let e : from + (i - from) ≡ i = omega arith in
+      let b = get_or s i 0 in
+      let byte : get_or rest (i - from) 0 ≡ b = ap (λ l. get_or l (i - from) 0) er ∙ get_or-drop from s (i - from) 0 ∙ ap (λ x. get_or s x 0) e in
+      let not : begins_with t.begins b ≡ false = subst (λ x. begins_with t.begins x ≡ false) byte (h (i - from) (omega arith)) in
+      let known = is.begin_with b (fits i) not in
+      begins_not t is i b (omega arith) (omega arith) refl (fits i) known.0 known.1 j w
+
+  pub begins_none_more : (p at : ℕ) → BeginsNone code s p at → ((j : ℕ) → (n : ℕ) × Path code true s n 0 at (length code) j → ⊥) → BeginsNone code s p (at + 1)
+  begins_none_more p at n h = λ i j from lt w. elim (cases_eq i at) [
+    | inl is ↦ h j (w.0, subst (λ x. Path code true s w.0 0 x (length code) j) is w.1)
+    | inr other ↦ (let o : i ≡ at → ⊥ = other in n i j from (omega (arith, o)) w)
+  ]
+
+-- ways of the wide code
+module _ (code : List Instruction) (s : List ℕ) (w : Widens code s) where
+  pub wide_found : (p j : ℕ) → p ≤ length s → (n : ℕ) × Path (wide_code code) true s n 0 p (length (wide_code code)) j → EndsFrom code s p (length s) (Some j)
+  wide_found p j le h = w.narrow p j h.0 le h.1
+
+  pub wide_none : (p : ℕ) → IsFarthest (wide_code code) true s p None → EndsFrom code s p (length s) None
+  wide_none p f = λ b. let h = w.wide p b.0 b.1 b.2 b.3 b.4 in f b.1 h.0 h.1

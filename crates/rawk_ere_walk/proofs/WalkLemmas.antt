@@ -6,11 +6,12 @@ use Rattle.std.proofs.lemmas.Bool.{cases_eq, cases_lt}
 use Rattle.std.proofs.lemmas.List.{get_or_default}
 use Rattle.std.proofs.lemmas.List.Elements.{Contains-get_or, Contains-append_left, Contains-append_cases}
 use Rattle.std.proofs.lemmas.Option.{slice_get_within, get_or_from_slice_get, slice_get-get_or}
-use Rattle.rawk_ere_walk.specs.declared.code.Instruction.{Instruction}
-use Rattle.rawk_ere_walk.specs.declared.code.Instruction.TheVariants.{Bytes, Start, End, Split, Go, Back, Fork}
-use Rattle.rawk_ere_walk.specs.Ends.{IsLast}
-use Rattle.rawk_ere_walk.specs.Code.{Hops, Reads, Step, Path}
+use Rattle.rawk_ere_code.specs.declared.code.Instruction.{Instruction}
+use Rattle.rawk_ere_code.specs.declared.code.Instruction.TheVariants.{Bytes, Start, End, Split, Go, Back, Fork}
+use Rattle.rawk_ere_code.specs.Ends.{IsLast}
+use Rattle.rawk_ere_code.specs.Code.{Hops, Reads, Step, Path}
 use Rattle.rawk_ere_walk.specs.Sets.{Adds, HopsFrom, HopsBy, ReadsFrom, Closes, AdvancesBy, AreReached, IsFarthestBefore, IsFarthest, AsksAt, AsksIn, WantsFrom, HasReached}
+use Rattle.rawk_ere_walk.specs.Search.{EndsFrom}
 use Rattle.rawk_ere_walk.proofs.SetLemmas.{Contains-none}
 
 pub get_or_of : (s : List ℕ) (k b : ℕ) → slice_get s k ≡ Some b → get_or s k 0 ≡ b
@@ -300,36 +301,70 @@ asks_none code states index le n = (
 )
 
 module _ (code : List Instruction) (s : List ℕ) where
-  pub all_start : (i : ℕ) (states : List ℕ) → AreReached code true s i i states → HasReached code s i i states
-  all_start i states r = record { has = λ k q n le upto lq p. let e : k ≡ i = omega arith in r.all q n lq (subst (λ x. Path code true s n 0 x q i) e p) }
+  pub all_start : (i upto : ℕ) (states : List ℕ) → i ≤ upto → AreReached code true s i i states → HasReached code s i upto i states
+  all_start i upto states up r = record {
+    sound = λ q h. let p = r.sound q h in (i, p.0, omega arith, up, p.1);
+    all = λ k q n le kup upat lq p. let e : k ≡ i = omega arith in r.all q n lq (subst (λ x. Path code true s n 0 x q i) e p);
+  }
 
-  pub all_more : (room room' from at b : ℕ) (old mid one new : List ℕ) → room ≡ length code + 1 → room' ≡ room → at < length s → b ≡ get_or s at 0 → HasReached code s from at old → AdvancesBy room code b old mid → Adds room mid one (λ r. r ≡ 0)
-      → Closes room' code (at + 1 ≡ 0) (IsLast true s (at + 1)) one new → HasReached code s from (at + 1) new
-  all_more room room' from at b old mid one new e er lt eb h a d c = record {
-    has = λ i q n le upto lq p.
-        reached_all code true s room' i (at + 1) one new (er ∙ e) c (λ _. d.has 0 refl (omega arith))
+  pub all_more : (room room' from upto at b : ℕ) (Begin : Type 0) (old mid one new : List ℕ) → room ≡ length code + 1 → room' ≡ room → at < length s → from ≤ at → b ≡ get_or s at 0 → Begin ↔ (at < upto) → HasReached code s from upto at old
+      → AdvancesBy room code b old mid → Adds room mid one (λ r. Begin × (r ≡ 0)) → Closes room' code (at + 1 ≡ 0) (IsLast true s (at + 1)) one new → HasReached code s from upto (at + 1) new
+  all_more room room' from upto at b Begin old mid one new e er lt begun eb bg h a d c = record {
+    sound = λ q hq.
+        let o = c.only q hq in
+        let hops = path_of_hops code true s o.2.0 o.0 q (at + 1) o.2.1 in
+        elim (Contains-append_cases mid d.more o.0 (subst (λ l. Contains l o.0) d.is o.1)) as (λ _. (i : ℕ) × (n : ℕ) × (from ≤ i) × (i ≤ upto) × Path code true s n 0 i q (at + 1)) [
+          | inl u ↦
+              let m = a.only o.0 u in
+              let before = h.sound m.0 m.1 in
+              let byte : slice_get s at ≡ Some b = slice_get_is s at b lt eb in
+              let there = path_more code true s before.1 0 before.0 m.0 at o.0 (at + 1) before.4 (m.2.0, m.2.1, inr (b, byte, m.2.2, m.3, refl)) in
+              let whole = path_join code true s (suc before.1) o.2.0 0 before.0 o.0 (at + 1) q (at + 1) there hops in
+              (before.0, whole.0, before.2, before.3, whole.1)
+          | inr v ↦
+              let z = d.only o.0 v in
+              let up : at < upto = bg.0 z.0 in
+              (at + 1, o.2.0, omega arith, omega arith, subst (λ x. Path code true s o.2.0 x (at + 1) q (at + 1)) z.1 hops)
+        ];
+    all = λ i q n le up upat lq p.
+        reached_all code true s room' i (at + 1) one new (er ∙ e) c (λ is. (let lu : at < upto = omega arith in d.has 0 (bg.1 lu, refl) (omega arith)))
         (λ r k m ek pk rd lr.
         let is : k ≡ at = omega arith in
         let lx = slice_get_within code r rd.0 rd.1 in
-        let up = path_up code true s m 0 i r k pk in
-        let has_r = h.has i r m le (omega (arith, up, is)) (omega (arith, lx)) (subst (λ y. Path code true s m 0 i r y) is pk) in
+        let begin_up = path_up code true s m 0 i r k pk in
+        let has_r = h.all i r m le up (omega (arith, begin_up, is)) (omega (arith, lx)) (subst (λ y. Path code true s m 0 i r y) is pk) in
         let byte = subst (λ y. ReadsFrom code r y) (ap (λ y. get_or s y 0) is ∙ sym eb) rd in
         subst (λ l. Contains l (r + 1)) (sym d.is) (Contains-append_left mid d.more (r + 1) (a.has r has_r byte (omega arith))))
         q n lq p;
   }
 
-  -- no way begun from here on has ended before the place
-  abbrev pub NoneEnded : ℕ → ℕ → Type 0
-  NoneEnded from at = (i j n : ℕ) → from ≤ i → j < at → Path code true s n 0 i (length code) j → ⊥
+  -- no way begun from here on, up to there, has ended before the place
+  abbrev pub NoneEnded : ℕ → ℕ → ℕ → Type 0
+  NoneEnded from upto at = (i j n : ℕ) → from ≤ i → i ≤ upto → j < at → Path code true s n 0 i (length code) j → ⊥
 
-  pub none_ended : (from : ℕ) → NoneEnded from from
-  none_ended from = λ i j n le lt p. omega (arith, path_up code true s n 0 i (length code) j p)
+  pub none_ended : (from upto : ℕ) → NoneEnded from upto from
+  none_ended from upto = λ i j n le up lt p. omega (arith, path_up code true s n 0 i (length code) j p)
 
-  pub none_ended_more : (from at : ℕ) (states : List ℕ) → HasReached code s from at states → (Contains states (length code) → ⊥) → NoneEnded from at → NoneEnded from (at + 1)
-  none_ended_more from at states h not f = λ i j n le lt p. elim (cases_eq j at) [
-    | inl e ↦ (let up = path_up code true s n 0 i (length code) j p in not (h.has i (length code) n le (omega (arith, up, e)) (omega arith) (subst (λ x. Path code true s n 0 i (length code) x) e p)))
-    | inr ne ↦ (let ne' : j ≡ at → ⊥ = ne in f i j n le (omega (arith, ne')) p)
+  pub none_ended_more : (from upto at : ℕ) (states : List ℕ) → HasReached code s from upto at states → (Contains states (length code) → ⊥) → NoneEnded from upto at → NoneEnded from upto (at + 1)
+  none_ended_more from upto at states h not f = λ i j n le up lt p. elim (cases_eq j at) [
+    | inl e ↦ (let pu = path_up code true s n 0 i (length code) j p in not (h.all i (length code) n le up (omega (arith, pu, e)) (omega arith) (subst (λ x. Path code true s n 0 i (length code) x) e p)))
+    | inr ne ↦ (let ne' : j ≡ at → ⊥ = ne in f i j n le up (omega (arith, ne')) p)
   ]
 
-  pub no_way : (from at : ℕ) → length s < at → NoneEnded from at → (i j : ℕ) → from ≤ i → i ≤ length s → (n : ℕ) × Path code true s n 0 i (length code) j → ⊥
-  no_way from at lt f i j le end w = f i j w.0 le (omega (arith, path_within code true s w.0 0 i (length code) j end w.1)) w.1
+  pub no_way : (from upto at : ℕ) → length s < at → upto ≤ length s → NoneEnded from upto at → EndsFrom code s from upto None
+  no_way from upto at lt end f = λ w. f w.0 w.1 w.4.0 w.2 w.3 (omega (arith, path_within code true s w.4.0 0 w.0 (length code) w.1 (omega (arith, w.3)) w.4.1)) w.4.1
+
+  -- no way is left
+  pub no_way_left : (from upto at : ℕ) (states : List ℕ) → upto ≤ at → length states ≡ 0 → HasReached code s from upto at states → NoneEnded from upto at → EndsFrom code s from upto None
+  no_way_left from upto at states past z h f = λ w. elim (cases_lt w.1 at) [
+    | inl lt ↦ f w.0 w.1 w.4.0 w.2 w.3 lt w.4.1
+    | inr ge ↦
+        let begun : w.0 ≤ at = omega (arith, w.3) in
+        let t = path_passes code true s w.4.0 0 w.0 (length code) w.1 at (omega arith) w.4.1 begun ge in
+        let x = h.all w.0 t.0 t.1 w.2 w.3 begun t.2 t.3 in
+        omega (arith, x.1)
+  ]
+
+  -- one has ended
+  pub way_found : (from upto at : ℕ) (states : List ℕ) → HasReached code s from upto at states → Contains states (length code) → EndsFrom code s from upto (Some at)
+  way_found from upto at states h c = let p = h.sound (length code) c in (p.0, p.2, p.3, (p.1, p.4))

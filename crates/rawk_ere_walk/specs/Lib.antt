@@ -1,12 +1,4 @@
-pub mod Tree
-pub mod TreeCode
-pub mod Node
-pub mod Rows
-pub mod ByteSets
-pub mod Ends
-pub mod Cuts
-pub mod Open
-pub mod Code
 pub mod Sets
 pub mod Search
+pub mod Begins
 pub mod Table

@@ -1,8 +1,10 @@
 -- Ways through a code, found from a place on.
 use Rattle.std.specs.Prelude.{ℕ, ◌<◌, ◌≤◌, ◌⊎◌, Bool, true, false, List, length, Option, Some, None}
-use Rattle.rawk_ere_walk.specs.declared.code.Instruction.{Instruction}
-use Rattle.rawk_ere_walk.specs.Code.{Path}
+use Rattle.rawk_ere_code.specs.declared.code.Instruction.{Instruction}
+use Rattle.rawk_ere_code.specs.Code.{Path, wide_code}
 use Rattle.rawk_ere_walk.specs.Sets.{WantsFrom}
+use Rattle.rawk_ere_walk.specs.declared.progress.Progress.{Progress}
+use Rattle.rawk_ere_walk.specs.declared.progress.Progress.TheVariants.{Found, Nothing, Paused}
 
 -- the place, if there is one, lies between these
 abbrev pub IsBetween : ℕ → ℕ → Option ℕ → Type 0
@@ -19,12 +21,40 @@ module _ (code : List Instruction) (s : List ℕ) where
   abbrev pub Way : Bool → ℕ → ℕ → Type 0
   Way closed i j = (n : ℕ) × Path code closed s n 0 i (length code) j
 
+  -- a way begins at a place from `from` to `upto`
+  abbrev pub BeginsIn : ℕ → ℕ → Type 0
+  BeginsIn from upto = (i : ℕ) × (j : ℕ) × (from ≤ i) × (i ≤ upto) × Way true i j
+
+  -- such a way ends at the place; without a place, there is none
+  abbrev pub EndsFrom : ℕ → ℕ → Option ℕ → Type 0
+  EndsFrom from upto None = BeginsIn from upto → ⊥
+  EndsFrom from upto (Some j) = (i : ℕ) × (from ≤ i) × (i ≤ upto) × Way true i j
+
+  -- the ways of the wide code are those of the code that begin at the place or later
+  pub record Widens : Type 0 where
+    pub narrow : (p j n : ℕ) → p ≤ length s → Path (wide_code code) true s n 0 p (length (wide_code code)) j → (i : ℕ) × (p ≤ i) × (i ≤ length s) × Way true i j
+    pub wide : (p i j : ℕ) → p ≤ i → i ≤ length s → Way true i j → (n : ℕ) × Path (wide_code code) true s n 0 p (length (wide_code code)) j
+
+  -- no way begins from here on before there
+  abbrev pub BeginsNone : ℕ → ℕ → Type 0
+  BeginsNone from upto = (i j : ℕ) → from ≤ i → i < upto → Way true i j → ⊥
+
+  -- the first place from `from` on where a way begins
+  pub record IsFirstBegin (from begin : ℕ) : Type 0 where
+    pub low : from ≤ begin
+    pub here : (j : ℕ) × Way true begin j
+    pub before : (i j : ℕ) → from ≤ i → i < begin → Way true i j → ⊥
+
   -- the begin and the end of the first way from p on, and the longest there
   abbrev pub IsFirst : ℕ → Option (ℕ × ℕ) → Type 0
   IsFirst p None = (i j : ℕ) → p ≤ i → i ≤ length s → Way true i j → ⊥
   IsFirst p (Some m) = (p ≤ m.0) × Way true m.0 m.1 × ((i j : ℕ) → p ≤ i → Way true i j → m.0 ≤ i) × ((k : ℕ) → Way true m.0 k → k ≤ m.1)
 
-  -- the same of ways that read a byte, if no way from a place up to there asks what follows the text
+  -- the same, with both within the text
+  abbrev pub IsFound : ℕ → Option (ℕ × ℕ) → Type 0
+  IsFound p r = IsFirst p r × AreBetween p (length s) r
+
+  -- the same as IsFirst, of ways that read a byte, if no way from a place up to there asks what follows the text
   abbrev pub IsFirstOpen : ℕ → Option (ℕ × ℕ) → Type 0
   IsFirstOpen p None = (i j : ℕ) → p ≤ i → i < j → Way false i j → (k : ℕ) × (p ≤ k) × (k ≤ i) × WantsFrom code false s k
   IsFirstOpen p (Some m) =
@@ -40,3 +70,9 @@ module _ (code : List Instruction) (s : List ℕ) where
     pub within : (p ≤ f) × (f ≤ length s)
     pub before : (i : ℕ) → p ≤ i → i < f → MayStart i → ⊥
     pub here : f < length s → MayStart f
+
+  -- how a search from place to place went
+  abbrev pub IsProgress : ℕ → Progress → Type 0
+  IsProgress from (Found i j) = IsFound from (Some (i, j))
+  IsProgress from Nothing = BeginsNone from (length s)
+  IsProgress from (Paused at) = (from ≤ at) × (at ≤ length s) × BeginsNone from at

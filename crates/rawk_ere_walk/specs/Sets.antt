@@ -1,8 +1,8 @@
 -- Sets of states, and the states that are reached at a place.
 use Rattle.std.specs.Prelude.{◌≡◌, ℕ, zero, suc, ◌+◌, ◌<◌, ◌≤◌, Bool, true, false, List, ◌++◌, Option, None, length, Some, slice_get, slice_index_or, count_by, Contains}
-use Rattle.rawk_ere_walk.specs.declared.code.Instruction.{Instruction}
-use Rattle.rawk_ere_walk.specs.declared.code.Instruction.TheVariants.{Bytes, Start, End, Split, Go, Back, Fork}
-use Rattle.rawk_ere_walk.specs.Code.{Hops, Reads, Path}
+use Rattle.rawk_ere_code.specs.declared.code.Instruction.{Instruction}
+use Rattle.rawk_ere_code.specs.declared.code.Instruction.TheVariants.{Bytes, Start, End, Split, Go, Back, Fork}
+use Rattle.rawk_ere_code.specs.Code.{Hops, Reads, Path}
 
 -- the marks are true at the members alone
 pub record AreMarks (members : List ℕ) (marks : List Bool) : Type 0 where
@@ -81,6 +81,7 @@ AsksIn code states = (q : ℕ) × Contains states q × AsksAt code q
 abbrev pub WantsFrom : List Instruction → Bool → List ℕ → ℕ → Type 0
 WantsFrom code closed s i = (q : ℕ) × (n : ℕ) × Path code closed s n 0 i q (length s) × AsksAt code q
 
--- the states have those that a way from the first state, begun at a place from `from` on, reaches at the place
-pub record HasReached (code : List Instruction) (s : List ℕ) (from at : ℕ) (states : List ℕ) : Type 0 where
-  pub has : (i q n : ℕ) → from ≤ i → i ≤ at → q ≤ length code → Path code true s n 0 i q at → Contains states q
+-- the states are those that a way from the first state, begun at a place from `from` to `upto`, reaches at the place
+pub record HasReached (code : List Instruction) (s : List ℕ) (from upto at : ℕ) (states : List ℕ) : Type 0 where
+  pub sound : (q : ℕ) → Contains states q → (i : ℕ) × (n : ℕ) × (from ≤ i) × (i ≤ upto) × Path code true s n 0 i q at
+  pub all : (i q n : ℕ) → from ≤ i → i ≤ upto → i ≤ at → q ≤ length code → Path code true s n 0 i q at → Contains states q

@@ -1,6 +1,8 @@
 -- The table of state sets.
 use Rattle.std.specs.Prelude.{◌≡◌, ℕ, ◌+◌, ◌*◌, ◌/◌, ◌%◌, ◌<◌, ◌↔◌, Bool, true, false, IsTrue, List, [], ◌++◌, length, slice_index, slice_index_or, Contains, ◌-◌}
-use Rattle.rawk_ere_walk.specs.declared.code.Instruction.{Instruction}
+use Rattle.rawk_ere_code.specs.declared.code.Instruction.{Instruction}
+use Rattle.rawk_ere_walk.specs.declared.table.Table.{Table}
+use Rattle.rawk_ere_walk.specs.Begins.{AreBegins}
 use Rattle.rawk_ere_walk.specs.Sets.{Adds, Closes, AdvancesBy, ReadsFrom}
 
 -- the states of a row
@@ -40,12 +42,18 @@ pub record AreStarts (code : List Instruction) (sets : List (ℕ × List ℕ)) (
   pub start_begins : Begins code (IsTrue true) (members sets start)
   pub later_begins : Begins code (IsTrue false) (members sets later)
 
-pub record IsTable (code : List Instruction) (sets : List (ℕ × List ℕ)) (next : List ℕ) (last_ends : List Bool) (start later : ℕ) : Type 0 where
-  pub filled : AreFilled code sets next
-  pub all : length next ≡ 256 * length sets
-  pub starts : AreStarts code sets start later
-  pub last_all : length last_ends ≡ length sets
-  pub last : (r : ℕ) → r < length sets → EndsLast code (members sets r) (slice_index_or last_ends r false)
+-- the table is that of some sets of states: where each byte leads, and where a way through the code ends
+pub record IsTable (code : List Instruction) (t : Table) : Type 0 where
+  pub sets : List (ℕ × List ℕ)
+  pub filled : AreFilled code sets t.next.items
+  pub all : length t.next.items ≡ 256 * length sets
+  pub starts : AreStarts code sets t.start t.later
+  pub ends_all : length t.ends.items ≡ length sets
+  pub ends_are : (r : ℕ) → r < length sets → IsTrue (slice_index_or t.ends.items r false) ↔ Contains (members sets r) (length code)
+  pub last_all : length t.last_ends.items ≡ length sets
+  pub last : (r : ℕ) → r < length sets → EndsLast code (members sets r) (slice_index_or t.last_ends.items r false)
+  pub none : t.dead < length sets → length (members sets t.dead) ≡ 0
+  pub begin_with : AreBegins t.next.items t.ends.items t.later t.dead t.begins
 
 -- the set is, up to order, a row of the new sets, which begin with the old ones
 pub record IsPlaced (old new : List (ℕ × List ℕ)) (set : List ℕ) (row : ℕ) : Type 0 where

@@ -1,19 +1,19 @@
 //! Trees of extended regular expressions, compiled.
 
 ghost use Rattle.std.specs.Prelude.{◌≡◌, ◌+◌, ◌-◌, ◌*◌, ◌<◌, ◌≤◌, length, ℕ, Some, IfOk, IfErr};
-ghost use Rattle.rawk_ere_walk.specs.Tree.{size_of, IsWithinLimits};
-ghost use Rattle.rawk_ere_walk.specs.Node.{tree_of};
-ghost use Rattle.rawk_ere_walk.specs.Code.{code_of};
-ghost use Rattle.rawk_ere_walk.specs.Ends.{IsLongest, IsMatch};
-ghost use Rattle.rawk_ere_walk.specs.Open.{IsOpenMatch, IsSettled, IsOpenFrom};
+ghost use Rattle.rawk_ere_code.specs.Tree.{size_of, IsWithinLimits};
+ghost use Rattle.rawk_ere_code.specs.Node.{tree_of};
+ghost use Rattle.rawk_ere_code.specs.Code.{code_of, wide_code};
+ghost use Rattle.rawk_ere_code.specs.Ends.{IsLongest, IsMatch};
+ghost use Rattle.rawk_ere_code.specs.Open.{IsOpenMatch, IsSettled, IsOpenFrom};
 ghost use Rattle.rawk_ere_walk.specs.Table.{IsTable};
 ghost use Rattle.std.specs.Option.{ForSome};
 ghost use Rattle.rawk_ere_walk.specs.Search.{IsBetween, AreBetween};
 
-use crate::code::{Instruction, emit};
-use crate::node::Node;
 use crate::search::{first, first_by, first_open, longest, open_start};
 use crate::table::{Table, build, run};
+use rawk_ere_code::code::{Instruction, emit, widen};
+use rawk_ere_code::node::Node;
 use std::alloc::{AllocError, Global};
 use std::marker::Model;
 
@@ -23,20 +23,21 @@ pub struct Automaton {
     node: Node,
     code: Vec<Instruction>,
     table: Option<Table>,
+    wide: Option<Table>,
 }
 
 /// The tree of the expression.
 impl Model for Automaton {
-    ghost use Rattle.rawk_ere_walk.specs.Tree.{Tree};
-    ghost use Rattle.rawk_ere_walk.specs.TreeCode.{tree_code};
+    ghost use Rattle.rawk_ere_code.specs.Tree.{Tree};
+    ghost use Rattle.rawk_ere_code.specs.TreeCode.{tree_code};
 
     ghost Value = { Tree };
 
     ghost coded = { tree_code };
 
     ghost use Rattle.std.specs.Prelude.{◌≡◌};
-    ghost use Rattle.rawk_ere_walk.specs.Node.{tree_of};
-    ghost use Rattle.rawk_ere_walk.specs.Code.{code_of};
+    ghost use Rattle.rawk_ere_code.specs.Node.{tree_of};
+    ghost use Rattle.rawk_ere_code.specs.Code.{code_of, wide_code};
 
     ghost view = { λ e. tree_of e.node };
 
@@ -44,17 +45,43 @@ impl Model for Automaton {
     ghost use Rattle.std.specs.Option.{ForSome};
 
     ghost invariant = { λ e. (e.code.items ≡ code_of (tree_of e.node))
-        × ForSome e.table (λ t. IsTable e.code.items t.sets.items t.next.items t.last_ends.items t.start t.later) };
+        × ForSome e.table (IsTable e.code.items)
+        × ForSome e.wide (IsTable (wide_code e.code.items)) };
 }
+
+/// Only a code that is no longer than this gets a table.
+const SHORT: usize = 512;
+
+/// How many rows a table may have, and how many states all of them, so that it is made soon.
+const ROWS: usize = 256;
+
+const STATES: usize = 32768;
 
 // The table of a code that is short and needs few rows.
 fn small_table(alloc: Global, code: &[Instruction]) -> Result<Option<Table>, AllocError>
-    ensures { IfOk result (λ table. ForSome table (λ t. IsTable code.now t.sets.items t.next.items t.last_ends.items t.start t.later)) }
+    ensures { IfOk result (λ table. ForSome table (IsTable code.now)) }
 {
-    if code.len() > 256 {
+    if code.len() > SHORT {
         return Ok(None);
     }
-    build(alloc, code, 64)
+    let rows = STATES / (code.len() + 1);
+    build(alloc, code, rows.min(ROWS))
+}
+
+// The table of the wide code, where the code has one.
+fn small_wide(
+    alloc: Global,
+    code: &[Instruction],
+    table: &Option<Table>,
+) -> Result<Option<Table>, AllocError>
+    ensures { IfOk result (λ wide. ForSome wide (IsTable (wide_code code.now))) }
+{
+    if table.is_none() {
+        return Ok(None);
+    }
+    let wide = widen(alloc, code)?;
+    let found = small_table(alloc, &wide)?;
+    Ok(found)
 }
 
 impl Automaton {
@@ -65,7 +92,13 @@ impl Automaton {
         let mut code = Vec::new(alloc);
         emit(&mut code, &node)?;
         let table = small_table(alloc, &code)?;
-        Ok(Automaton { node, code, table })
+        let wide = small_wide(alloc, &code, &table)?;
+        Ok(Automaton {
+            node,
+            code,
+            table,
+            wide,
+        })
     }
 
     /// How many states the automaton has.
@@ -88,8 +121,9 @@ impl Automaton {
         ensures within { IfOk result (IsBetween from (length text.now)) }
     {
         if let Some(table) = &self.table {
-            if from < text.len() {
-                return Ok(run(table, &self.code, text, from));
+            if text.len() > 0 {
+                let ran = run(table, &self.code, text, from);
+                return Ok(ran.longest);
             }
         }
         let walked = longest(alloc, &self.code, text, from, true)?;
@@ -125,7 +159,7 @@ impl Automaton {
     {
         match &self.table {
             None => first(alloc, &self.code, text, from),
-            Some(table) => first_by(alloc, table, &self.code, text, from),
+            Some(table) => first_by(alloc, table, &self.wide, &self.code, text, from),
         }
     }
 

@@ -1,51 +1,125 @@
 //! The sets of states that a walk can be in between two bytes, each found once, and where each byte leads.
 
-ghost use Rattle.std.specs.Prelude.{◌≡◌, ℕ, ◌+◌, ◌-◌, ◌*◌, ◌<◌, ◌≤◌, ◌↔◌, true, List, [], ◌++◌, length, slice_index_or, false, IfOk, OnOk, IsTrue, Contains};
+ghost use Rattle.std.specs.Prelude.{◌≡◌, ℕ, ◌+◌, ◌-◌, ◌*◌, ◌<◌, ◌≤◌, ◌↔◌, ◌⊎◌, true, List, [], ◌++◌, length, slice_index_or, false, IfOk, OnOk, IsTrue, Contains, Some};
 ghost use Rattle.rawk_ere_walk.specs.Sets.{Adds, Closes, IsFarthest};
 ghost use Rattle.rawk_ere_walk.specs.Table.{members, Begins, LeadsBy, EndsLast, AreFilled, AreStarts, IsTable, IsPlaced, Extends, AreAlike, AreMarkedAlike, IsTarget};
+ghost use Rattle.rawk_ere_code.specs.Code.{wide_code};
+ghost use Rattle.rawk_ere_walk.specs.Search.{EndsFrom, Widens, BeginsNone};
 ghost use Rattle.std.specs.Option.{ForSome};
 
-use crate::code::Instruction;
+use crate::begins::{FirstBytes, find_begins, seek};
 use crate::set::StateSet;
-use crate::walk::{close, noted, read, reads_from};
+use crate::walk::{close, read, reads_from};
+use rawk_ere_code::code::Instruction;
 use std::alloc::{AllocError, Global};
 
-/// The rows.
+/// The rows: the sets of states, of which only what a walk asks is kept.
 #[derive(Drop)]
 pub struct Table {
-    pub sets: Vec<StateSet>,
-    pub next: Vec<usize>,
+    /// The row that each byte leads to, 256 for each row.
+    pub next: Vec<u8>,
+    /// Whether a way through the code ends at the row.
+    pub ends: Vec<bool>,
+    /// The same at the end of the text.
     pub last_ends: Vec<bool>,
+    /// The row at the start of the text.
     pub start: usize,
+    /// The row at a later place.
     pub later: usize,
+    /// The row without states; no row, if each has some.
+    pub dead: usize,
+    /// The bytes that lead from the later row to another than the dead one.
+    pub begins: FirstBytes,
 }
 
-/// The end of the longest way through the code from a place before the text's end.
-pub fn run(table: &Table, code: &[Instruction], text: &[u8], from: usize) -> Option<usize>
-    requires within { from < length text.now }
-    requires table { IsTable code.now table.now.sets.items table.now.next.items table.now.last_ends.items table.now.start table.now.later }
-    ensures { IsFarthest code.now true text.now from result }
+/// What a walk by a table found.
+#[derive(Clone, Copy)]
+pub struct Ran {
+    /// The end of the longest way through the code.
+    pub longest: Option<usize>,
+    /// Where the walk stopped.
+    pub stop: usize,
+}
+
+// The longest way so far, once the row at the place is looked at.
+fn marked(ends: bool, at: usize, longest: Option<usize>) -> Option<usize>
+    ensures { (IsTrue ends × (result ≡ Some at))
+        ⊎ ((IsTrue ends → ⊥) × (result ≡ longest)) }
+{
+    if ends { Some(at) } else { longest }
+}
+
+/// Walks from a place by a table of the code.
+pub fn run(table: &Table, code: &[Instruction], text: &[u8], from: usize) -> Ran
+    requires within { from ≤ length text.now }
+    requires some { 0 < length text.now }
+    requires table { IsTable code.now table.now }
+    ensures farthest { IsFarthest code.now true text.now from result.longest }
+    ensures low { from ≤ result.stop }
+    ensures high { result.stop ≤ length text.now }
 {
     let mut row = if from == 0 { table.start } else { table.later };
     let mut longest = None;
     for at in from..text.len() {
-        let now = &table.sets[row];
-        if now.len() == 0 {
-            return longest;
+        if row == table.dead {
+            return Ran { longest, stop: at };
         }
-        longest = noted(longest, now, code.len(), at);
-        row = table.next[row * 256 + text[at] as usize];
+        longest = marked(table.ends[row], at, longest);
+        row = table.next[row * 256 + text[at] as usize] as usize;
     }
-    if table.last_ends[row] {
+    longest = marked(table.last_ends[row], text.len(), longest);
+    Ran {
+        longest,
+        stop: text.len(),
+    }
+}
+
+/// Where the ways that begin at a place or later end first, by a table of the wide code.
+pub fn first_end_by(wide: &Table, code: &[Instruction], text: &[u8], from: usize) -> Option<usize>
+    requires within { from ≤ length text.now }
+    requires some { 0 < length text.now }
+    requires table { IsTable (wide_code code.now) wide.now }
+    requires widens { Widens code.now text.now }
+    ensures { EndsFrom code.now text.now from (length text.now) result }
+{
+    let mut row = if from == 0 { wide.start } else { wide.later };
+    for at in from..text.len() {
+        if wide.ends[row] {
+            return Some(at);
+        }
+        row = wide.next[row * 256 + text[at] as usize] as usize;
+    }
+    if wide.last_ends[row] {
         Some(text.len())
     } else {
-        longest
+        None
     }
+}
+
+/// The first place from `from` on where a way may begin that reads a byte, or that reads none; the end of the text, if none is left.
+pub fn skip(table: &Table, code: &[Instruction], text: &[u8], from: usize) -> usize
+    requires begun { 0 < from }
+    requires within { from ≤ length text.now }
+    requires table { IsTable code.now table.now }
+    ensures low { from ≤ result }
+    ensures high { result ≤ length text.now }
+    ensures none { BeginsNone code.now text.now from result }
+{
+    let first = from + seek(table.begins, &text[from..]);
+    if table.ends[table.later] {
+        return first;
+    }
+    for at in first..text.len() {
+        if table.next[table.later * 256 + text[at] as usize] as usize != table.dead {
+            return at;
+        }
+    }
+    text.len()
 }
 
 /// The table of the code, if it has fewer than `most` rows.
 pub fn build(alloc: Global, code: &[Instruction], most: usize) -> Result<Option<Table>, AllocError>
-    ensures { IfOk result (λ table. ForSome table (λ t. IsTable code.now t.sets.items t.next.items t.last_ends.items t.start t.later)) }
+    ensures { IfOk result (λ table. ForSome table (IsTable code.now)) }
 {
     let mut sets = Vec::new(alloc);
     let first = begin(alloc, code, true)?;
@@ -53,21 +127,96 @@ pub fn build(alloc: Global, code: &[Instruction], most: usize) -> Result<Option<
     let other = begin(alloc, code, false)?;
     let later = place(&mut sets, other)?;
     let alike = find_alike(alloc, code)?;
-    let mut next = Vec::new(alloc);
+    let mut rows = Vec::new(alloc);
     for row in 0..most {
         if row == sets.len() {
-            let last_ends = find_last(alloc, code, &sets)?;
-            return Ok(Some(Table {
-                sets,
+            let table = finish(alloc, code, &sets, &rows, start, later)?;
+            return Ok(table);
+        }
+        fill(alloc, code, &alike, &mut sets, &mut rows, row)?;
+        if sets.len() > most {
+            return Ok(None);
+        }
+    }
+    Ok(None)
+}
+
+// What a walk asks of the sets.
+fn finish(
+    alloc: Global,
+    code: &[Instruction],
+    sets: &[StateSet],
+    rows: &[usize],
+    start: usize,
+    later: usize,
+) -> Result<Option<Table>, AllocError>
+    requires all { length rows.now ≡ 256 * length sets.now }
+    requires filled { AreFilled code.now sets.now rows.now }
+    requires starts { AreStarts code.now sets.now start later }
+    ensures { IfOk result (λ table. ForSome table (IsTable code.now)) }
+{
+    let ends = find_ends(alloc, code, sets)?;
+    let last_ends = find_last(alloc, code, sets)?;
+    let dead = find_dead(sets);
+    let packed = pack(alloc, rows)?;
+    match packed {
+        None => Ok(None),
+        Some(next) => {
+            let begins = find_begins(&next, &ends, later, dead);
+            Ok(Some(Table {
                 next,
+                ends,
                 last_ends,
                 start,
                 later,
-            }));
+                dead,
+                begins,
+            }))
         }
-        fill(alloc, code, &alike, &mut sets, &mut next, row)?;
     }
-    Ok(None)
+}
+
+// The rows as bytes, if they are so few.
+fn pack(alloc: Global, rows: &[usize]) -> Result<Option<Vec<u8>>, AllocError>
+    ensures { IfOk result (λ o. ForSome o (λ bytes. bytes.items ≡ rows.now)) }
+{
+    let mut bytes = Vec::with_capacity(alloc, rows.len())?;
+    for index in 0..rows.len() {
+        let row = rows[index];
+        if row > 255 {
+            return Ok(None);
+        }
+        bytes.push(row as u8)?;
+    }
+    Ok(Some(bytes))
+}
+
+// The row without states, or no row.
+fn find_dead(sets: &[StateSet]) -> usize
+    ensures { result < length sets.now → length (members sets.now result) ≡ 0 }
+{
+    for index in 0..sets.len() {
+        if sets[index].len() == 0 {
+            return index;
+        }
+    }
+    sets.len()
+}
+
+// Whether the set of each row has the end of the code.
+fn find_ends(
+    alloc: Global,
+    code: &[Instruction],
+    sets: &[StateSet],
+) -> Result<Vec<bool>, AllocError>
+    ensures all { IfOk result (λ ends. length ends.items ≡ length sets.now) }
+    ensures each { IfOk result (λ ends. (r : ℕ) → r < length sets.now → IsTrue (slice_index_or ends.items r false) ↔ Contains (members sets.now r) (length code.now)) }
+{
+    let mut found = Vec::new(alloc);
+    for index in 0..sets.len() {
+        found.push(sets[index].contains(code.len()))?;
+    }
+    Ok(found)
 }
 
 // Finds the rows that the bytes lead to from a row.

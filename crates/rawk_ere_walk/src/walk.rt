@@ -1,15 +1,15 @@
 //! The longest match from a place, by a walk of a set of states from byte to byte.
 
 ghost use Rattle.std.specs.Prelude.{◌≡◌, ℕ, ◌+◌, ◌-◌, ◌*◌, ◌^◌, ◌<◌, ◌≤◌, ◌↔◌, ◌⊎◌, List, [], ◌∷◌, length, IfOk, IsTrue, Contains, Some, slice_get, slice_index, vec_len, true, false};
-ghost use Rattle.rawk_ere_walk.specs.ByteSets.{IsIn};
-ghost use Rattle.rawk_ere_walk.specs.Ends.{IsLast};
-ghost use Rattle.rawk_ere_walk.specs.Code.{Hops, Reads};
+ghost use Rattle.rawk_ere_code.specs.ByteSets.{IsIn};
+ghost use Rattle.rawk_ere_code.specs.Ends.{IsLast};
+ghost use Rattle.rawk_ere_code.specs.Code.{Hops, Reads};
 ghost use Rattle.rawk_ere_walk.specs.Sets.{Adds, HopsFrom, ReadsFrom, AdvancesBy, AreReached, Closes, IsFarthest, Asks, AsksAt, AsksIn, WantsFrom, HasReached};
-ghost use Rattle.rawk_ere_walk.specs.Search.{Way};
+ghost use Rattle.rawk_ere_walk.specs.Search.{EndsFrom};
 
-use crate::byte_set::is_in;
-use crate::code::Instruction;
 use crate::set::StateSet;
+use rawk_ere_code::byte_set::is_in;
+use rawk_ere_code::code::Instruction;
 use std::mem;
 
 // Whether the instruction reads the byte.
@@ -246,49 +246,69 @@ pub fn walk(
     }
 }
 
-// The states that are reached one place later, and those of a way that begins there.
+// Adds the first state, if ways may still begin.
+fn add_first(set: &mut StateSet, begins: bool)
+    ensures room { set.new.0 ≡ set.old.0 }
+    ensures adds { Adds set.old.0 set.old.1 set.new.1 (λ r. IsTrue begins × (r ≡ 0)) }
+{
+    if begins {
+        set.add(0);
+    }
+}
+
+// The states that are reached one place later, and those of a way that begins there, if that is not past `upto`.
 fn advance_all(
     code: &[Instruction],
     now: &StateSet,
     next: &mut StateSet,
     text: &[u8],
     from: usize,
+    upto: usize,
     at: usize,
 )
     requires room { next.old.0 ≡ length code.now + 1 }
     requires within { at < length text.now }
     requires begun { from ≤ at }
-    requires reached { HasReached code.now text.now from at now.now.1 }
+    requires reached { HasReached code.now text.now from upto at now.now.1 }
     ensures room { next.new.0 ≡ next.old.0 }
-    ensures reached { HasReached code.now text.now from (at + 1) next.new.1 }
+    ensures reached { HasReached code.now text.now from upto (at + 1) next.new.1 }
 {
     read(code, now, next, text[at]);
-    next.add(0);
+    add_first(next, at < upto);
     close(code, next, false, is_last(text, at + 1, true));
 }
 
-/// Whether there may be a way that begins at a place from `from` on, found in one pass over the text: if not, there is none.
-pub fn may_have_way(
+/// Where the ways that begin from `from` to `upto` end first, found in one pass over the text.
+pub fn first_end(
     now: &mut StateSet,
     next: &mut StateSet,
     code: &[Instruction],
     text: &[u8],
     from: usize,
-) -> bool
+    upto: usize,
+) -> Option<usize>
     requires now { now.old.0 ≡ length code.now + 1 }
     requires next { next.old.0 ≡ length code.now + 1 }
-    requires from { from ≤ length text.now }
+    requires from { from ≤ upto }
+    requires upto { upto ≤ length text.now }
     ensures now { now.new.0 ≡ length code.now + 1 }
     ensures next { next.new.0 ≡ length code.now + 1 }
-    ensures none { result ≡ false → (i j : ℕ) → from ≤ i → i ≤ length text.now → Way code.now text.now true i j → ⊥ }
+    ensures ends { EndsFrom code.now text.now from upto result }
 {
     start(code, now, text, from, true);
     for at in from..text.len() {
         if now.contains(code.len()) {
-            return true;
+            return Some(at);
         }
-        advance_all(code, now, next, text, from, at);
+        if upto <= at && now.len() == 0 {
+            return None;
+        }
+        advance_all(code, now, next, text, from, upto, at);
         mem::swap(now, next);
     }
-    now.contains(code.len())
+    if now.contains(code.len()) {
+        Some(text.len())
+    } else {
+        None
+    }
 }

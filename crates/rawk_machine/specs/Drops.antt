@@ -1,11 +1,12 @@
 -- Bytes that a machine has dropped are gone, and nothing else has changed.
-use Rattle.std.proofs.Common.{◌≡◌, ℕ, ◌+◌, ◌-◌, ◌≤◌, ◌++◌, length, take, drop, refl, sym, ap, ◌∙◌, subst, arith, append_assoc}
-use Rattle.std.proofs.lemmas.List.{length-append, take-append-drop, length-take-le}
+use Rattle.std.proofs.Common.{◌≡◌, ℕ, ◌+◌, ◌-◌, ◌≤◌, [], ◌++◌, length, take, drop, refl, sym, ap, ◌∙◌, subst, arith, append_assoc}
+use Rattle.std.proofs.lemmas.List.{append-nil, length-append, take-append-drop, length-take-le}
 use Rattle.rawk_value.specs.Values.{Bytes}
 use Rattle.rawk_tape.specs.Records.{Input}
 use Rattle.rawk_tape.specs.Inputs.{before}
 use Rattle.rawk_store.specs.State.{State}
-use Rattle.rawk_machine.specs.Standing.{Standing, MayCome, IsAt, dropped, whole, run_at, config_at, SiteFits}
+use Rattle.rawk_machine.specs.Standing.{Standing, MayCome, IsAt, dropped, whole, ground_of, moment_of}
+use Rattle.rawk_machine.specs.Reached.{stands_as}
 
 whole_dropped : (gone told bytes : Bytes) (s : State) (n : ℕ) → n ≤ length bytes → n ≤ s.consumed → whole gone told s ≡ whole (gone ++ take n bytes) told (record s { consumed = s.consumed - n })
 whole_dropped gone told bytes s n h k =
@@ -15,25 +16,19 @@ whole_dropped gone told bytes s n h k =
 -- bytes that were dropped are gone
 pub at_dropped : {S : Type 0} (machine : Standing S) (n : ℕ) (input : Input) (gone told : Bytes) → n ≤ length machine.tape.bytes → n ≤ machine.state.consumed → IsAt machine input gone told → IsAt (dropped n machine) input (gone ++ take n machine.tape.bytes) told
 at_dropped machine n input gone told h k at =
-    let e = whole_dropped gone told machine.tape.bytes machine.state n h k in
-    record {
-      count = at.count;
-      earlier = at.earlier;
-      reached = at.reached ∙ ap (λ (s : State). config_at machine.ending machine.place machine.operands machine.keys machine.returns machine.phase (run_at machine.ending machine.site at.earlier s)) e;
-      number = at.number;
-      site = subst (λ (s : State). SiteFits machine.ending machine.site (run_at machine.ending machine.site at.earlier s)) e at.site;
-    }
+    stands_as (ground_of machine input) machine.sets machine.point (moment_of machine) gone told (gone ++ take n machine.tape.bytes) told (record machine.state { consumed = machine.state.consumed - n })
+    (sym (whole_dropped gone told machine.tape.bytes machine.state n h k)) at
 
 pub at_kept : {S : Type 0} (machine : Standing S) (n : ℕ) (input : Input) (gone told : Bytes) → n ≤ length machine.tape.bytes → n ≤ machine.state.consumed → IsAt (dropped n machine) input (gone ++ take n machine.tape.bytes) told → IsAt machine input gone told
 at_kept machine n input gone told h k at =
-    let e = sym (whole_dropped gone told machine.tape.bytes machine.state n h k) in
-    record {
-      count = at.count;
-      earlier = at.earlier;
-      reached = at.reached ∙ ap (λ (s : State). config_at machine.ending machine.place machine.operands machine.keys machine.returns machine.phase (run_at machine.ending machine.site at.earlier s)) e;
-      number = at.number;
-      site = subst (λ (s : State). SiteFits machine.ending machine.site (run_at machine.ending machine.site at.earlier s)) e at.site;
-    }
+    stands_as (ground_of machine input) machine.sets machine.point (moment_of (dropped n machine)) (gone ++ take n machine.tape.bytes) told gone told machine.state
+    (whole_dropped gone told machine.tape.bytes machine.state n h k) at
+
+-- output that was given is told
+pub at_given : {S : Type 0} (machine : Standing S) (input : Input) (gone told : Bytes) → IsAt machine input gone told → IsAt (record machine { state = record machine.state { output = [] } }) input gone (told ++ machine.state.output)
+at_given machine input gone told at =
+    stands_as (ground_of machine input) machine.sets machine.point (moment_of machine) gone told gone (told ++ machine.state.output) (record machine.state { output = [] })
+    (ap (λ (o : Bytes). record (whole gone told machine.state) { output = o }) (append-nil (told ++ machine.state.output))) at
 
 -- these bytes, in two parts
 before_parts : (gone bytes : Bytes) (n : ℕ) (rest : Input) → before (gone ++ take n bytes) (before (drop n bytes) rest) ≡ before gone (before bytes rest)

@@ -1,10 +1,8 @@
 pub mod Standing
+pub mod Reached
 pub mod InTrace
-pub mod Lent
-pub mod Moving
-pub mod Line
-pub mod Reading
-pub mod Travel
+pub mod Kept
+pub mod Closing
 pub mod Arrival
 pub mod Stood
 pub mod Elements

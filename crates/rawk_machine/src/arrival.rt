@@ -4,16 +4,17 @@ ghost use Rattle.std.specs.Prelude.{◌≡◌, ◌<◌, ◌≤◌, ◌+◌, ◌^
 ghost use Rattle.rawk_tape.specs.Records.{Input};
 ghost use Rattle.rawk_tape.specs.Tapes.{MayBe};
 ghost use Rattle.rawk_tape.specs.declared.source.Ending.{Ending as End};
+ghost use Rattle.rawk_store.specs.Layout.{Grown};
 ghost use Rattle.rawk_store.specs.Stacked.{IsLive};
 ghost use Rattle.rawk_store.specs.Stores.{now_of, start_of};
-ghost use Rattle.rawk_machine.specs.Travel.{HasRoom};
-ghost use Rattle.rawk_machine.specs.Moving.{moving};
+ghost use Rattle.rawk_travel.specs.Travel.{HasRoom};
+ghost use Rattle.rawk_travel.specs.Moving.{moving};
 ghost use Rattle.rawk_machine.specs.Arrival.{settled, site_by, with_registers, Arrives, ends_quietly, EndsByRead, IsSettled};
 
-use crate::travel::{Next, travel};
 use rawk_code::Code;
 use rawk_store::{Ending, Store};
 use rawk_tape::{Source, Tape};
+use rawk_travel::travel::{Next, travel};
 use std::alloc::{AllocError, Global};
 
 /// The site at an ending.
@@ -51,8 +52,8 @@ fn settle(store: &mut Store, to: Next, count: u64, limit: u64)
     }
 }
 
-/// One step: instructions up to the point number `count`, which is entered, or up to the end. Where memory is refused, the parts
-/// are put back as they were; bytes may be read ahead then.
+/// One step, which is left open: instructions up to the point number `count`, which is entered, or up to the end. Where memory is
+/// refused, the parts are put back as they were; bytes may be read ahead then.
 pub fn step<R: Source + Drop>(
     alloc: Global,
     code: &Code,
@@ -69,10 +70,12 @@ pub fn step<R: Source + Drop>(
     ensures may { (kept : Input) → MayBe R.may_give tape.new kept → MayBe R.may_give tape.old kept }
     ensures did { OnOk result (Arrives R.may_give code.now tape.new count limit (moving store.old) (moving store.new)) }
     ensures settled { OnOk result (IsSettled count limit store.new.registers.now) }
-    ensures err { OnErr result (moving store.new ≡ moving store.old) }
-    ensures rest { start_of store.new ≡ now_of store.new }
-    ensures live { IsLive store.new.operands.now }
+    ensures start { OnOk result (Grown (now_of store.old) (start_of store.new)) }
+    ensures grown { OnErr result (Grown (now_of store.old) (now_of store.new)) }
+    ensures rest { OnErr result (start_of store.new ≡ now_of store.new) }
+    ensures live { OnErr result (IsLive store.new.operands.now) }
     ensures consumed { tape.new.consumed ≡ store.new.registers.now.consumed }
+    ensures longer { length tape.old.bytes ≤ length tape.new.bytes }
     ensures quiet { OnOk result (ends_quietly store.new.registers.now.ending) }
     ensures failed { OnOk result (EndsByRead store.new.registers.now.ending (R.over tape.new.source ≡ Some End.Failed)) }
     ensures counted { executed.old ≤ executed.new }
@@ -82,7 +85,6 @@ pub fn step<R: Source + Drop>(
     match travel(alloc, code, store, tape, executed) {
         Ok(to) => {
             settle(store, to, count, limit);
-            store.forget();
             Ok(())
         }
         Err(refused) => {

@@ -1,17 +1,16 @@
 //! A machine that runs the code of a program from point to point.
 #![tactic(auto, using(rawk_store::specs::Growth::grows))]
 
-mod act;
 mod arrival;
-mod lent;
+mod back;
+mod journal;
+mod last;
+mod look;
 mod machine;
-mod print;
-mod reading;
 mod start;
 mod step;
-mod travel;
-mod went;
+mod watch;
 
 pub use machine::Machine;
-pub use rawk_store::{Keeper, Off};
+pub use rawk_store::{Full, Keeper, Off};
 pub use step::Step;

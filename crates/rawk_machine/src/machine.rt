@@ -1,42 +1,51 @@
 //! A machine that runs a code from point to point.
 
-ghost use Rattle.std.specs.Prelude.{◌≡◌, ◌↔◌, ◌≤◌, ◌<◌, ◌+◌, ◌-◌, ◌*◌, ◌^◌, [], ◌++◌, ℕ, List, None, Some, IsSome, length, take, drop, IfOk, OnOk, OnErr};
+ghost use Rattle.std.specs.Prelude.{◌≡◌, ◌↔◌, ◌≤◌, ◌<◌, ◌+◌, ◌-◌, ◌*◌, ◌^◌, [], ◌++◌, ℕ, nat_lt, List, None, Some, IsSome, IsTrue, length, take, drop, IfOk, OnOk, OnErr};
 ghost use Rattle.std.specs.Option.{option_map};
 ghost use Rattle.rawk_value.specs.Values.{Bytes};
 ghost use Rattle.rawk_tape.specs.Records.{Input};
 ghost use Rattle.rawk_tape.specs.declared.source.Ending.{Ending as End};
 ghost use Rattle.rawk_store.specs.Stores.{now_of, start_of};
+ghost use Rattle.rawk_machine.specs.Kept.{below};
 ghost use Rattle.rawk_machine.specs.Stood.{IsFirst};
-ghost use Rattle.rawk_machine.specs.Standing.{Standing, MayCome, IsAt, step_of, IsQuietStep, Stays, dropped};
-ghost use Rattle.rawk_machine.specs.Moving.{ending_of};
+ghost use Rattle.rawk_machine.specs.Standing.{Standing, MayCome, IsAt, Stood, step_of, IsQuietStep, Stays, MovesOn, gone_back, taken_back, set_made, dropped};
+ghost use Rattle.rawk_travel.specs.Moving.{ending_of};
 
 use crate::arrival::step;
+use crate::back::{global_of, go_back, keep_below, write_global};
+use crate::journal::journaled;
+use crate::last::Last;
 use crate::start::{copy_settings, fill_globals};
 use crate::step::Step;
-use rawk_code::{Code, Settings};
-use rawk_store::{Ending, Keeper, Phase, Registers, Store};
+use rawk_code::{Code, SetAt, Settings};
+use rawk_store::{Ending, Group, Keeper, Off, Phase, Registers, Store, Target};
 use rawk_tape::{Source, Tape};
-use rawk_value::Fault;
+use rawk_value::{Fault, Value};
 use std::alloc::{AllocError, Global};
 use std::marker::Model;
 
-/// A machine at a point of the run of its code, or at its ending.
+/// A machine at a point of the run of its code, or at its ending, with the way back to the points that its keeper keeps.
 ///
-/// A contract sees it as a record (`Standing`); `IsAt` says that the code's run stands there on each input that may come.
+/// A contract sees it as a record (`Standing`); `IsAt` says that the code's run stands there on each input that may come, and
+/// `Stood` that it stood at each earlier point that the machine can go back to.
 #[derive(Drop)]
 pub struct Machine<R: Source + Drop, K: Keeper> {
-    code: Code,
-    settings: Settings,
-    store: Store,
-    tape: Tape<R>,
-    keeper: K,
-    steps: u64,
-    point: u64,
-    executed: u128,
+    pub(crate) code: Code,
+    pub(crate) settings: Settings,
+    pub(crate) store: Store,
+    pub(crate) tape: Tape<R>,
+    pub(crate) keeper: K,
+    pub(crate) sets: Vec<SetAt>,
+    // What each set changed that was made at the present point.
+    pub(crate) here: Vec<Group>,
+    pub(crate) last: Last,
+    pub(crate) steps: u64,
+    pub(crate) point: u64,
+    pub(crate) executed: u128,
 }
 
 impl<R: Source + Drop, K: Keeper> Model for Machine<R, K> {
-    ghost use Rattle.std.specs.Prelude.{◌≡◌, Some};
+    ghost use Rattle.std.specs.Prelude.{◌≡◌, Some, length, reverse};
     ghost use Rattle.rawk_tape.specs.declared.source.Ending.{Ending};
     ghost use Rattle.rawk_store.specs.Stores.{now_of};
     ghost use Rattle.rawk_machine.specs.Standing.{Standing};
@@ -51,9 +60,9 @@ impl<R: Source + Drop, K: Keeper> Model for Machine<R, K> {
 
     ghost use Rattle.rawk_machine.specs.Stood.{standing_of, IsMachine};
 
-    ghost view = { λ m. standing_of m.code m.settings m.steps m.point m.tape (now_of m.store) m.executed };
+    ghost view = { λ m. standing_of m.code m.settings m.steps m.sets.items m.point m.tape (now_of m.store) m.executed (reverse m.here.items) (K.kept m.keeper) (K.limit m.keeper) m.last };
 
-    ghost invariant = { λ m. IsMachine m.store m.tape.consumed m.point m.steps (R.over m.tape.source ≡ Some Ending.Failed) };
+    ghost invariant = { λ m. IsMachine m.store m.tape.consumed (length m.tape.bytes) m.point m.steps m.sets.items (reverse m.here.items) (K.kept m.keeper) (K.limit m.keeper) m.last (R.over m.tape.source ≡ Some Ending.Failed) };
 }
 
 /// What registers answer: at a point, or how the run ended.
@@ -104,35 +113,45 @@ impl<R: Source + Drop, K: Keeper> Machine<R, K> {
         keeper: K,
         steps: u64,
     ) -> Result<Self, AllocError>
-        requires { R.over source ≡ None }
+        requires open { R.over source ≡ None }
+        requires empty { K.kept keeper ≡ [] }
         ensures code { IfOk result (λ m. m.code ≡ code) }
         ensures settings { IfOk result (λ m. m.settings ≡ settings.now) }
         ensures sets { IfOk result (λ m. m.sets ≡ []) }
         ensures steps { IfOk result (λ m. m.steps ≡ steps) }
         ensures point { IfOk result (λ m. m.point ≡ 0) }
+        ensures unset { IfOk result (λ m. m.unset ≡ []) }
+        ensures history { IfOk result (λ m. m.history ≡ []) }
+        ensures limit { IfOk result (λ m. m.limit ≡ K.limit keeper) }
         ensures may { IfOk result (λ m. (input : Input) → MayCome R.may_give m [] input → R.may_give source input) }
         ensures still { IfOk result (λ m. (gone : Bytes) → (input : Input) × MayCome R.may_give m gone input) }
         ensures stands { IfOk result (λ m. (input : Input) → MayCome R.may_give m [] input → IsAt m input [] []) }
+        ensures stood { IfOk result (λ m. (input : Input) → MayCome R.may_give m [] input → Stood m input) }
     {
         let settings = copy_settings(alloc, settings)?;
         let mut store = first_store(alloc, &code, &settings)?;
         let mut tape = Tape::new(alloc, source);
         let mut executed = 0;
         step(alloc, &code, &mut store, &mut tape, &mut executed, 0, steps)?;
+        store.forget();
         Ok(Machine {
             code,
             settings,
             store,
             tape,
             keeper,
+            sets: Vec::new(alloc),
+            here: Vec::new(alloc),
+            last: Last::Nothing,
             steps,
             point: 0,
             executed,
         })
     }
 
-    /// Runs to the next point or to the ending; at the ending it answers the same again and changes nothing. It fails where
-    /// memory is refused, and then the machine stands as before but for `executed` and for bytes read ahead.
+    /// Runs to the next point or to the ending; at the ending it answers the same again and changes nothing. The point that it leaves is
+    /// kept, with its sets, and the oldest point goes where the keeper has a limit. It fails where memory is refused, and then the machine
+    /// stands as before but for `executed` and for bytes read ahead.
     pub fn advance(&mut self, alloc: Global) -> Result<Step, AllocError>
         ensures code { self.new.code ≡ self.old.code }
         ensures settings { self.new.settings ≡ self.old.settings }
@@ -141,7 +160,9 @@ impl<R: Source + Drop, K: Keeper> Machine<R, K> {
         ensures may { (gone : Bytes) (input : Input) → MayCome R.may_give self.new gone input → MayCome R.may_give self.old gone input }
         ensures still { (gone : Bytes) → (input : Input) × MayCome R.may_give self.new gone input }
         ensures stands { (input : Input) (gone told : Bytes) → MayCome R.may_give self.new gone input → IsAt self.old input gone told → IsAt self.new input gone told }
-        ensures moves { OnOk result (self.old.ending ≡ None → self.new.point ≡ self.old.point + 1) }
+        ensures stood { (input : Input) → MayCome R.may_give self.new [] input → Stood self.old input → Stood self.new input }
+        ensures moves { OnOk result (self.old.ending ≡ None → MovesOn self.old self.new) }
+        ensures limit { self.new.limit ≡ self.old.limit }
         ensures rests { IsSome self.old.ending → self.new ≡ self.old }
         ensures err { OnErr result (Stays self.old self.new) }
         ensures within { self.new.point ≤ self.new.steps }
@@ -152,20 +173,94 @@ impl<R: Source + Drop, K: Keeper> Machine<R, K> {
     {
         match self.store.registers.now.ending {
             None => {
-                step(
+                journaled(
                     alloc,
                     &self.code,
                     &mut self.store,
                     &mut self.tape,
                     &mut self.executed,
+                    &mut self.keeper,
+                    &mut self.here,
                     self.point + 1,
                     self.steps,
                 )?;
                 self.point += 1;
+                self.last = Last::On;
                 Ok(answer(&self.store.registers.now))
             }
             Some(_) => Ok(answer(&self.store.registers.now)),
         }
+    }
+}
+
+impl<R: Source + Drop, K: Keeper> Machine<R, K> {
+    /// Goes back to the point before, with the sets that stood there when it was left: takes back the sets of this point and the step that led
+    /// here. It answers false, and changes nothing, at the oldest point that is kept. It takes no memory, reads no byte, and runs no instruction.
+    pub fn retreat(&mut self) -> bool
+        ensures moved { result ≡ nat_lt 0 (length self.old.history) }
+        ensures back { self.new ≡ gone_back self.old.history self.old }
+        ensures sets { IsTrue result → self.new.sets ≡ below self.old.point self.old.sets }
+        ensures may { (gone : Bytes) (input : Input) → MayCome R.may_give self.new gone input ↔ MayCome R.may_give self.old gone input }
+        ensures stood { (input : Input) → Stood self.old input → Stood self.new input }
+    {
+        let Some(item) = self.keeper.take() else {
+            return false;
+        };
+        let mut item = item;
+        go_back(&mut self.store, &mut self.here, &mut item);
+        keep_below(&mut self.sets, self.point);
+        self.tape.consume(self.store.registers.now.consumed);
+        self.last = Last::Back(item);
+        self.point -= 1;
+        true
+    }
+
+    /// Takes back the last set made at this point, and answers whether there was one. It takes no memory.
+    pub fn take_back(&mut self) -> bool
+        ensures taken { result ≡ nat_lt 0 (length self.old.unset) }
+        ensures back { self.new ≡ taken_back self.old.unset self.old }
+        ensures may { (gone : Bytes) (input : Input) → MayCome R.may_give self.new gone input ↔ MayCome R.may_give self.old gone input }
+        ensures stood { (input : Input) → Stood self.old input → Stood self.new input }
+    {
+        let Some(group) = self.here.pop() else {
+            return false;
+        };
+        let mut group = group;
+        self.store.undo(&mut group);
+        self.tape.consume(self.store.registers.now.consumed);
+        let _last = self.sets.pop();
+        self.last = Last::Nothing;
+        true
+    }
+
+    /// Sets a place to a value at this point, as an assignment of the program does; a place that can't be assigned answers the fault, and nothing
+    /// changes. It fails where memory is refused, and then nothing has changed.
+    pub fn set(
+        &mut self,
+        alloc: Global,
+        target: Target,
+        value: Value,
+    ) -> Result<Option<Fault>, AllocError>
+        requires { self.old.ending ≡ None }
+        ensures made { IfOk result (λ fault. (fault ≡ None) × (self.new ≡ set_made target value self.old)) }
+        ensures err { OnErr result (self.new ≡ self.old) }
+        ensures code { self.new.code ≡ self.old.code }
+        ensures limit { self.new.limit ≡ self.old.limit }
+        ensures may { (gone : Bytes) (input : Input) → MayCome R.may_give self.new gone input ↔ MayCome R.may_give self.old gone input }
+        ensures stood { (input : Input) → Stood self.old input → Stood self.new input }
+    {
+        let _consumed = self.tape.consumed();
+        let kept = value.copy(alloc)?;
+        self.sets.reserve(1)?;
+        let number = global_of(target);
+        write_global(alloc, &mut self.store, &mut self.here, number, kept)?;
+        self.sets.push(SetAt {
+            point: self.point,
+            target,
+            value,
+        })?;
+        self.last = Last::Nothing;
+        Ok(None)
     }
 }
 
@@ -216,10 +311,11 @@ impl<R: Source + Drop, K: Keeper> Machine<R, K> {
     }
 }
 
-impl<R: Source + Drop, K: Keeper> Machine<R, K> {
+impl<R: Source + Drop> Machine<R, Off> {
     /// Gives the output that was not given yet into a buffer, whose room is used for the next output: a step so costs no
     /// allocation. What the buffer held is dropped. It takes no memory.
     pub fn give_into(&mut self, buffer: &mut Vec<u8>)
+        requires { self.old.unset ≡ [] }
         ensures given { buffer.new.items ≡ self.old.state.output }
         ensures rest { self.new ≡ record self.old { state = record self.old.state { output = [] } } }
         ensures may { (gone : Bytes) (input : Input) → MayCome R.may_give self.new gone input ↔ MayCome R.may_give self.old gone input }
@@ -230,6 +326,7 @@ impl<R: Source + Drop, K: Keeper> Machine<R, K> {
 
     /// The output that was not given yet, moved out. It takes no memory.
     pub fn give(&mut self, alloc: Global) -> Vec<u8>
+        requires { self.old.unset ≡ [] }
         ensures given { result.items ≡ self.old.state.output }
         ensures rest { self.new ≡ record self.old { state = record self.old.state { output = [] } } }
         ensures may { (gone : Bytes) (input : Input) → MayCome R.may_give self.new gone input ↔ MayCome R.may_give self.old gone input }
@@ -241,9 +338,10 @@ impl<R: Source + Drop, K: Keeper> Machine<R, K> {
     }
 }
 
-impl<R: Source + Drop, K: Keeper> Machine<R, K> {
+impl<R: Source + Drop> Machine<R, Off> {
     /// Lets consumed bytes go, as `drop_consumed` does.
     fn drop_front(&mut self) -> usize
+        requires { self.old.unset ≡ [] }
         ensures dropped { self.new ≡ dropped result self.old }
         ensures within { result ≤ length self.old.tape.bytes }
         ensures consumed { result ≤ self.old.state.consumed }
@@ -259,6 +357,7 @@ impl<R: Source + Drop, K: Keeper> Machine<R, K> {
     /// Lets consumed bytes of the input go, once they are half of those kept, and answers how many. Each byte is so moved once on
     /// average. It takes no memory.
     pub fn drop_consumed(&mut self) -> usize
+        requires { self.old.unset ≡ [] }
         ensures dropped { self.new ≡ dropped result self.old }
         ensures fewer { 2 * self.new.tape.consumed ≤ length self.new.tape.bytes }
         ensures may { (gone : Bytes) (input : Input) → MayCome R.may_give self.new (gone ++ take result self.old.tape.bytes) input ↔ MayCome R.may_give self.old gone input }

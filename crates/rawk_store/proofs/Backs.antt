@@ -1,10 +1,10 @@
 use Rattle.std.proofs.Common.{◌≡◌, ◌≢◌, ℕ, ◌+◌, ◌-◌, ◌<◌, ◌≤◌, suc, zero, List, [], ◌∷◌, ◌++◌, ◌⊎◌, inl, inr, length, get_or, set, take, drop, slice_get, Some, refl, sym, ap, ◌∙◌, arith, get_or-set_other, get_or-set_same, IsTrue, ◌↔◌, nat_eq, nat_lt}
 use Rattle.std.proofs.lemmas.Bool.Decides.{Decides-eqb, Decides-ltb}
-use Rattle.std.proofs.lemmas.List.{get_or-take, get_or_push, get_or_append_left, set-set, set_comm, set-get_or, length-set, drop_more, length_push, take-take}
+use Rattle.std.proofs.lemmas.List.{get_or-take, get_or_push, get_or_append_left, set-set, set_comm, set-get_or, length-set, drop_more, length_push, take-take, drop-set}
 use Rattle.std.proofs.lemmas.Bool.{cases_eq, cases_lt}
 use Rattle.std.proofs.lemmas.Option.{none-some, same_Some, slice_get_within, slice_get-get_or, get_or_from_slice_get}
 use Rattle.rawk_store.specs.declared.saved.Saved.{Saved}
-use Rattle.rawk_store.specs.Growth.{AreBelow-more}
+use Rattle.rawk_store.specs.Growth.{AreBelow-more, length-back}
 use Rattle.rawk_store.specs.Back.{back, AreBelow, IsSavedAt, IsJournal, places, HasDistinctPlaces}
 
 -- the newest is put back first
@@ -137,3 +137,73 @@ back_next {T} xs items es i e x p le h q y =
 
 pub take_less : {T : Type 0} (xs ys : List T) (i j : ℕ) → j ≤ i → take i xs ≡ take i ys → take j xs ≡ take j ys
 take_less xs ys i j le h = sym (take-take j i xs le) ∙ (ap (take j) h ∙ take-take j i ys le)
+
+get_drop : {T : Type 0} (i k : ℕ) (xs : List T) → slice_get (drop i xs) k ≡ slice_get xs (i + k)
+get_drop zero k xs = let e : k ≡ 0 + k = omega arith in ap (slice_get xs) e
+get_drop (suc i) k [] = refl
+get_drop (suc i) k (x ∷ xs) = let e : suc (i + k) ≡ suc i + k = omega arith in get_drop i k xs ∙ ap (slice_get (x ∷ xs)) e
+
+-- what stands at a place that is not saved
+back_other : {T : Type 0} (xs : List T) (es : List (Saved T)) (p : ℕ) (d : T) → ((k : ℕ) (e : Saved T) → slice_get es k ≡ Some e → p ≢ e.place) → get_or (back xs es) p d ≡ get_or xs p d
+back_other xs [] p d ne = refl
+back_other xs (e ∷ es) p d ne = get_or-set_other (back xs es) e.place p e.old d (ne 0 e refl) ∙ back_other xs es p d (λ k f h. ne (suc k) f h)
+
+place_at : {T : Type 0} (xs : List (Saved T)) (i : ℕ) (e : Saved T) → slice_get xs i ≡ Some e → (i < length (places xs)) × (get_or (places xs) i 0 ≡ e.place)
+place_at [] i e h = absurd (cc h)
+place_at (x ∷ xs) zero e h = (omega arith, ap (λ d. d.place) (same_Some _ _ h))
+place_at (x ∷ xs) (suc i) e h = let r = place_at xs i e h in (omega (arith, r.0), r.1)
+
+-- one turn of the loop that puts back: the entries lead forward again
+pub newer_next : {T : Type 0} (xs items : List T) (es saved : List (Saved T)) (i : ℕ) (e y : Saved T) (v d : T) → 0 < i → i ≤ length es → i ≤ length saved → HasDistinctPlaces es → e ≡ get_or es (i - 1) e →
+    items ≡ back xs (drop i es) → back items (drop i saved) ≡ xs → y.place ≡ e.place → y.old ≡ get_or items e.place d → back (set items e.place v) (drop (i - 1) (set saved (i - 1) y)) ≡ xs
+newer_next {T} xs items es saved i e y v d pos le le2 distinct is done newer same old =
+    let p = e.place in
+    let w = y.old in
+    let n : i - 1 + 1 ≡ i = omega arith in
+    let here : slice_get es (i - 1) ≡ Some e = slice_get-get_or es (i - 1) e (omega arith) ∙ ap (λ (x : Saved T). Some x) (sym is) in
+    let other : (k : ℕ) (f : Saved T) → slice_get (drop i es) k ≡ Some f → p ≢ f.place = λ k f h eq.
+    let a = place_at es (i - 1) e here in
+    let b = place_at es (i + k) f (sym (get_drop i k es) ∙ h) in
+    let q : i - 1 ≡ i + k = distinct (i - 1) (i + k) a.0 b.0 (a.1 ∙ (eq ∙ sym b.1)) in
+    omega (arith, q) in
+    let stays : get_or items p d ≡ get_or xs p d = ap (λ (zs : List T). get_or zs p d) done ∙ back_other xs (drop i es) p d other in
+    ap (back (set items p v)) (drop-set saved (i - 1) y (omega arith) ∙ ap (λ k. y ∷ drop k saved) n)
+    ∙ (ap (λ k. set (back (set items p v) (drop i saved)) k w) same
+    ∙ (back_under items (drop i saved) p v w
+    ∙ (ap (λ (zs : List T). set zs p w) newer
+    ∙ (ap (λ (x : T). set xs p x) (old ∙ stays)
+    ∙ set-get_or xs p d))))
+
+get_set_other : {T : Type 0} (ys : List T) (i p : ℕ) (v : T) → p ≢ i → slice_get (set ys i v) p ≡ slice_get ys p
+get_set_other [] i p v ne = refl
+get_set_other (y ∷ ys) zero zero v ne = absurd (ne refl)
+get_set_other (y ∷ ys) zero (suc p) v ne = refl
+get_set_other (y ∷ ys) (suc i) zero v ne = refl
+get_set_other (y ∷ ys) (suc i) (suc p) v ne = get_set_other ys i p v (λ e. ne (ap suc e))
+
+get_set_same : {T : Type 0} (ys : List T) (p : ℕ) (v : T) → p < length ys → slice_get (set ys p v) p ≡ Some v
+get_set_same [] p v h = absurd (omega arith)
+get_set_same (y ∷ ys) zero v h = refl
+get_set_same (y ∷ ys) (suc p) v h = get_set_same ys p v (omega arith)
+
+-- what stands at a saved place
+pub back_found : {T : Type 0} (xs : List T) (es : List (Saved T)) (i : ℕ) (e : Saved T) (p : ℕ) → slice_get es i ≡ Some e → e.place ≡ p → p < length xs → ((k : ℕ) (f : Saved T) → k < i → slice_get es k ≡ Some f → p ≢ f.place) → slice_get (back xs es) p ≡ Some e.old
+back_found xs [] i e p h is lt ne = absurd (none-some e h)
+back_found {T} xs (x ∷ es) zero e p h is lt ne =
+    let same : x ≡ e = same_Some _ _ h in
+    ap (λ (d : Saved T). slice_get (set (back xs es) d.place d.old) p) same ∙ ap (λ k. slice_get (set (back xs es) k e.old) p) is ∙ get_set_same (back xs es) p e.old (omega (arith, length-back xs es))
+back_found xs (x ∷ es) (suc i) e p h is lt ne = get_set_other (back xs es) x.place p x.old (ne 0 x (omega arith) refl) ∙ back_found xs es i e p h is lt (λ k f le q. ne (suc k) f (omega (arith, le)) q)
+
+pub back_missing : {T : Type 0} (xs : List T) (es : List (Saved T)) (p : ℕ) → ((k : ℕ) (f : Saved T) → slice_get es k ≡ Some f → p ≢ f.place) → slice_get (back xs es) p ≡ slice_get xs p
+back_missing xs [] p ne = refl
+back_missing xs (x ∷ es) p ne = get_set_other (back xs es) x.place p x.old (ne 0 x refl) ∙ back_missing xs es p (λ k f q. ne (suc k) f q)
+
+-- no entry up to the next is of the place
+pub none_next : {T : Type 0} (es : List (Saved T)) (i p : ℕ) (e : Saved T) → slice_get es i ≡ Some e → (e.place ≡ p → ⊥) → ((k : ℕ) (f : Saved T) → k < i → slice_get es k ≡ Some f → p ≢ f.place) → (k : ℕ) (f : Saved T) → k < i + 1 → slice_get es k ≡ Some f → p ≢ f.place
+none_next {T} es i p e is ne before k f lt h = elim (cases_eq k i) [
+  | inl s ↦
+      let there : slice_get es i ≡ Some f = ap (slice_get es) (sym s) ∙ h in
+      let same : e ≡ f = same_Some _ _ (sym is ∙ there) in
+      λ q. ne (ap (λ (d : Saved T). d.place) same ∙ sym q)
+  | inr d ↦ before k f (omega (arith, lt, d)) h
+]

@@ -1,5 +1,2 @@
 pub mod Backs
 pub mod Stacks
-pub mod Cuts
-pub mod Values
-pub mod Masks

@@ -3,7 +3,7 @@ use Rattle.std.specs.Prelude.{◌≤◌, length, take}
 use Rattle.rawk_store.specs.declared.store.Group.{Group}
 use Rattle.rawk_store.specs.Back.{back, AreBelow}
 use Rattle.rawk_store.specs.StackBack.{FitsStack, stack_back}
-use Rattle.rawk_store.specs.Shown.{record_back}
+use Rattle.rawk_record.specs.Shown.{record_back}
 use Rattle.rawk_store.specs.Layout.{Layout}
 
 -- the layout with what the group saved put back

@@ -1,16 +1,11 @@
-pub mod Fields
 pub mod State
 pub mod Journaled
 pub mod Back
 pub mod Stacked
 pub mod StackBack
 pub mod LiveStack
-pub mod Pieces
-pub mod Shown
-pub mod FieldRefs
 pub mod Layout
 pub mod Stores
 pub mod GroupBack
 pub mod Keeping
 pub mod Growth
-pub mod Masks

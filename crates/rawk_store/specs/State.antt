@@ -8,7 +8,9 @@ use Rattle.rawk_value.specs.declared.value.Value.TheVariants.{Uninitialized, Num
 use Rattle.rawk_value.specs.declared.fault.Fault.{Fault}
 use Rattle.rawk_value.specs.declared.fault.Fault.TheVariants.{FieldNumber}
 use Rattle.rawk_value.specs.Values.{Bytes, next_ok, is_empty, text_of}
-use Rattle.rawk_store.specs.Fields.{fields_of}
+use Rattle.rawk_record.specs.Fields.{fields_of}
+use Rattle.rawk_store.specs.declared.target.Target as target
+use Rattle.rawk_store.specs.declared.target.Target.TheVariants.{Global}
 
 -- the elements of an array, in byte order of their keys
 abbrev pub Elements : Type 0
@@ -100,8 +102,8 @@ abbrev pub with_global : ℕ → Value → State → State
 with_global x v s = record s { globals = slice_set s.globals x v }
 
 -- a place whose subscripts and field number are settled
-pub data Target : Type 0 where
-  Global : ℕ → Target
+abbrev pub Target : Type 0
+Target = target.Target
 
 -- a field number, at most 1,000,000
 abbrev pub field_number : ℤ → Result ℕ Fault

@@ -3,7 +3,7 @@ use Rattle.std.specs.Prelude.{◌≡◌, []}
 use Rattle.rawk_store.specs.declared.store.Store.{Store}
 use Rattle.rawk_store.specs.declared.registers.Registers.{Registers}
 use Rattle.rawk_store.specs.Stacked.{no_operands}
-use Rattle.rawk_store.specs.Shown.{no_record}
+use Rattle.rawk_record.specs.Shown.{no_record}
 use Rattle.rawk_store.specs.Layout.{Layout}
 
 -- the parts as they are

@@ -3,11 +3,10 @@
 ghost use Rattle.std.specs.Prelude.{◌≡◌, ◌≢◌, ◌<◌, ◌-◌, ◌^◌, IfErr, OnOk, length, slice_get};
 ghost use Rattle.std.specs.Option.{option_map};
 ghost use Rattle.rawk_store.specs.Journaled.{at_rest};
-ghost use Rattle.rawk_store.specs.Shown.{no_record, read_as, record_back, split_record};
-ghost use Rattle.rawk_store.specs.FieldRefs.{ref_value};
+ghost use Rattle.rawk_record.specs.Shown.{no_record, read_as, record_back, split_record};
+ghost use Rattle.rawk_record.specs.FieldRefs.{ref_value};
 
-use crate::pieces::Separator;
-use crate::record::{FieldRef, Record};
+use rawk_record::{FieldRef, Record, Separator};
 use rawk_value::Fault;
 use std::alloc::{AllocError, Global};
 use std::marker::Model;
@@ -26,7 +25,7 @@ pub struct Current {
 impl Model for Current {
     ghost use Rattle.std.specs.Prelude.{if◌then◌else◌};
     ghost use Rattle.rawk_store.specs.Journaled.{Journaled};
-    ghost use Rattle.rawk_store.specs.Shown.{Shown};
+    ghost use Rattle.rawk_record.specs.Shown.{Shown};
 
     ghost Value = { Journaled Shown };
 
@@ -134,7 +133,8 @@ impl Current {
 
     /// Puts an earlier record back, and leaves the newer one in its place. It takes no memory and always succeeds.
     pub fn undo(&mut self, earlier: &mut Option<Record>)
-        ensures { self.new ≡ at_rest (record_back self.old.now earlier.old) }
+        ensures now { self.new ≡ at_rest (record_back self.old.now earlier.old) }
+        ensures newer { record_back self.new.now earlier.new ≡ self.old.now }
     {
         self.changed = false;
         if let Some(record) = earlier {

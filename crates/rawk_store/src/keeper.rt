@@ -6,7 +6,7 @@ ghost use Rattle.rawk_store.specs.Keeping.{IsFront, keeps_any, room};
 ghost use Rattle.rawk_store.specs.declared.keeper.Kept.{Kept};
 
 use crate::store::Group;
-use std::alloc::AllocFailed;
+use std::alloc::{AllocFailed, Global};
 
 /// What a step changed, and what each set changed that was made at the point that the step left, in their order.
 #[derive(Drop)]
@@ -36,6 +36,10 @@ pub trait Keeper: Drop {
         ensures back { IfErr result (λ e. e.value ≡ item) }
         ensures limit { limit self.new ≡ limit self.old };
 
+    /// The newest step that it kept, if it keeps one. It takes no memory.
+    fn newest(&self) -> Option<&Kept>
+        ensures { MatchOption result (kept self.now ≡ []) (λ item. (rest : List Kept) × (kept self.now ≡ item.now ∷ rest)) };
+
     /// Gives back the newest step that it kept, if it keeps one. It takes no memory.
     fn take(&mut self) -> Option<Kept>
         ensures taken { MatchOption result ((kept self.old ≡ []) × (kept self.new ≡ [])) (λ item. kept self.old ≡ item ∷ kept self.new) }
@@ -61,7 +65,55 @@ impl Keeper for Off {
         Ok(())
     }
 
+    fn newest(&self) -> Option<&Kept> {
+        None
+    }
+
     fn take(&mut self) -> Option<Kept> {
         None
+    }
+}
+
+/// Keeps every step.
+#[derive(Drop)]
+pub struct Full {
+    items: Vec<Kept>,
+}
+
+impl Full {
+    /// No step. It takes no memory.
+    pub fn new(alloc: Global) -> Self
+        ensures { result.items.items ≡ [] }
+    {
+        Full {
+            items: Vec::new(alloc),
+        }
+    }
+}
+
+impl Keeper for Full {
+    ghost use Rattle.std.specs.Prelude.{reverse, None};
+
+    ghost kept = { λ f. reverse f.items.items };
+
+    ghost limit = { λ _. None };
+
+    fn keeps(&self) -> bool {
+        true
+    }
+
+    fn keep(&mut self, item: Kept) -> Result<(), AllocFailed<Kept>> {
+        match self.items.push(item) {
+            Ok(()) => Ok(()),
+            Err(refused) => Err(refused),
+        }
+    }
+
+    fn newest(&self) -> Option<&Kept> {
+        self.items.last()
+    }
+
+    fn take(&mut self) -> Option<Kept> {
+        self.items.pop()
     }
 }

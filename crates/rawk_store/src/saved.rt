@@ -1,7 +1,7 @@
 //! Old values, each with its place.
 
 ghost use Rattle.std.specs.Prelude.{◌≡◌, ◌<◌, ◌↔◌, IsTrue, length, map, slice_index};
-ghost use Rattle.rawk_store.specs.Back.{back, AreBelow, IsSavedAt, places};
+ghost use Rattle.rawk_store.specs.Back.{back, AreBelow, HasDistinctPlaces, IsSavedAt, places};
 
 use std::mem;
 
@@ -14,9 +14,11 @@ pub struct Saved<T> {
 
 /// Puts each old value back, the newest first, and leaves in the list what stood there. It takes no memory.
 pub(crate) fn swap_back<T>(items: &mut Vec<T>, saved: &mut Vec<Saved<T>>)
-    requires { AreBelow (length items.old.items) saved.old.items }
+    requires below { AreBelow (length items.old.items) saved.old.items }
+    requires distinct { HasDistinctPlaces saved.old.items }
     ensures items { items.new.items ≡ back items.old.items saved.old.items }
     ensures places { places saved.new.items ≡ places saved.old.items }
+    ensures newer { back items.new.items saved.new.items ≡ items.old.items }
 {
     let mut i = saved.len();
     while i > 0 {

@@ -149,7 +149,8 @@ impl<T: Drop> Slots<T> {
     /// Puts back what a step that ended changed, and leaves the newer values in the group. It takes no memory and always succeeds.
     pub fn undo(&mut self, group: &mut SlotGroup<T>)
         requires { AreBelow (length self.old.now) group.old.entries.items }
-        ensures { self.new ≡ at_rest (back self.old.now group.old.entries.items) }
+        ensures now { self.new ≡ at_rest (back self.old.now group.old.entries.items) }
+        ensures newer { back self.new.now group.new.entries.items ≡ self.old.now }
     {
         self.saved.clear();
         swap_back(&mut self.items, &mut group.entries);

@@ -1,6 +1,8 @@
 //! The state of a run, beside what it was when the step began.
 
 ghost use Rattle.std.specs.Prelude.{◌≡◌};
+ghost use Rattle.rawk_record.specs.Shown.{record_back};
+ghost use Rattle.rawk_store.specs.Back.{back};
 ghost use Rattle.rawk_store.specs.Stores.{IsNew, now_of, start_of};
 ghost use Rattle.rawk_store.specs.GroupBack.{FitsIn, put_back};
 ghost use Rattle.rawk_store.specs.Stacked.{IsLive};
@@ -8,10 +10,10 @@ ghost use Rattle.rawk_store.specs.Stacked.{IsLive};
 use crate::current::Current;
 use crate::operands::{Operands, OperandsGroup};
 use crate::output::Output;
-use crate::record::Record;
 use crate::registers::{Bank, Registers};
 use crate::slot_group::SlotGroup;
 use crate::slots::Slots;
+use rawk_record::Record;
 use rawk_value::Value;
 use std::alloc::Global;
 
@@ -101,6 +103,8 @@ impl Store {
         requires { FitsIn group.old (now_of self.old) }
         ensures now { now_of self.new ≡ put_back (now_of self.old) group.old }
         ensures rest { start_of self.new ≡ now_of self.new }
+        ensures newer_globals { back self.new.globals.now group.new.globals.entries.items ≡ self.old.globals.now }
+        ensures newer_record { record_back self.new.current.now group.new.current ≡ self.old.current.now }
     {
         self.globals.undo(&mut group.globals);
         self.operands.undo(&mut group.operands);

@@ -3,6 +3,8 @@
 
 pub mod invocation;
 pub mod options;
+#[cfg(test)]
+mod tests;
 
 pub use invocation::{Invocation, S, Text};
 pub use options::settings_of;

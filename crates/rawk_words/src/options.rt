@@ -1,6 +1,7 @@
 //! The options and operands (POSIX awk, Options and Operands).
+ghost use Rattle.std.specs.Prelude.{◌≤◌, ◌≡◌, ◌≢◌, Some, IfOk, IfSome, None, is_some, true, false};
 
-use crate::invocation::{Invocation, MAX_STEPS, S, Text};
+use crate::invocation::{Invocation, MAX_HISTORY, MAX_STEPS, S, SESSION_STEPS, Text};
 use clap::builder::ValueRange;
 use clap::error::ErrorKind;
 use clap::{Arg, ArgAction, ArgMatches, Command, value_parser};
@@ -10,7 +11,8 @@ use std::alloc::{AllocError, Global};
 /// What the words after the program's name ask for.
 ///
 /// The order of refusals: S3 for words that the options do not take, then S2 for operands that are too few, too many
-/// or `NAME=..` in the place of the file. S5 where memory is refused. `--help` answers `S::Help` with its text.
+/// or `NAME=..` in the place of the file, and for the standard input as the commands and the input both. S5 where memory
+/// is refused. `--help` answers `S::Help` with its text.
 pub fn settings_of(alloc: Global, words: &[String]) -> Result<Invocation, S> {
     let mut given: Vec<&str> = Vec::new(alloc);
     for word in words {
@@ -34,13 +36,28 @@ fn refusal_of(alloc: Global, error: &clap::Error) -> S {
     }
 }
 
-/// The options and operands.
+/// The options and operands. The value of an option may begin with `-`.
 fn command<'a>(alloc: Global) -> Result<Command<'a>, AllocError> {
+    let debug = Arg::new(alloc, "debug")
+        .long("debug")
+        .value_name("FILE")
+        .help(
+            "Debugs the program by the commands of a file; - is the standard input, if the input is a file",
+        )
+        .allow_hyphen_values(true);
     let steps = Arg::new(alloc, "steps")
         .long("steps")
         .value_name("N")
-        .help("Ends the program after so many steps")
+        .help("Ends the program after so many steps; with --debug, 1000000 if not given")
         .value_parser(value_parser!(u64).range(0..=i64::MAX))
+        .allow_hyphen_values(true);
+    let history = Arg::new(alloc, "history")
+        .long("history")
+        .value_name("H")
+        .help(
+            "With --debug, keeps the last H steps to go back over, from 1 to 1000000; all if not given",
+        )
+        .value_parser(value_parser!(u64).range(1..=1_000_000))
         .allow_hyphen_values(true);
     let operands = Arg::new(alloc, "operands")
         .value_name("OPERAND")
@@ -50,7 +67,9 @@ fn command<'a>(alloc: Global) -> Result<Command<'a>, AllocError> {
     Command::new(alloc, "rawk")
         .no_binary_name(true)
         .override_usage("rawk [OPTIONS] PROGRAM [FILE]")
+        .arg(debug)?
         .arg(steps)?
+        .arg(history)?
         .arg(operands)
 }
 
@@ -65,13 +84,55 @@ fn invocation_of(alloc: Global, matches: &ArgMatches<'_>) -> Result<Invocation, 
         [path] if !is_assignment(path) => Text::Path(path.to_string(alloc)?),
         _ => return Err(S::BadOperands),
     };
-    let steps = matches.get_one::<u64>("steps").unwrap_or(MAX_STEPS);
+    let commands = commands_of(alloc, matches.get_str("debug"), &input)?;
+    let steps = steps_of(matches.get_one::<u64>("steps"), commands.is_some());
     Ok(Invocation {
         settings: Settings::new(alloc),
         program,
         input,
-        steps: steps.min(MAX_STEPS),
+        commands,
+        steps,
+        history: history_of(matches.get_one::<u64>("history")),
     })
+}
+
+/// The commands that the value of `--debug` names, beside this input: S2 where both were the standard input.
+fn commands_of(alloc: Global, value: Option<&str>, input: &Text) -> Result<Option<Text>, S>
+    ensures read_once { IfOk result (λ commands. commands ≡ Some Text.StandardInput → input.now ≢ Text.StandardInput) }
+    ensures session { IfOk result (λ commands. is_some commands ≡ is_some value.entry) }
+{
+    match (value, input) {
+        (None, _) => Ok(None),
+        (Some("-"), Text::StandardInput) => Err(S::BadOperands),
+        (Some("-"), _) => Ok(Some(Text::StandardInput)),
+        (Some(path), _) => Ok(Some(Text::Path(path.to_string(alloc)?))),
+    }
+}
+
+/// The number of steps: the value of `--steps`, else the greatest in a run, and a million in a session.
+fn steps_of(value: Option<u64>, is_session: bool) -> u64
+    ensures in_range { result ≤ 9223372036854775807 }
+    ensures given { IfSome value (λ n. n ≤ 9223372036854775807 → result ≡ n) }
+    ensures run { value ≡ None → is_session ≡ false → result ≡ 9223372036854775807 }
+    ensures session { value ≡ None → is_session ≡ true → result ≡ 1000000 }
+{
+    match value {
+        Some(steps) => steps.min(MAX_STEPS),
+        None if is_session => SESSION_STEPS,
+        None => MAX_STEPS,
+    }
+}
+
+/// The number of steps that a session keeps: the value of `--history`.
+fn history_of(value: Option<u64>) -> Option<u64>
+    ensures in_range { IfSome result (λ h. (1 ≤ h) × (h ≤ 1000000)) }
+    ensures none { value ≡ None → result ≡ None }
+    ensures given { IfSome value (λ h. 1 ≤ h → h ≤ 1000000 → result ≡ Some h) }
+{
+    match value {
+        Some(steps) => Some(steps.clamp(1, MAX_HISTORY)),
+        None => None,
+    }
 }
 
 /// Whether an operand has the form `NAME=..`.

@@ -79,6 +79,14 @@ steps-preserved g c =
     (λ input gone told h. subst (λ (o : Bytes). IsAt given input gone (told ++ o)) c.give_into.ensures.given (c.give_into.ensures.stands input gone told h)) c.in-Ok.ensures.ok (λ gone input. (c.drop_consumed.ensures.may gone input).0) (λ gone input. (c.drop_consumed.ensures.may gone input).1) (λ input gone told. (c.drop_consumed.ensures.stands input gone told).1) in
     let going : n.ending ≡ None = goes_on c.args.lines.now n.ending n.state.status c.step-step.result c.site-site.result c.point-in-steps.result c.step-step.ensures.answer (sym c.told.ensures ∙ c.in_default.is) in (
       advanced g.R.Source.may_give g.W.Sink.may_hold start c.args.sink.now n last c.write_all.new.sink so
-          (record { code = c.advance.ensures.code; settings = c.advance.ensures.settings; sets = c.advance.ensures.sets; steps = c.advance.ensures.steps }) (c.in-Ok-advance.ensures.moves going) c.advance.ensures.may c.advance.ensures.still c.advance.ensures.stands,
+          (record { code = c.advance.ensures.code; settings = c.advance.ensures.settings; sets = c.advance.ensures.sets; steps = c.advance.ensures.steps }) (c.in-Ok-advance.ensures.moves going).point c.advance.ensures.may c.advance.ensures.still c.advance.ensures.stands,
       search rules,
+      (c.in-Ok-advance.ensures.moves going).unset,
     )
+
+-- nothing is set in a run
+pub give_into-requires : goal.give_into-requires
+give_into-requires g c = c.steps.invariant.2
+
+pub drop_consumed-requires : goal.drop_consumed-requires
+drop_consumed-requires g c = ap (λ (x : Standing g.row.R.Denot). x.unset) c.give_into.ensures.rest ∙ c.steps.invariant.2

@@ -1,4 +1,4 @@
-use Rattle.std.proofs.Common.{◌-◌}
+use Rattle.std.proofs.Common.{◌≡◌, ◌-◌, []}
 use Rattle.rawk_tape.specs.Inputs.{CountsUp}
 use Rattle.rawk.proofs.SoFar.{SoFar}
 use Rattle.rawk.proofs.running.run_machine.Given as goal
@@ -8,6 +8,7 @@ abbrev pub invariant-steps : goal.invariant-steps
 invariant-steps g l =
     SoFar g.R.Source.may_give g.W.Sink.may_hold l.fn.machine l.fn.sink l.machine l.sink
     × CountsUp (g.W.Sink.failures l.fn.sink) (g.W.Sink.failures l.sink) 0
+    × (l.machine.unset ≡ [])
 
 abbrev pub decreases-steps : goal.decreases-steps
 decreases-steps g l = l.machine.steps - l.machine.point

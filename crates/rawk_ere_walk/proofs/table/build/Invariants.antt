@@ -3,4 +3,4 @@ use Rattle.rawk_ere_walk.specs.Table.{AreFilled, AreStarts}
 use Rattle.rawk_ere_walk.proofs.table.build.Given as goal
 
 abbrev pub invariant-loop-row : goal.invariant-loop-row
-invariant-loop-row l = (length l.next.items ≡ 256 * l.row) × (l.row ≤ length l.sets.items) × AreFilled l.code l.sets.items l.next.items × AreStarts l.code l.sets.items l.start l.later
+invariant-loop-row l = (length l.rows.items ≡ 256 * l.row) × (l.row ≤ length l.sets.items) × AreFilled l.code l.sets.items l.rows.items × AreStarts l.code l.sets.items l.start l.later

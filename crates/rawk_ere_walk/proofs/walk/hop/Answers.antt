@@ -1,7 +1,7 @@
 use Rattle.std.proofs.Common.{sym, ◌∙◌, subst}
-use Rattle.rawk_ere_walk.specs.declared.code.Instruction.{Instruction}
+use Rattle.rawk_ere_code.specs.declared.code.Instruction.{Instruction}
 use Rattle.std.specs.Prelude.{IsTrue}
-use Rattle.rawk_ere_walk.specs.Code.{Hops}
+use Rattle.rawk_ere_code.specs.Code.{Hops}
 use Rattle.rawk_ere_walk.specs.Sets.{Adds}
 use Rattle.rawk_ere_walk.proofs.SetLemmas.{adds_both, adds_where}
 use Rattle.rawk_ere_walk.proofs.walk.hop.Goals as goal

@@ -1,5 +1,5 @@
 use Rattle.std.proofs.Common.{length, ℕ, List, ◌≡◌, ◌+◌, ◌∙◌, rules, ap, subst}
-use Rattle.rawk_ere_walk.specs.Ends.{IsLast}
+use Rattle.rawk_ere_code.specs.Ends.{IsLast}
 use Rattle.rawk_ere_walk.specs.Sets.{Closes}
 use Rattle.rawk_ere_walk.proofs.WalkLemmas.{reached_first, closes_where}
 use Rattle.rawk_ere_walk.proofs.walk.start.Goals as goal

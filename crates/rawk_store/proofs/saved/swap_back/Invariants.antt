@@ -9,6 +9,7 @@ invariant-loop-i g l = record {
   left : take l.i l.saved.items ≡ take l.i l.fn.saved.items;
   same_places : places l.saved.items ≡ places l.fn.saved.items;
   done : l.items.items ≡ back l.fn.items.items (drop l.i l.fn.saved.items);
+  newer : back l.items.items (drop l.i l.saved.items) ≡ l.fn.items.items;
 }
 
 abbrev pub decreases-loop-i : goal.decreases-loop-i

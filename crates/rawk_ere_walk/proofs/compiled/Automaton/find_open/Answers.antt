@@ -1,6 +1,6 @@
 use Rattle.std.proofs.Common.{◌≡◌, ℕ, Some, ap, ◌∙◌}
-use Rattle.rawk_ere_walk.specs.Code.{code_of}
-use Rattle.rawk_ere_walk.specs.Open.{IsOpenMatch, IsSettled}
+use Rattle.rawk_ere_code.specs.Code.{code_of}
+use Rattle.rawk_ere_code.specs.Open.{IsOpenMatch, IsSettled}
 use Rattle.rawk_ere_walk.specs.Search.{IsFirstOpen}
 use Rattle.rawk_ere_walk.proofs.EreLemmas.{open_from_first, settled_from_first, if_ok_where}
 use Rattle.rawk_ere_walk.proofs.compiled.Automaton.find_open.Goals as goal

@@ -1,5 +1,5 @@
 use Rattle.std.proofs.Common.{true, ap, ◌∙◌}
-use Rattle.rawk_ere_walk.specs.Code.{code_of}
+use Rattle.rawk_ere_code.specs.Code.{code_of}
 use Rattle.rawk_ere_walk.proofs.EreLemmas.{longest_from_farthest}
 use Rattle.rawk_ere_walk.proofs.SearchLemmas.{way_between}
 use Rattle.rawk_ere_walk.proofs.compiled.Automaton.longest_at.Goals as goal
@@ -9,10 +9,10 @@ returns-clause-is c =
     let is = c.deref-2.ensures.value ∙ c.self.invariant.0 ∙ ap code_of c.self.view_is in
     longest_from_farthest c.deref-2.result.now c.args.text.now c.args.self.now c.args.from c.in_ok-walked.walked.longest is c.in_ok-walked.ensures.farthest
 
-pub returns-then-from-text-clause-is : goal.returns-then-from-text-clause-is
-returns-then-from-text-clause-is c =
+pub returns-then-text-gt0-clause-is : goal.returns-then-text-gt0-clause-is
+returns-then-text-gt0-clause-is c =
     let is = c.deref.ensures.value ∙ c.self.invariant.0 ∙ ap code_of c.self.view_is in
-    longest_from_farthest c.deref.result.now c.args.text.now c.args.self.now c.args.from c.run.result is c.run.ensures
+    longest_from_farthest c.deref.result.now c.args.text.now c.args.self.now c.args.from c.run-ran.result.longest is c.run-ran.ensures.farthest
 
-pub returns-then-from-text-clause-within : goal.returns-then-from-text-clause-within
-returns-then-from-text-clause-within c = way_between c.deref.result.now c.args.text.now true c.args.from c.run.result c.requires c.run.ensures
+pub returns-then-text-gt0-clause-within : goal.returns-then-text-gt0-clause-within
+returns-then-text-gt0-clause-within c = way_between c.deref.result.now c.args.text.now true c.args.from c.run-ran.result.longest c.requires c.run-ran.ensures.farthest

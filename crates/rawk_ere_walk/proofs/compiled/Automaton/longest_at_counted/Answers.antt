@@ -1,5 +1,5 @@
 use Rattle.std.proofs.Common.{◌+◌, ◌-◌, ◌*◌, ◌≤◌, length, ap, subst, ◌∙◌}
-use Rattle.rawk_ere_walk.specs.Code.{code_of}
+use Rattle.rawk_ere_code.specs.Code.{code_of}
 use Rattle.rawk_ere_walk.proofs.EreLemmas.{longest_from_farthest}
 use Rattle.rawk_ere_walk.proofs.compiled.Automaton.longest_at_counted.Goals as goal
 

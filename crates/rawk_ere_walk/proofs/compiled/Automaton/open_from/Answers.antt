@@ -1,6 +1,6 @@
 use Rattle.std.proofs.Common.{ap, ◌∙◌}
-use Rattle.rawk_ere_walk.specs.Code.{code_of}
-use Rattle.rawk_ere_walk.specs.Open.{IsOpenFrom}
+use Rattle.rawk_ere_code.specs.Code.{code_of}
+use Rattle.rawk_ere_code.specs.Open.{IsOpenFrom}
 use Rattle.rawk_ere_walk.specs.Search.{IsOpenStart}
 use Rattle.rawk_ere_walk.proofs.EreLemmas.{open_from_start, if_ok_where}
 use Rattle.rawk_ere_walk.proofs.compiled.Automaton.open_from.Goals as goal

@@ -1,5 +1,5 @@
 use Rattle.std.proofs.Common.{length, ap, arith, ◌∙◌}
-use Rattle.rawk_ere_walk.specs.Code.{code_of}
+use Rattle.rawk_ere_code.specs.Code.{code_of}
 use Rattle.rawk_ere_walk.proofs.SizeLemmas.{code_short}
 use Rattle.rawk_ere_walk.proofs.compiled.Automaton.states.Goals as goal
 

@@ -1,25 +1,179 @@
-use Rattle.std.proofs.Common.{◌+◌, sym, subst}
+use Rattle.std.proofs.Common.{◌≡◌, ℕ, ◌+◌, ◌≤◌, List, [], length, reverse, refl, sym, ap, ◌∙◌, subst, arith, Option, None}
+use Rattle.rawk_store.specs.declared.store.Group.{Group}
+use Rattle.rawk_store.specs.declared.keeper.Kept.{Kept}
+use Rattle.rawk_store.specs.declared.registers.Registers.{Registers}
+use Rattle.rawk_store.specs.Layout.{Layout}
+use Rattle.rawk_store.specs.Growth.{registers-grown}
 use Rattle.rawk_store.specs.Stores.{now_of}
-use Rattle.rawk_machine.specs.Standing.{Standing, IsAt}
-use Rattle.rawk_machine.specs.Stood.{standing_of}
-use Rattle.rawk_machine.proofs.Stands.{at_step, come_some}
+use Rattle.rawk_machine.specs.declared.last.Last.TheVariants.{On}
+use Rattle.rawk_travel.specs.Moving.{ending_of}
+use Rattle.std.specs.Option.{option_map}
+use Rattle.rawk_machine.specs.Standing.{Standing, Moment, Past, IsAt, MovesOn, ground_of, moment_of}
+use Rattle.rawk_machine.specs.Kept.{IsPlaced, moment_in, unsets, pasts, before_of, Chain, Few}
+use Rattle.rawk_machine.specs.Stood.{standing_of, IsBelow}
+use Rattle.rawk_machine.specs.Arrival.{ends_quietly, EndsByRead}
+use Rattle.rawk_machine.proofs.SetLists.{none_at, ends_below}
+use Rattle.rawk_machine.proofs.Chains.{ends_with, fit_here, chain-grown, chain-size, moment-grown, unsets-grown, pasts-grown}
+use Rattle.rawk_machine.proofs.Journals.{moved, few_moved}
+use Rattle.rawk_machine.proofs.Stands.{at_step, come_some, stood_step, stood_same}
+use Rattle.rawk_machine.proofs.Gives.{on_err}
 use Rattle.rawk_machine.proofs.machine.Machine.advance.Goals as goal
 
-pub returns-in_err-step-in-None-clause-still : goal.returns-in_err-step-in-None-clause-still
-returns-in_err-step-in-None-clause-still g c = λ gone.
-    let i = c.self.inside in
-    come_some g.R.Source.may_give (standing_of i.code i.settings i.steps i.point c.step.new.tape (now_of c.step.new.store) c.step.new.executed) gone g.met.R.Source.gives_some
+pub returns-in_err-journaled-in-None-clause-still : goal.returns-in_err-journaled-in-None-clause-still
+returns-in_err-journaled-in-None-clause-still g c = λ gone. come_some g.R.Source.may_give gone g.met.R.Source.gives_some
 
-pub returns-in_ok-step-in-None-clause-still : goal.returns-in_ok-step-in-None-clause-still
-returns-in_ok-step-in-None-clause-still g c = λ gone.
-    let i = c.self.inside in
-    come_some g.R.Source.may_give (standing_of i.code i.settings i.steps (i.point + 1) c.step.new.tape (now_of c.step.new.store) c.step.new.executed) gone g.met.R.Source.gives_some
-
-pub returns-in_ok-step-in-None-clause-stands : goal.returns-in_ok-step-in-None-clause-stands
-returns-in_ok-step-in-None-clause-stands g c = λ input gone told may at.
-    let i = c.self.inside in
-    at_step g.R.Source.may_give i.code i.settings i.steps i.point i.tape c.step.new.tape (now_of i.store) (now_of c.step.new.store) i.executed c.step.new.executed input gone told c.in-None.is (c.self.invariant.below c.in-None.is).0
-    c.in_ok-step-in-None.ensures.did may (subst (λ (m : Standing g.row.R.Denot). IsAt m input gone told) (sym c.self.view_is) at)
+pub returns-in_ok-journaled-in-None-clause-still : goal.returns-in_ok-journaled-in-None-clause-still
+returns-in_ok-journaled-in-None-clause-still g c = λ gone. come_some g.R.Source.may_give gone g.met.R.Source.gives_some
 
 pub returns-in-Some-clause-still : goal.returns-in-Some-clause-still
-returns-in-Some-clause-still g c = λ gone. come_some g.R.Source.may_give c.args.self.now gone g.met.R.Source.gives_some
+returns-in-Some-clause-still g c = λ gone. come_some g.R.Source.may_give gone g.met.R.Source.gives_some
+
+pub returns-in_ok-journaled-in-None-clause-stands : goal.returns-in_ok-journaled-in-None-clause-stands
+returns-in_ok-journaled-in-None-clause-stands g c = λ input gone told may at.
+    let i = c.self.inside in
+    let v = c.self.invariant in
+    let l = now_of i.store in
+    let sets = i.sets.items in
+    let clear = none_at (i.point + 1) sets (ends_below i.point (length (reverse i.here.items)) sets (ends_with l i.point (length i.tape.bytes) sets (reverse i.here.items) (g.K.Keeper.kept i.keeper) v.chain)) in
+    at_step g.R.Source.may_give i.code i.settings i.steps sets i.point c.journaled.new.tape l (now_of c.journaled.new.store) input gone told c.in-None.is (v.below c.in-None.is).0 clear
+    c.in_ok-journaled-in-None.ensures.did may.kept may.whole may.may (subst (λ (m : Standing g.row.R.Denot). IsAt m input gone told) (sym c.self.view_is) at)
+
+pub returns-in_ok-journaled-in-None-clause-moves : goal.returns-in_ok-journaled-in-None-clause-moves
+returns-in_ok-journaled-in-None-clause-moves g c = λ none.
+    let i = c.self.inside in
+    let v = c.self.invariant in
+    let e = c.in_ok-journaled-in-None.ensures in
+    let l = now_of i.store in
+    let n = now_of c.journaled.new.store in
+    let placed : IsPlaced l i.point (length i.tape.bytes) = record { goes = c.in-None.is; here = (v.below c.in-None.is).0; consumed = c.journaled.ensures.within } in
+    let m = moved l n e.kept.0 i.point (length i.tape.bytes) (length c.journaled.new.tape.bytes) i.sets.items i.here.items (g.K.Keeper.kept i.keeper) (g.K.Keeper.kept c.journaled.new.keeper) (g.K.Keeper.limit i.keeper)
+    v.live placed c.journaled.ensures.longer e.kept.1 v.chain in
+    let old : Standing g.row.R.Denot = standing_of i.code i.settings i.steps i.sets.items i.point i.tape l i.executed (reverse i.here.items) (g.K.Keeper.kept i.keeper) (g.K.Keeper.limit i.keeper) i.last in
+    let new = λ (gs : List Group). standing_of i.code i.settings i.steps i.sets.items (i.point + 1) c.journaled.new.tape n c.journaled.new.executed (reverse gs) (g.K.Keeper.kept c.journaled.new.keeper) (g.K.Keeper.limit c.journaled.new.keeper) On in
+    let on : MovesOn old (new []) = record { point = refl; unset = refl; history = m.front; kept = m.count; before = λ any. m.before any } in
+    subst (λ (x : Standing g.row.R.Denot). MovesOn x (new c.journaled.new.here.items)) c.self.view_is (subst (λ (gs : List Group). MovesOn old (new gs)) (sym e.here) on)
+
+pub returns-in_ok-journaled-in-None-clause-stood : goal.returns-in_ok-journaled-in-None-clause-stood
+returns-in_ok-journaled-in-None-clause-stood g c = λ input may stood.
+    let i = c.self.inside in
+    let n = now_of c.journaled.new.store in
+    let going : c.args.self.now.ending ≡ None = sym (ap (λ (m : Standing g.row.R.Denot). m.ending) c.self.view_is) ∙ ap (option_map ending_of) c.in-None.is in
+    let on = returns-in_ok-journaled-in-None-clause-moves g c going in
+    let new : Standing g.row.R.Denot =
+    standing_of i.code i.settings i.steps i.sets.items (i.point + 1) c.journaled.new.tape n c.journaled.new.executed (reverse c.journaled.new.here.items) (g.K.Keeper.kept c.journaled.new.keeper) (g.K.Keeper.limit c.journaled.new.keeper) On in
+    stood_step c.args.self.now new input on.point on.unset on.history (ap (λ (m : Standing g.row.R.Denot). ground_of m input) c.self.view_is)
+    (returns-in_ok-journaled-in-None-clause-stands g c input [] [] may stood.now) stood
+
+pub invariant_of-self : goal.invariant_of-self
+invariant_of-self g c =
+    let i = c.self.inside in
+    let v = c.self.invariant in
+    let e = c.in_err-journaled-in-None.ensures in
+    let l = now_of i.store in
+    let n = now_of c.journaled.new.store in
+    let same : n.registers ≡ l.registers = registers-grown l n e.grown in
+    let going : c.journaled.new.store.registers.now.ending ≡ None = ap (λ (r : Registers). r.ending) same ∙ c.in-None.is in
+    let size = length c.journaled.new.tape.bytes in
+    let chain : Chain l i.point size i.sets.items (reverse i.here.items) (g.K.Keeper.kept i.keeper) = chain-size l i.point (length i.tape.bytes) size i.sets.items (reverse i.here.items) (g.K.Keeper.kept i.keeper) c.journaled.ensures.longer v.chain in
+    let grew : Chain n i.point size i.sets.items (reverse i.here.items) (g.K.Keeper.kept i.keeper) = subst (λ (x : Layout). Chain x i.point size i.sets.items (reverse i.here.items) (g.K.Keeper.kept i.keeper)) (sym e.grown.is) (chain-grown l e.grown.more i.point size i.sets.items (reverse i.here.items) (g.K.Keeper.kept i.keeper) chain) in
+    record {
+      rest = c.journaled.ensures.rest;
+      live = c.journaled.ensures.live;
+      consumed = c.journaled.ensures.consumed;
+      below = subst (λ (r : Registers). IsBelow r i.point i.steps) (sym same) v.below;
+      within = v.within;
+      quiet = subst ends_quietly (sym going) tt;
+      failed = λ x. absurd (cc (going, x));
+      chain = subst (λ (ks : List Kept). Chain n i.point size i.sets.items (reverse c.journaled.new.here.items) ks) (sym e.same) (subst (λ (gs : List Group). Chain n i.point size i.sets.items (reverse gs) (g.K.Keeper.kept i.keeper)) (sym e.stays) grew);
+      few = subst (λ (top : Option ℕ). Few top (length (g.K.Keeper.kept c.journaled.new.keeper))) (sym c.journaled.ensures.limit) (subst (λ (ks : List Kept). Few (g.K.Keeper.limit i.keeper) (length ks)) (sym e.same) v.few);
+      clean = λ is. ap (λ (gs : List Group). reverse gs) e.stays ∙ v.clean is;
+      room = λ x xs is. v.room x xs (ap (λ (gs : List Group). reverse gs) (sym e.stays) ∙ is);
+    }
+
+pub invariant_of-self-in-None : goal.invariant_of-self-in-None
+invariant_of-self-in-None g c =
+    let i = c.self.inside in
+    let v = c.self.invariant in
+    let e = c.in_ok-journaled-in-None.ensures in
+    let l = now_of i.store in
+    let n = now_of c.journaled.new.store in
+    let size = length c.journaled.new.tape.bytes in
+    let under = (v.below c.in-None.is).1 in
+    let placed : IsPlaced l i.point (length i.tape.bytes) = record { goes = c.in-None.is; here = (v.below c.in-None.is).0; consumed = c.journaled.ensures.within } in
+    let m = moved l n e.kept.0 i.point (length i.tape.bytes) size i.sets.items i.here.items (g.K.Keeper.kept i.keeper) (g.K.Keeper.kept c.journaled.new.keeper) (g.K.Keeper.limit i.keeper)
+    v.live placed c.journaled.ensures.longer e.kept.1 v.chain in
+    record {
+      rest = c.journaled.ensures.rest;
+      live = c.journaled.ensures.live;
+      consumed = c.journaled.ensures.consumed;
+      below = λ none. let s = e.settled none in (s.0, omega (arith, under, s.1));
+      within = omega (arith, under);
+      quiet = e.quiet;
+      failed = e.failed;
+      chain = subst (λ (gs : List Group). Chain n (i.point + 1) size i.sets.items (reverse gs) (g.K.Keeper.kept c.journaled.new.keeper)) (sym e.here) m.chain;
+      few = subst (λ (top : Option ℕ). Few top (length (g.K.Keeper.kept c.journaled.new.keeper))) (sym c.journaled.ensures.limit) (few_moved (g.K.Keeper.limit i.keeper) m);
+      clean = λ is. ap (λ (gs : List Group). reverse gs) e.here;
+      room = λ x xs is. absurd (cc (ap (λ (gs : List Group). reverse gs) e.here, is));
+    }
+
+-- where memory was refused the parts are the same but for empty slots
+pub returns-in_err-journaled-in-None-clause-stood : goal.returns-in_err-journaled-in-None-clause-stood
+returns-in_err-journaled-in-None-clause-stood g c = λ input may stood.
+    let i = c.self.inside in
+    let v = c.self.invariant in
+    let e = c.in_err-journaled-in-None.ensures in
+    let l = now_of i.store in
+    let n = now_of c.journaled.new.store in
+    let here = reverse i.here.items in
+    let kept = g.K.Keeper.kept i.keeper in
+    let size = length i.tape.bytes in
+    let more = e.grown.more in
+    let moment = ap moment_in e.grown.is ∙ moment-grown l more v.live ∙ ap (λ (m : Standing g.row.R.Denot). moment_of m) c.self.view_is in
+    let unset = ap (λ (gs : List Group). unsets n i.sets.items (reverse gs)) e.stays
+    ∙ ap (λ (x : Layout). unsets x i.sets.items here) e.grown.is
+    ∙ unsets-grown l more i.point size i.sets.items here (fit_here l i.point size i.sets.items here kept v.chain)
+    ∙ ap (λ (m : Standing g.row.R.Denot). m.unset) c.self.view_is in
+    let history = ap (λ (gs : List Group). pasts n i.sets.items i.point (reverse gs) (g.K.Keeper.kept c.journaled.new.keeper)) e.stays
+    ∙ ap (λ (ks : List Kept). pasts n i.sets.items i.point here ks) e.same
+    ∙ ap (λ (x : Layout). pasts x i.sets.items i.point here kept) e.grown.is
+    ∙ pasts-grown l more i.point size i.sets.items here kept v.chain
+    ∙ ap (λ (m : Standing g.row.R.Denot). m.history) c.self.view_is in
+    let new : Standing g.row.R.Denot =
+    standing_of i.code i.settings i.steps i.sets.items i.point c.journaled.new.tape n c.journaled.new.executed (reverse c.journaled.new.here.items) (g.K.Keeper.kept c.journaled.new.keeper) (g.K.Keeper.limit c.journaled.new.keeper) i.last in
+    stood_same c.args.self.now new input (ap (λ (m : Standing g.row.R.Denot). ground_of m input) c.self.view_is) (ap (λ (m : Standing g.row.R.Denot). m.sets) c.self.view_is)
+    (ap (λ (m : Standing g.row.R.Denot). m.point) c.self.view_is) moment unset history stood
+
+pub returns-in_err-journaled-in-None-clause-err : goal.returns-in_err-journaled-in-None-clause-err
+returns-in_err-journaled-in-None-clause-err g c =
+    let i = c.self.inside in
+    let v = c.self.invariant in
+    let e = c.in_err-journaled-in-None.ensures in
+    let l = now_of i.store in
+    let n = now_of c.journaled.new.store in
+    let here = reverse i.here.items in
+    let kept = g.K.Keeper.kept i.keeper in
+    let size = length i.tape.bytes in
+    let more = e.grown.more in
+    let same = ap moment_in e.grown.is ∙ moment-grown l more v.live in
+    let past : pasts n i.sets.items i.point (reverse c.journaled.new.here.items) (g.K.Keeper.kept c.journaled.new.keeper) ≡ pasts l i.sets.items i.point here kept =
+    ap (λ (gs : List Group). pasts n i.sets.items i.point (reverse gs) (g.K.Keeper.kept c.journaled.new.keeper)) e.stays
+    ∙ ap (λ (ks : List Kept). pasts n i.sets.items i.point here ks) e.same
+    ∙ ap (λ (x : Layout). pasts x i.sets.items i.point here kept) e.grown.is
+    ∙ pasts-grown l more i.point size i.sets.items here kept v.chain in
+    on_err c.from_residual.result (record {
+      point = ap (λ (m : Standing g.row.R.Denot). m.point) c.self.view_is;
+      state = ap (λ (m : Moment). m.state) same ∙ ap (λ (m : Standing g.row.R.Denot). m.state) c.self.view_is;
+      operands = ap (λ (m : Moment). m.operands) same ∙ ap (λ (m : Standing g.row.R.Denot). m.operands) c.self.view_is;
+      place = ap (λ (m : Moment). m.place) same ∙ ap (λ (m : Standing g.row.R.Denot). m.place) c.self.view_is;
+      phase = ap (λ (m : Moment). m.phase) same ∙ ap (λ (m : Standing g.row.R.Denot). m.phase) c.self.view_is;
+      ending = ap (λ (m : Moment). m.ending) same ∙ ap (λ (m : Standing g.row.R.Denot). m.ending) c.self.view_is;
+      site = ap (λ (m : Moment). m.site) same ∙ ap (λ (m : Standing g.row.R.Denot). m.site) c.self.view_is;
+      unset = ap (λ (gs : List Group). unsets n i.sets.items (reverse gs)) e.stays
+          ∙ ap (λ (x : Layout). unsets x i.sets.items here) e.grown.is
+          ∙ unsets-grown l more i.point size i.sets.items here (fit_here l i.point size i.sets.items here kept v.chain)
+          ∙ ap (λ (m : Standing g.row.R.Denot). m.unset) c.self.view_is;
+      history = past ∙ ap (λ (m : Standing g.row.R.Denot). m.history) c.self.view_is;
+      before = ap (λ (x : Layout). before_of i.last x.globals x.current (pasts n i.sets.items i.point (reverse c.journaled.new.here.items) (g.K.Keeper.kept c.journaled.new.keeper))) e.grown.is
+          ∙ ap (λ (ps : List Past). before_of i.last l.globals l.current ps) past
+          ∙ ap (λ (m : Standing g.row.R.Denot). m.before) c.self.view_is;
+    })

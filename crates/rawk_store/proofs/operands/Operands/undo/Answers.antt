@@ -6,7 +6,7 @@ pub invariant_of-self : goal.invariant_of-self
 invariant_of-self c =
     let s = c.self.inside in
     let g = c.args.group.now in
-    let now : length c.undo.new.self.now ≡ length s.slots.now = ap (λ j. length j.now) c.undo.ensures ∙ length-back s.slots.now g.slots.entries.items in
-    let start : length c.undo.new.self.start ≡ length s.slots.now = ap (λ j. length j.start) c.undo.ensures ∙ length-back s.slots.now g.slots.entries.items in
+    let now : length c.undo.new.self.now ≡ length s.slots.now = ap (λ j. length j.now) c.undo.ensures.now ∙ length-back s.slots.now g.slots.entries.items in
+    let start : length c.undo.new.self.start ≡ length s.slots.now = ap (λ j. length j.start) c.undo.ensures.now ∙ length-back s.slots.now g.slots.entries.items in
     let live : g.live ≤ length s.slots.now = rw (← ap (λ w. w.now) c.self.view_is) at c.requires.live in
     record { now = rw now live; start = rw start live }

@@ -1,5 +1,5 @@
 use Rattle.std.proofs.Common.{◌∙◌, ap, sym, length}
-use Rattle.rawk_store.proofs.Backs.{IsJournal-none}
+use Rattle.rawk_store.proofs.Backs.{IsJournal-none, distinct_places}
 use Rattle.rawk_store.specs.Growth.{length-back}
 use Rattle.rawk_store.proofs.slots.Slots.undo_step.Goals as goal
 
@@ -7,3 +7,6 @@ pub invariant_of-self : goal.invariant_of-self
 invariant_of-self g c =
     rw c.clear.ensures.items
     (IsJournal-none _ _ (c.self.invariant.marked ∙ (sym (length-back c.self.inside.items.items c.self.inside.saved.items) ∙ sym (ap length c.swap_back.ensures.items))))
+
+pub swap_back-requires-clause-distinct : goal.swap_back-requires-clause-distinct
+swap_back-requires-clause-distinct g c = distinct_places c.self.inside.items.items c.self.inside.marks.items c.self.inside.saved.items c.self.invariant

@@ -1,0 +1,51 @@
+-- What a session tells, of any text, first values, source, commands and sink.
+use Rattle.std.specs.Prelude.{◌≡◌, ℕ, ◌≤◌, ◌++◌, true, false, List, [], length, Option}
+use Rattle.rawk_value.specs.Values.{Bytes}
+use Rattle.rawk_tape.specs.Records.{Input}
+use Rattle.rawk_syntax.specs.declared.draft.Item.{Item}
+use Rattle.rawk_syntax.specs.declared.tree.Program.{Program}
+use Rattle.rawk_syntax.specs.declared.refusal.Refusal.{Refusal}
+use Rattle.rawk_syntax.specs.declared.refusal.RefusalKind.TheVariants.{OutOfMemory}
+use Rattle.rawk_syntax.specs.Texts.{IsText, IsProgram}
+use Rattle.rawk_value.specs.declared.fault.Fault.TheVariants as fault
+use Rattle.rawk_code.specs.Trace.{FirstValue}
+use Rattle.rawk_code.specs.Settings.{settings_fit}
+use Rattle.rawk_debug.specs.Positions.{Position}
+use Rattle.rawk_debug.specs.Moves.{Stand}
+use Rattle.rawk_dialog.specs.declared.dialog.Over.{Over}
+use Rattle.rawk_dialog.specs.declared.dialog.Over.TheVariants.{Ended, Unread, Unwritten, NoMemory}
+use Rattle.rawk_dialog.specs.Dialogs.{IsDialog}
+use Rattle.rawk.specs.declared.report.Report.{Report}
+use Rattle.rawk.specs.declared.report.Cause.TheVariants as cause
+use Rattle.rawk.specs.Runs.{stopped_by}
+use Rattle.rawk.specs.Tells.{refused_by}
+
+-- a session before its first command: at point 0, with no sets, no breakpoints and no watches
+abbrev pub first_stand : Program → List FirstValue → ℕ → Option ℕ → Stand
+first_stand p settings steps history = record {
+  machine = record { program = p; settings = settings; steps = steps; history = history; point = 0; sets = []; oldest = 0 };
+  stops = [];
+  made = 0;
+}
+
+-- the report of a session, by how its dialog was over
+abbrev pub report_over : Over → Report
+report_over Ended = record { status = 0; cause = cause.Ended; line = 0; point = 0 }
+report_over Unread = stopped_by (cause.Faulted fault.ReadFailed) 0
+report_over Unwritten = stopped_by (cause.Faulted fault.WriteFailed) 0
+report_over NoMemory = stopped_by (cause.Faulted fault.OutOfMemory) 0
+
+-- what a report tells of a session, with what the sink took
+pub data Debugs {S C V : Type 0} (may_give : S → Input → Type 0) (may_ask : C → Input → Type 0) (may_hold : V → Bytes → Type 0) (text : Bytes) (settings : List FirstValue) (source : S) (commands : C) (steps : ℕ) (history : Option ℕ) (sink now : V) : Report → Type 0 where
+  -- The text was refused, and nothing was written. A text that has a tree by the grammar, within the limits, is refused for want of memory alone.
+  text_refused : (refusal : Refusal) → ((items : List Item) → length text ≤ 1048576 → IsText text items → refusal.kind ≡ OutOfMemory) → now ≡ sink
+      → Debugs may_give may_ask may_hold text settings source commands steps history sink now (refused_by refusal)
+  -- a first value can't be assigned: nothing was written
+  settings_refused : (p : Program) → IsProgram text p → settings_fit p settings ≡ false → now ≡ sink
+      → Debugs may_give may_ask may_hold text settings source commands steps history sink now (stopped_by cause.BadAssignment 0)
+  -- memory was refused before the session stood: nothing was written
+  never_stood : now ≡ sink → Debugs may_give may_ask may_hold text settings source commands steps history sink now (stopped_by (cause.Faulted fault.OutOfMemory) 0)
+  -- The session was held, on an input that the source might give and with commands that theirs might: the sink took what the report says of its transcript.
+  held : (p : Program) (input asked : Input) (over : Over) (last : Stand) → IsProgram text p → settings_fit p settings ≡ true → may_give source input → may_ask commands asked
+      → ((held : Bytes) → may_hold sink held → (taken : Bytes) × may_hold now (held ++ taken) × IsDialog input asked (first_stand p settings steps history) last over taken)
+      → Debugs may_give may_ask may_hold text settings source commands steps history sink now (report_over over)

@@ -1,0 +1,4 @@
+pub mod Searches
+pub mod Absent
+pub mod Refused
+pub mod Undone

@@ -1,0 +1,18 @@
+use Rattle.std.proofs.Common.{◌≡◌, ◌≤◌}
+use Rattle.rawk_tape.specs.Records.{Input}
+use Rattle.rawk_debug.specs.Positions.{back_at}
+use Rattle.rawk_debug.specs.Sessions.{stand}
+use Rattle.rawk_debug.proofs.session.Session.rewind.Given as goal
+
+abbrev pub invariant-all : goal.invariant-all
+invariant-all g l =
+    let first = stand g.M.Stepper.position l.fn.self in
+    let now = stand g.M.Stepper.position l.self in
+    record {
+      same : now ≡ record first { machine = back_at now.machine.point first.machine };
+      kept : first.machine.oldest ≤ now.machine.point;
+      narrows : (input : Input) → g.M.Stepper.may_be l.self.machine input → g.M.Stepper.may_be l.fn.self.machine input;
+    }
+
+abbrev pub decreases-all : goal.decreases-all
+decreases-all g l = (g.M.Stepper.position l.self.machine).point

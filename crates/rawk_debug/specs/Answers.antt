@@ -1,0 +1,115 @@
+-- What a session's commands are answered, as text. 10 is a newline.
+use Rattle.std.specs.Prelude.{ℕ, ◌-◌, List, [], ◌∷◌, ◌++◌, length, drop, flat_map, nat_eq, if◌then◌else◌, slice_index_or, Option, Some, None, codes}
+use Rattle.rawk_value.specs.Values.{Bytes, decimal}
+use Rattle.rawk_value.specs.declared.fault.Fault.{Fault}
+use Rattle.rawk_value.specs.declared.fault.Fault.TheVariants.{StepLimit}
+use Rattle.rawk_value.specs.Faults.{fault_number, fault_text}
+use Rattle.rawk_code.specs.Actions.{Ended, Faulted, Limited}
+use Rattle.rawk_code.specs.Trace.{special_names, line_at}
+use Rattle.rawk_commands.specs.declared.command.Place.TheVariants as place
+use Rattle.rawk_commands.specs.declared.command.C.TheVariants.{OutOfMemory}
+use Rattle.rawk_commands.specs.Refusals.{refusal_line}
+use Rattle.rawk_commands.specs.Texts.{shown_place, shown_value}
+use Rattle.rawk_debug.specs.declared.stop.Watched.{Watched}
+use Rattle.rawk_debug.specs.declared.stop.Watched.TheVariants.{Global, FieldCount, Field}
+use Rattle.rawk_debug.specs.declared.stop.Stop.{Stop}
+use Rattle.rawk_debug.specs.declared.stop.Stop.TheVariants.{Break, Watch}
+use Rattle.rawk_debug.specs.declared.stop.Entry.{Entry}
+use Rattle.rawk_debug.specs.declared.answer.Answer.{Answer}
+use Rattle.rawk_debug.specs.declared.answer.Answer.TheVariants.{Went, Halted, Returned, Stayed, Shown, TakenBack, Made, Deleted, Traced, Left}
+use Rattle.rawk_debug.specs.Positions.{Position, Held}
+use Rattle.rawk_debug.specs.Watching.{Seen, seen, value_at}
+use Rattle.rawk_debug.specs.Moves.{Stand, hits}
+use Rattle.rawk_debug.specs.Commands.{names_of}
+
+-- the name of a global: those of the special variables come first
+abbrev pub name_of : List Bytes → ℕ → Bytes
+name_of names number = slice_index_or (special_names ++ names) number []
+
+-- a place, as it is shown
+abbrev pub place_text : List Bytes → Watched → Bytes
+place_text names (Global number) = name_of names number
+place_text names FieldCount = codes "NF"
+place_text names (Field number) = shown_place (place.Field number)
+
+-- a breakpoint or a watch, by its kind and number
+abbrev pub entry_text : Entry → Bytes
+entry_text e = elim e.stop [ Break site ↦ codes "Breakpoint " ++ decimal e.number | Watch watched ↦ codes "Watchpoint " ++ decimal e.number ]
+
+-- what is added to it: of a watch, its place
+abbrev pub watch_text : List Bytes → Stop → Bytes
+watch_text names (Break site) = []
+watch_text names (Watch watched) = codes ": " ++ place_text names watched
+
+-- the line of a breakpoint or a watch that stops
+abbrev pub stop_line : List Bytes → Entry → Bytes
+stop_line names e = entry_text e ++ watch_text names e.stop ++ 10 ∷ []
+
+-- a line for each breakpoint that stands there and each watch that differs
+abbrev pub stop_lines : List Bytes → Seen → Held → List Entry → Bytes
+stop_lines names came h stops = flat_map (λ e. if hits came h e.stop then stop_line names e else []) stops
+
+-- what is added to a breakpoint or a watch that is made: a breakpoint's line, a watch's place
+abbrev pub spot_text : List ℕ → List Bytes → Stop → Bytes
+spot_text lines names (Break site) = codes " at line " ++ decimal (line_at lines (Some site))
+spot_text lines names (Watch watched) = codes ": " ++ place_text names watched
+
+abbrev pub made_line : List ℕ → List Bytes → Entry → Bytes
+made_line lines names e = entry_text e ++ spot_text lines names e.stop ++ 10 ∷ []
+
+abbrev pub deleted_line : Entry → Bytes
+deleted_line e =
+    elim e.stop [ Break site ↦ codes "Deleted breakpoint " ++ decimal e.number ++ 10 ∷ [] | Watch watched ↦ codes "Deleted watchpoint " ++ decimal e.number ++ 10 ∷ [] ]
+
+-- the line of a fault, where there is one
+abbrev pub at_line : ℕ → Bytes
+at_line line = if nat_eq line 0 then [] else codes " at line " ++ decimal line
+
+-- a fault, with its line
+abbrev pub fault_place : Fault → ℕ → Bytes
+fault_place fault line = codes "fault F" ++ decimal (fault_number fault) ++ at_line line ++ codes ": " ++ fault_text fault
+
+-- where a point is
+abbrev pub site_text : List ℕ → Option ℕ → Bytes
+site_text lines None = codes "record read"
+site_text lines (Some site) = codes "line " ++ decimal (line_at lines (Some site))
+
+-- where a machine is: how the run ended, or where its point is
+abbrev pub where_text : List ℕ → Held → Bytes
+where_text lines h = elim h.over [
+  | None ↦ site_text lines h.site
+  | Some ending ↦ elim ending [
+    | Ended ↦ codes "ended with status " ++ decimal h.state.status
+    | Faulted fault ↦ fault_place fault (line_at lines h.site)
+    | Limited site ↦ fault_place StepLimit (line_at lines h.site)
+  ]
+]
+
+-- the place line
+abbrev pub place_line : Position → Held → Bytes
+place_line m h = codes "point " ++ decimal m.point ++ codes ", " ++ where_text m.program.lines.items h ++ 10 ∷ []
+
+-- text as whole lines
+abbrev pub as_lines : Bytes → Bytes
+as_lines text = if nat_eq (slice_index_or text (length text - 1) 10) 10 then text else text ++ 10 ∷ []
+
+-- the output beyond its first bytes
+abbrev pub added : ℕ → Held → Bytes
+added from h = as_lines (drop from h.state.output)
+
+-- a place and its value
+abbrev pub shown_line : List Bytes → Watched → Held → Bytes
+shown_line names watched h = place_text names watched ++ codes " = " ++ shown_value (value_at watched (seen h.state)) ++ 10 ∷ []
+
+-- What a command is answered that left a session so, its machine having come from where a watch saw this.
+abbrev pub text_of : Stand → Held → Seen → Answer → Bytes
+text_of s h came (Went from) = added from h ++ stop_lines (names_of s) came h s.stops ++ place_line s.machine h
+text_of s h came (Halted from) = added from h ++ refusal_line OutOfMemory ++ place_line s.machine h
+text_of s h came (Returned found) = (if found then stop_lines (names_of s) came h s.stops else codes "No more reverse-execution history.\n") ++ place_line s.machine h
+text_of s h came Stayed = place_line s.machine h
+text_of s h came (Shown watched) = shown_line (names_of s) watched h
+text_of s h came TakenBack = codes "set taken back\n"
+text_of s h came (Made e) = made_line s.machine.program.lines.items (names_of s) e
+text_of s h came (Deleted e) = deleted_line e
+text_of s h came Traced = codes "#0 main line " ++ decimal (line_at s.machine.program.lines.items h.site) ++ 10 ∷ []
+text_of s h came Left = []

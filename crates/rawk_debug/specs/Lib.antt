@@ -1,0 +1,10 @@
+pub mod Positions
+pub mod Watching
+pub mod Moves
+pub mod Naming
+pub mod Commands
+pub mod Sessions
+pub mod Answers
+pub mod Transcript
+pub mod Runs
+pub mod Laws

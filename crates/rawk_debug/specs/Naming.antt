@@ -1,0 +1,60 @@
+-- What a session's names are in a program.
+use Rattle.std.specs.Prelude.{ℕ, ◌++◌, Bool, true, List, nat_eq, nat_lt, if◌then◌else◌, position, Option, Some, None, is_some, option_map, Result, Ok, Err, codes}
+use Rattle.std.specs.Str.{bytes_eq}
+use Rattle.rawk_syntax.specs.declared.tree.Program.{Program}
+use Rattle.rawk_value.specs.declared.value.Value.{Value}
+use Rattle.rawk_value.specs.declared.value.Value.TheVariants.{Number, String}
+use Rattle.rawk_value.specs.Values.{Bytes}
+use Rattle.rawk_store.specs.State.{State, Target, assigned}
+use Rattle.rawk_store.specs.declared.target.Target.TheVariants as target
+use Rattle.rawk_code.specs.Trace.{special_names}
+use Rattle.rawk_commands.specs.declared.command.Place.{Place}
+use Rattle.rawk_commands.specs.declared.command.Place.TheVariants.{Name, Element, Field}
+use Rattle.rawk_commands.specs.declared.command.Spot.{Spot}
+use Rattle.rawk_commands.specs.declared.command.Spot.TheVariants.{Line, Function}
+use Rattle.rawk_commands.specs.declared.command.Constant.{Constant}
+use Rattle.rawk_commands.specs.declared.command.Constant.TheVariants as constant
+use Rattle.rawk_commands.specs.declared.command.C.{C}
+use Rattle.rawk_commands.specs.declared.command.C.TheVariants.{BadArgument, NoSuchVariable}
+use Rattle.rawk_debug.specs.declared.stop.Watched.{Watched}
+use Rattle.rawk_debug.specs.declared.stop.Watched.TheVariants as watched
+use Rattle.rawk_debug.specs.Positions.{fault_of}
+
+-- what a name is: NF, a special variable, or a global of the program
+abbrev pub named : List Bytes → Bytes → Option Watched
+named names name = if bytes_eq name (codes "NF") then Some watched.FieldCount else option_map watched.Global (position (bytes_eq name) (special_names ++ names))
+
+-- the value, or else why there is none
+abbrev pub or_refused : C → Option Watched → Result Watched C
+or_refused reason None = Err reason
+or_refused reason (Some place) = Ok place
+
+-- a place, or why it is refused: a name that is none, or a subscript on a scalar
+abbrev pub place_of : List Bytes → Place → Result Watched C
+place_of names (Name name) = or_refused NoSuchVariable (named names name)
+place_of names (Element name key) = Err (if is_some (named names name) then BadArgument else NoSuchVariable)
+place_of names (Field number) = Ok (watched.Field number)
+
+-- the site of a breakpoint: the first one on a line; there are no functions
+abbrev pub site_of : Program → Spot → Option ℕ
+site_of p (Line line) = position (λ at. nat_eq at line) p.lines.items
+site_of p (Function name) = None
+
+-- how many special variables have a number
+abbrev pub specials : ℕ
+specials = 11
+
+-- what can be assigned: special variables and fields cannot
+abbrev pub target_of : Watched → Option Target
+target_of (watched.Global number) = if nat_lt number specials then None else Some (target.Global number)
+target_of watched.FieldCount = None
+target_of (watched.Field number) = None
+
+abbrev pub constant_value : Constant → Value
+constant_value (constant.Number n) = Number n
+constant_value (constant.Text text) = String text
+
+-- whether an assignment is refused
+abbrev pub is_refused : Option Target → Value → State → Bool
+is_refused None v s = true
+is_refused (Some t) v s = is_some (fault_of (assigned t v s))

@@ -1,0 +1,68 @@
+-- The transcript of a session: what its lines are answered, one after another.
+use Rattle.std.specs.Prelude.{◌≡◌, ◌⊎◌, Bool, true, false, List, [], ◌∷◌, ◌++◌, Option, Some, None, Result, Ok, Err}
+use Rattle.std.specs.Bool.{MatchBool}
+use Rattle.rawk_tape.specs.Records.{Input}
+use Rattle.rawk_value.specs.Values.{Bytes}
+use Rattle.rawk_commands.specs.declared.command.Command.{Command}
+use Rattle.rawk_commands.specs.declared.command.Command.TheVariants.{Quit}
+use Rattle.rawk_commands.specs.declared.command.C.{C}
+use Rattle.rawk_commands.specs.declared.command.C.TheVariants.{AnswerLost}
+use Rattle.rawk_commands.specs.Reading.{reading}
+use Rattle.rawk_commands.specs.Refusals.{refusal_line}
+use Rattle.rawk_debug.specs.declared.answer.Answer.{Answer}
+use Rattle.rawk_debug.specs.declared.transcript.Reply.{Reply}
+use Rattle.rawk_debug.specs.declared.transcript.Reply.TheVariants.{Text, Line, Nothing, Quits}
+use Rattle.rawk_debug.specs.Positions.{here}
+use Rattle.rawk_debug.specs.Watching.{Seen}
+use Rattle.rawk_debug.specs.Moves.{Stand}
+use Rattle.rawk_debug.specs.Commands.{Executes}
+use Rattle.rawk_debug.specs.Answers.{text_of}
+
+-- the text of an outcome that left the session so; an answer is lost where its text is refused memory
+abbrev pub Says : Input → Stand → Seen → Result Answer C → Bytes → Type 0
+Says input new came (Ok answer) text = (text ≡ text_of new (here input new.machine) came answer) ⊎ (text ≡ refusal_line AnswerLost)
+Says input new came (Err reason) text = text ≡ refusal_line reason
+
+-- a command is executed, or refused, and the outcome told
+abbrev pub Obeys : Input → Command → Stand → Bytes → Stand → Type 0
+Obeys input command old text new = (outcome : Result Answer C) × (came : Seen) × Executes input command old outcome came new × Says input new came outcome text
+
+-- what a line asks for is obeyed; a line that asks for nothing is not answered, and one that cannot be read is refused
+abbrev pub Follows : Input → Result (Option Command) C → Stand → Bytes → Stand → Type 0
+Follows input (Ok None) old text new = (text ≡ []) × (new ≡ old)
+Follows input (Ok (Some command)) old text new = Obeys input command old text new
+Follows input (Err reason) old text new = (text ≡ refusal_line reason) × (new ≡ old)
+
+abbrev pub quits : Command → Bool
+quits Quit = true
+quits other = false
+
+-- whether a line asks for the session's end
+abbrev pub is_quit : Result (Option Command) C → Bool
+is_quit (Ok None) = false
+is_quit (Ok (Some command)) = quits command
+is_quit (Err reason) = false
+
+-- the bytes of a reply
+abbrev pub reply_text : Reply → Bytes
+reply_text (Text text) = text.items
+reply_text (Line reason) = refusal_line reason
+reply_text Nothing = []
+reply_text Quits = []
+
+-- a reply that does not end the session
+abbrev pub IsReply : Reply → Type 0
+IsReply Quits = ⊥
+IsReply other = Unit {0}
+
+-- A line is carried out and replied to; `quit` ends the session.
+abbrev pub Carries : Input → Bytes → Stand → Reply → Stand → Type 0
+Carries input line old Quits new = (is_quit (reading line) ≡ true) × (new ≡ old)
+Carries input line old reply new = (is_quit (reading line) ≡ false) × Follows input (reading line) old (reply_text reply) new
+
+-- The lines lead from old to new, and this is the transcript. `quit` ends it.
+abbrev pub Transcript : Input → List Bytes → Stand → Bytes → Stand → Type 0
+Transcript input [] old text new = (text ≡ []) × (new ≡ old)
+Transcript input (line ∷ lines) old text new =
+    MatchBool (is_quit (reading line)) ((text ≡ []) × (new ≡ old))
+    ((mid : Stand) × (first : Bytes) × (rest : Bytes) × Follows input (reading line) old first mid × Transcript input lines mid rest new × (text ≡ first ++ rest))

@@ -1,0 +1,112 @@
+//! What a session answers.
+
+ghost use Rattle.std.specs.Prelude.{◌≡◌, ◌++◌, IfOk, OnOk, IsTrue};
+ghost use Rattle.rawk_debug.specs.Commands.{IsReady};
+ghost use Rattle.rawk_debug.specs.Sessions.{stand, machine_of};
+ghost use Rattle.rawk_debug.specs.Answers.{stop_lines, text_of};
+
+use crate::search::hits_here;
+use crate::session::Session;
+use crate::stepper::Stepper;
+use crate::stop::{Entry, Watched};
+use crate::text::{
+    push_activation, push_added, push_deleted, push_made, push_place_line, push_shown_line,
+    push_stop_line,
+};
+use rawk_commands::{C, push_text};
+use std::alloc::{AllocError, Global};
+
+/// What a command is answered, as plain data: its text is made of it and of the session, before the next command.
+#[derive(Clone, Copy, Debug)]
+pub enum Answer {
+    /// A forward move came to its end; the length of the output before it.
+    Went(usize),
+    /// A forward move was refused memory on the way; the length of the output before it.
+    Halted(usize),
+    /// A backward move; whether it ended where it looked for.
+    Returned(bool),
+    /// `run` where the oldest point kept is the ending.
+    Stayed,
+    /// A place is shown.
+    Shown(Watched),
+    /// The last set of this point stands no more.
+    TakenBack,
+    /// A breakpoint or a watch was made.
+    Made(Entry),
+    /// A breakpoint or a watch was removed.
+    Deleted(Entry),
+    /// The activations are told.
+    Traced,
+    /// The session is to end.
+    Left,
+}
+
+/// Adds a line for each breakpoint that stands where the machine does and each watch that differs.
+fn push_stop_lines<M: Stepper>(out: &mut Vec<u8>, session: &Session<M>) -> Result<(), AllocError>
+    requires { IsTrue (M.fresh session.now.machine) }
+    ensures { OnOk result (out.new.items ≡ out.old.items
+        ++ stop_lines (M.position session.now.machine).program.names.items (M.before session.now.machine) (M.held session.now.machine) session.now.stops.items) }
+{
+    let program = session.machine.program();
+    for entry in &session.stops {
+        if hits_here(&session.machine, entry.stop) {
+            push_stop_line(out, &program.names, *entry)?;
+        }
+    }
+    Ok(())
+}
+
+/// Adds an answer's text.
+fn push_answer<M: Stepper>(
+    out: &mut Vec<u8>,
+    session: &Session<M>,
+    answer: Answer,
+) -> Result<(), AllocError>
+    requires { IsReady (M.fresh session.now.machine) answer }
+    ensures { OnOk result (out.new.items
+        ≡ out.old.items ++ text_of (stand M.position session.now) (M.held session.now.machine) (M.before session.now.machine) answer) }
+{
+    match answer {
+        Answer::Went(from) => {
+            push_added(out, &session.machine, from)?;
+            push_stop_lines(out, session)?;
+            push_place_line(out, &session.machine)
+        }
+        Answer::Halted(from) => {
+            push_added(out, &session.machine, from)?;
+            push_text(out, C::OutOfMemory.line().as_bytes())?;
+            push_place_line(out, &session.machine)
+        }
+        Answer::Returned(true) => {
+            push_stop_lines(out, session)?;
+            push_place_line(out, &session.machine)
+        }
+        Answer::Returned(false) => {
+            push_text(out, b"No more reverse-execution history.\n")?;
+            push_place_line(out, &session.machine)
+        }
+        Answer::Stayed => push_place_line(out, &session.machine),
+        Answer::Shown(place) => push_shown_line(out, &session.machine, place),
+        Answer::TakenBack => push_text(out, b"set taken back\n"),
+        Answer::Made(entry) => push_made(out, session.machine.program(), entry),
+        Answer::Deleted(entry) => push_deleted(out, entry),
+        Answer::Traced => push_activation(out, &session.machine),
+        Answer::Left => Ok(()),
+    }
+}
+
+impl Answer {
+    /// Its text, before the next command. It fails where memory is refused, and then may be asked for again.
+    pub fn bytes<M: Stepper>(
+        &self,
+        alloc: Global,
+        session: &Session<M>,
+    ) -> Result<Vec<u8>, AllocError>
+        requires { IsReady (M.fresh (machine_of session.now)) self.now }
+        ensures { IfOk result (λ text. text.items ≡ text_of (stand M.position session.now) (M.held (machine_of session.now)) (M.before (machine_of session.now)) self.now) }
+    {
+        let mut out = Vec::new(alloc);
+        push_answer(&mut out, session, *self)?;
+        Ok(out)
+    }
+}

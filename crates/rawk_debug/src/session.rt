@@ -1,0 +1,244 @@
+//! A debugger's session.
+
+ghost use Rattle.std.specs.Prelude.{◌≡◌, ◌≢◌, ◌<◌, [], false, not, filter, Err, None, IfOk, IfErr};
+ghost use Rattle.rawk_tape.specs.Records.{Input};
+ghost use Rattle.rawk_commands.specs.declared.command.C.TheVariants.{OutOfMemory, NoSuchNumber};
+ghost use Rattle.rawk_debug.specs.Commands.{Makes, Removes, Executes, IsReady, needs_memory, entry_of, is_entry, is_kind, most};
+ghost use Rattle.rawk_debug.specs.Sessions.{stand, machine_of};
+
+use crate::answer::Answer;
+use crate::naming::{constant_value, place_of, site_of, target_of};
+use crate::stepper::Stepper;
+use crate::stop::{Entry, Stop};
+use rawk_commands::{C, Command, Constant, Goal, Place, Spot, Way};
+use std::alloc::{AllocError, Global};
+
+/// The greatest number of a breakpoint or watch.
+const MOST: u64 = 9_223_372_036_854_775_807;
+
+/// A session: a machine, the breakpoints and watches in the order of their numbers, and how many were ever made.
+#[derive(Drop)]
+pub struct Session<M> {
+    pub(crate) machine: M,
+    pub(crate) stops: Vec<Entry>,
+    pub(crate) made: u64,
+}
+
+/// Whether it is a breakpoint, or else whether it is a watch.
+fn is_kind(breaks: bool, stop: Stop) -> bool
+    ensures { result ≡ is_kind breaks stop }
+{
+    match stop {
+        Stop::Break(_) => breaks,
+        Stop::Watch(_) => !breaks,
+    }
+}
+
+/// Whether it is the breakpoint, or the watch, of this number.
+fn is_entry(breaks: bool, number: u64, entry: Entry) -> bool
+    ensures { result ≡ is_entry breaks number entry }
+{
+    entry.number == number && is_kind(breaks, entry.stop)
+}
+
+/// The breakpoint, or the watch, of a number.
+fn entry_of(breaks: bool, number: u64, stops: &[Entry]) -> Option<Entry>
+    ensures { result ≡ entry_of breaks number stops.now }
+{
+    stops
+        .iter()
+        .copied()
+        .find(|entry| is_entry(breaks, number, *entry))
+}
+
+fn remove(breaks: bool, number: u64, stops: &mut Vec<Entry>)
+    ensures { stops.new.items ≡ filter (λ e. not (is_entry breaks number e)) stops.old.items }
+{
+    stops.retain(|entry| !is_entry(breaks, number, *entry));
+}
+
+impl<M: Stepper> Session<M> {
+    /// A session where the machine stands. It takes no memory.
+    pub fn new(alloc: Global, machine: M) -> Session<M>
+        ensures stand { stand M.position result ≡ record { machine = M.position machine; stops = []; made = 0 } }
+        ensures machine { machine_of result ≡ machine }
+    {
+        Session {
+            machine,
+            stops: Vec::new(alloc),
+            made: 0,
+        }
+    }
+
+    /// The machine. Its getters tell the state at the point where the session stands.
+    pub fn machine(&self) -> &M
+        ensures { result.now ≡ machine_of self.now }
+    {
+        &self.machine
+    }
+}
+
+impl<M: Stepper> Session<M> {
+    /// Makes a breakpoint or a watch.
+    fn make(&mut self, stop: Stop) -> Result<Answer, C>
+        requires { self.old.made < most }
+        ensures makes { IfOk result (λ answer. Makes stop (stand M.position self.old) answer (stand M.position self.new)) }
+        ensures err { IfErr result (λ reason. (reason ≡ OutOfMemory) × (stand M.position self.new ≡ stand M.position self.old)) }
+        ensures machine { self.new.machine ≡ self.old.machine }
+        ensures ready { IfOk result (λ answer. IsReady (M.fresh self.new.machine) answer) }
+    {
+        let entry = Entry {
+            number: self.made + 1,
+            stop,
+        };
+        match self.stops.push(entry) {
+            Ok(()) => {
+                self.made += 1;
+                Ok(Answer::Made(entry))
+            }
+            Err(_) => Err(C::OutOfMemory),
+        }
+    }
+
+    /// `break`.
+    fn break_at(&mut self, spot: Spot) -> Result<Answer, C>
+        ensures executes { (input : Input) → M.may_be self.new.machine input
+            → Executes input (Command.Break spot) (stand M.position self.old) result (M.before self.new.machine) (stand M.position self.new) }
+        ensures ready { IfOk result (λ answer. IsReady (M.fresh self.new.machine) answer) }
+        ensures narrows { (input : Input) → M.may_be self.new.machine input → M.may_be self.old.machine input }
+    {
+        if self.made >= MOST {
+            return Err(C::BadArgument);
+        }
+        match site_of(self.machine.program(), &spot) {
+            Some(site) => self.make(Stop::Break(site)),
+            None => Err(C::NoSuchPlace),
+        }
+    }
+
+    /// `watch`.
+    fn watch(&mut self, place: Place) -> Result<Answer, C>
+        ensures executes { (input : Input) → M.may_be self.new.machine input
+            → Executes input (Command.Watch place) (stand M.position self.old) result (M.before self.new.machine) (stand M.position self.new) }
+        ensures ready { IfOk result (λ answer. IsReady (M.fresh self.new.machine) answer) }
+        ensures narrows { (input : Input) → M.may_be self.new.machine input → M.may_be self.old.machine input }
+    {
+        if self.made >= MOST {
+            return Err(C::BadArgument);
+        }
+        match place_of(&self.machine.program().names, &place) {
+            Ok(watched) => self.make(Stop::Watch(watched)),
+            Err(reason) => Err(reason),
+        }
+    }
+
+    /// `delete`, or else `unwatch`.
+    fn delete(&mut self, breaks: bool, number: u64) -> Result<Answer, C>
+        ensures removes { IfOk result (λ answer. Removes breaks number (stand M.position self.old) answer (stand M.position self.new)) }
+        ensures err { IfErr result (λ reason. (reason ≡ NoSuchNumber) × (entry_of breaks number self.old.stops.items ≡ None) × (stand M.position self.new ≡ stand M.position self.old)) }
+        ensures machine { self.new.machine ≡ self.old.machine }
+        ensures ready { IfOk result (λ answer. IsReady (M.fresh self.new.machine) answer) }
+    {
+        match entry_of(breaks, number, &self.stops) {
+            None => Err(C::NoSuchNumber),
+            Some(entry) => {
+                remove(breaks, number, &mut self.stops);
+                Ok(Answer::Deleted(entry))
+            }
+        }
+    }
+
+    /// `set`.
+    fn set(&mut self, alloc: Global, place: Place, constant: Constant) -> Result<Answer, C>
+        ensures executes { (input : Input) → M.may_be self.new.machine input
+            → Executes input (Command.Set place constant) (stand M.position self.old) result (M.before self.new.machine) (stand M.position self.new) }
+        ensures ready { IfOk result (λ answer. IsReady (M.fresh self.new.machine) answer) }
+        ensures narrows { (input : Input) → M.may_be self.new.machine input → M.may_be self.old.machine input }
+    {
+        self.machine.known();
+        let watched = match place_of(&self.machine.program().names, &place) {
+            Ok(watched) => watched,
+            Err(reason) => return Err(reason),
+        };
+        if self.machine.is_over() {
+            return Err(C::ProgramEnded);
+        }
+        match target_of(watched) {
+            None => Err(C::SetRefused),
+            Some(target) => match self.machine.set(alloc, target, constant_value(constant)) {
+                Ok(None) => Ok(Answer::Shown(watched)),
+                Ok(Some(_)) => Err(C::SetRefused),
+                Err(AllocError) => Err(C::OutOfMemory),
+            },
+        }
+    }
+
+    /// `step`, `next`, `finish`, `continue`, and each of them backward.
+    fn travel(&mut self, alloc: Global, way: Way, goal: Goal) -> Result<Answer, C>
+        ensures executes { (input : Input) → M.may_be self.new.machine input
+            → Executes input (Command.Move way goal) (stand M.position self.old) result (M.before self.new.machine) (stand M.position self.new) }
+        ensures ready { IfOk result (λ answer. IsReady (M.fresh self.new.machine) answer) }
+        ensures narrows { (input : Input) → M.may_be self.new.machine input → M.may_be self.old.machine input }
+        ensures free { result ≢ Err OutOfMemory }
+    {
+        self.machine.known();
+        match way {
+            Way::Forward => {
+                if self.machine.is_over() {
+                    return Err(C::ProgramEnded);
+                }
+                if self.leaves_none(goal) {
+                    return Err(C::NotInFunction);
+                }
+                Ok(self.go_forward(alloc, goal))
+            }
+            Way::Back => {
+                if self.leaves_none(goal) {
+                    return Err(C::NotInFunction);
+                }
+                Ok(self.go_back(goal))
+            }
+        }
+    }
+
+    /// `reverse-set`.
+    fn take_back(&mut self) -> Result<Answer, C>
+        ensures executes { (input : Input) → M.may_be self.new.machine input
+            → Executes input Command.ReverseSet (stand M.position self.old) result (M.before self.new.machine) (stand M.position self.new) }
+        ensures ready { IfOk result (λ answer. IsReady (M.fresh self.new.machine) answer) }
+        ensures narrows { (input : Input) → M.may_be self.new.machine input → M.may_be self.old.machine input }
+        ensures free { result ≢ Err OutOfMemory }
+    {
+        if self.machine.take_back() {
+            Ok(Answer::TakenBack)
+        } else {
+            Err(C::NoSetToTakeBack)
+        }
+    }
+
+    /// Executes a command. What goes back and what takes back takes no memory, and always succeeds.
+    pub fn execute(&mut self, alloc: Global, command: Command) -> Result<Answer, C>
+        ensures executes { (input : Input) → M.may_be (machine_of self.new) input
+            → Executes input command (stand M.position self.old) result (M.before (machine_of self.new)) (stand M.position self.new) }
+        ensures ready { IfOk result (λ answer. IsReady (M.fresh (machine_of self.new)) answer) }
+        ensures narrows { (input : Input) → M.may_be (machine_of self.new) input → M.may_be (machine_of self.old) input }
+        ensures free { needs_memory command ≡ false → result ≢ Err OutOfMemory }
+    {
+        match command {
+            Command::Break(spot) => self.break_at(spot),
+            Command::Watch(place) => self.watch(place),
+            Command::Delete(number) => self.delete(true, number),
+            Command::Unwatch(number) => self.delete(false, number),
+            Command::Move(way, goal) => self.travel(alloc, way, goal),
+            Command::Run => Ok(self.run(alloc)),
+            Command::Print(place) => match place_of(&self.machine.program().names, &place) {
+                Ok(watched) => Ok(Answer::Shown(watched)),
+                Err(reason) => Err(reason),
+            },
+            Command::Set(place, constant) => self.set(alloc, place, constant),
+            Command::ReverseSet => self.take_back(),
+            Command::Backtrace => Ok(Answer::Traced),
+            Command::Quit => Ok(Answer::Left),
+        }
+    }
+}

@@ -1,0 +1,136 @@
+//! What a session asks of a machine.
+
+ghost use Rattle.std.specs.Prelude.{◌≡◌, ◌+◌, ◌-◌, ◌<◌, Bool, length, Ok, None, IfOk, OnOk, OnErr, IsTrue, IsFalse, is_some, option_map, option_copied, slice_get};
+ghost use Rattle.rawk_tape.specs.Records.{Input};
+ghost use Rattle.rawk_record.specs.FieldRefs.{ref_value};
+ghost use Rattle.rawk_store.specs.State.{assigned};
+ghost use Rattle.rawk_debug.specs.Positions.{Position, Held, IsPosition, Stands, IsTakenBack, ending_of, fault_of, gone_to, back_at, with_set, has_set_at};
+ghost use Rattle.rawk_debug.specs.Watching.{Seen, seen, differs};
+
+use crate::stop::Watched;
+use rawk_record::FieldRef;
+use rawk_store::{Ending, Target};
+use rawk_syntax::Program;
+use rawk_value::{Fault, Value};
+use std::alloc::{AllocError, Global};
+
+/// A machine that steps forward and backward through the run of its program.
+///
+/// The whole input is not known beforehand: `may_be` says which ones may still be it. Forward steps read, and so leave fewer of them.
+pub trait Stepper: Drop {
+    /// Where it stands.
+    ghost position: { Self → Position };
+
+    /// The inputs that may still be the whole input.
+    ghost may_be: { Self → Input → Type 0 };
+
+    /// What it holds.
+    ghost held: { Self → Held };
+
+    /// What a watch saw before the last step.
+    ghost before: { Self → Seen };
+
+    /// Whether it has stepped, and nothing was set or taken back since.
+    ghost fresh: { Self → Bool };
+
+    /// What is so of each machine. It does nothing.
+    fn known(&self)
+        ensures position { IsPosition (position self.now) }
+        ensures some { (input : Input) × may_be self.now input }
+        ensures stands { (input : Input) → may_be self.now input → Stands input (position self.now) (held self.now) };
+
+    /// The program.
+    fn program(&self) -> &Program
+        ensures { result.now ≡ (position self.now).program };
+
+    /// The number of the present point, or of the ending.
+    fn point(&self) -> u64
+        ensures { result ≡ (position self.now).point };
+
+    /// Whether it stands at the ending.
+    fn is_over(&self) -> bool
+        ensures { result ≡ is_some (held self.now).over };
+
+    /// How the run ended, if it stands at the ending.
+    fn ending(&self) -> Option<Ending>
+        ensures { option_map ending_of result ≡ (held self.now).over };
+
+    /// The site of the present point, or that of the ending.
+    fn site(&self) -> Option<usize>
+        ensures { result ≡ (held self.now).site };
+
+    /// The number of activations.
+    fn depth(&self) -> usize
+        ensures { result ≡ length (held self.now).state.frames };
+
+    /// The exit status so far.
+    fn status(&self) -> u8
+        ensures { result ≡ (held self.now).state.status };
+
+    /// The output so far.
+    fn output(&self) -> &[u8]
+        ensures { result.now ≡ (held self.now).state.output };
+
+    /// A global's value; `None` for a number that no global has.
+    fn global(&self, number: usize) -> Option<&Value>
+        ensures { option_copied result ≡ slice_get (held self.now).state.globals number };
+
+    /// The bytes of `$0`.
+    fn text(&self) -> &[u8]
+        ensures { result.now ≡ (held self.now).state.whole };
+
+    /// NF.
+    fn field_count(&self) -> usize
+        ensures { result ≡ length (held self.now).state.fields };
+
+    /// A field's value, counted from 1; `None` past the last.
+    fn field(&self, number: usize) -> Option<FieldRef<'_>>
+        requires { 0 < number }
+        ensures { option_map ref_value result ≡ slice_get (held self.now).state.fields (number - 1) };
+
+    /// Whether a place's value differs between the points before and after the last step. It takes no memory.
+    fn changed(&self, place: Watched) -> bool
+        requires { IsTrue (fresh self.now) }
+        ensures { result ≡ differs place (before self.now) (seen (held self.now).state) };
+
+    /// Goes to the next point or to the ending. It fails where memory is refused, and then stands as before.
+    fn advance(&mut self, alloc: Global) -> Result<(), AllocError>
+        requires { (held self.old).over ≡ None }
+        ensures moved { OnOk result (position self.new ≡ gone_to ((position self.old).point + 1) (position self.old)) }
+        ensures before { OnOk result (before self.new ≡ seen (held self.old).state) }
+        ensures fresh { OnOk result (IsTrue (fresh self.new)) }
+        ensures err { OnErr result (position self.new ≡ position self.old) }
+        ensures narrows { (input : Input) → may_be self.new input → may_be self.old input };
+
+    /// Goes back to the point before, and takes back the sets made at this one. `false` only at the oldest point kept, and
+    /// then nothing changes. It takes no memory.
+    fn retreat(&mut self) -> bool
+        ensures moved { IsTrue result → position self.new ≡ back_at ((position self.old).point - 1) (position self.old) }
+        ensures kept { IsTrue result → (position self.old).oldest < (position self.old).point }
+        ensures before { IsTrue result → before self.new ≡ seen (held self.old).state }
+        ensures fresh { IsTrue result → IsTrue (fresh self.new) }
+        ensures oldest { IsFalse result → (position self.old).point ≡ (position self.old).oldest }
+        ensures same { IsFalse result → position self.new ≡ position self.old }
+        ensures narrows { (input : Input) → may_be self.new input → may_be self.old input };
+
+    /// Assigns at this point. A fault changes nothing. It fails where memory is refused, and then nothing changes.
+    fn set(
+        &mut self,
+        alloc: Global,
+        target: Target,
+        value: Value,
+    ) -> Result<Option<Fault>, AllocError>
+        requires { (held self.old).over ≡ None }
+        ensures set { result ≡ Ok None → position self.new ≡ with_set target value (position self.old) }
+        ensures fault { IfOk result (λ fault. fault ≡ fault_of (assigned target value (held self.old).state)) }
+        ensures same { IfOk result (λ fault. IsTrue (is_some fault) → position self.new ≡ position self.old) }
+        ensures err { OnErr result (position self.new ≡ position self.old) }
+        ensures narrows { (input : Input) → may_be self.new input → may_be self.old input };
+
+    /// Takes back the last set made at this point. `false`: there is none, and nothing changes. It takes no memory.
+    fn take_back(&mut self) -> bool
+        ensures result { result ≡ has_set_at (position self.old).point (position self.old).sets }
+        ensures taken { IsTrue result → IsTakenBack (position self.old) (position self.new) }
+        ensures same { IsFalse result → position self.new ≡ position self.old }
+        ensures narrows { (input : Input) → may_be self.new input → may_be self.old input };
+}

@@ -1,0 +1,28 @@
+//! Where a session stops.
+
+/// What can be watched and shown.
+#[derive(Clone, Copy, Debug)]
+pub enum Watched {
+    /// A global, by its number: the special variables come first.
+    Global(usize),
+    /// NF.
+    FieldCount,
+    /// A field, by its number: `$0` has the number 0.
+    Field(usize),
+}
+
+/// What stops a search.
+#[derive(Clone, Copy, Debug)]
+pub enum Stop {
+    /// A breakpoint at a site.
+    Break(usize),
+    /// A watch.
+    Watch(Watched),
+}
+
+/// A breakpoint or a watch, with its number.
+#[derive(Clone, Copy, Debug)]
+pub struct Entry {
+    pub number: u64,
+    pub stop: Stop,
+}

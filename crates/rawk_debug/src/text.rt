@@ -1,0 +1,301 @@
+//! The texts that answers are made of. Each call adds to a text; where memory is refused, it may have added a beginning.
+
+ghost use Rattle.std.specs.Prelude.{◌≡◌, ◌++◌, ◌∷◌, [], codes, OnOk};
+ghost use Rattle.rawk_value.specs.Values.{decimal};
+ghost use Rattle.rawk_code.specs.Trace.{line_at};
+ghost use Rattle.rawk_commands.specs.Texts.{shown_value};
+ghost use Rattle.rawk_debug.specs.Watching.{seen, value_at};
+ghost use Rattle.rawk_debug.specs.Answers.{name_of, place_text, entry_text, watch_text, stop_line, spot_text, made_line, deleted_line, at_line, fault_place, site_text, where_text, place_line, as_lines, added, shown_line};
+
+use crate::naming::{SPECIAL, SPECIALS};
+use crate::stepper::Stepper;
+use crate::stop::{Entry, Stop, Watched};
+use rawk_commands::{push_number, push_shown, push_text, push_value};
+use rawk_record::FieldRef;
+use rawk_store::Ending;
+use rawk_syntax::Program;
+use rawk_value::{Bytes, Fault};
+use std::alloc::AllocError;
+
+/// The name of a global.
+fn name_of(names: &[Bytes], number: usize) -> &[u8]
+    ensures { result.now ≡ name_of names.now number }
+{
+    if number < SPECIALS {
+        return SPECIAL[number];
+    }
+    match names.get(number - SPECIALS) {
+        Some(name) => name.as_slice(),
+        None => b"",
+    }
+}
+
+/// Adds a place.
+fn push_place(out: &mut Vec<u8>, names: &[Bytes], place: Watched) -> Result<(), AllocError>
+    ensures { OnOk result (out.new.items ≡ out.old.items ++ place_text names.now place) }
+{
+    match place {
+        Watched::Global(number) => push_text(out, name_of(names, number)),
+        Watched::FieldCount => push_text(out, b"NF"),
+        Watched::Field(number) => {
+            push_text(out, b"$")?;
+            push_number(out, number as u64)
+        }
+    }
+}
+
+/// Adds a breakpoint's or a watch's kind and number.
+fn push_entry(out: &mut Vec<u8>, entry: Entry) -> Result<(), AllocError>
+    ensures { OnOk result (out.new.items ≡ out.old.items ++ entry_text entry) }
+{
+    match entry.stop {
+        Stop::Break(_) => {
+            push_text(out, b"Breakpoint ")?;
+            push_number(out, entry.number)
+        }
+        Stop::Watch(_) => {
+            push_text(out, b"Watchpoint ")?;
+            push_number(out, entry.number)
+        }
+    }
+}
+
+/// Adds a watch's place, behind a colon.
+fn push_watch(out: &mut Vec<u8>, names: &[Bytes], stop: Stop) -> Result<(), AllocError>
+    ensures { OnOk result (out.new.items ≡ out.old.items ++ watch_text names.now stop) }
+{
+    match stop {
+        Stop::Break(_) => Ok(()),
+        Stop::Watch(place) => {
+            push_text(out, b": ")?;
+            push_place(out, names, place)
+        }
+    }
+}
+
+/// Adds the line of a breakpoint or a watch that stops.
+pub(crate) fn push_stop_line(
+    out: &mut Vec<u8>,
+    names: &[Bytes],
+    entry: Entry,
+) -> Result<(), AllocError>
+    ensures { OnOk result (out.new.items ≡ out.old.items ++ stop_line names.now entry) }
+{
+    push_entry(out, entry)?;
+    push_watch(out, names, entry.stop)?;
+    push_text(out, b"\n")
+}
+
+/// The line of a site.
+fn line_at(lines: &[u64], site: Option<usize>) -> u64
+    ensures { result ≡ line_at lines.now site }
+{
+    match site {
+        None => 0,
+        Some(site) => match lines.get(site) {
+            Some(line) => *line,
+            None => 0,
+        },
+    }
+}
+
+/// Adds a breakpoint's line, or a watch's place behind a colon.
+fn push_spot(out: &mut Vec<u8>, program: &Program, stop: Stop) -> Result<(), AllocError>
+    ensures { OnOk result (out.new.items ≡ out.old.items ++ spot_text program.now.lines.items program.now.names.items stop) }
+{
+    match stop {
+        Stop::Break(site) => {
+            push_text(out, b" at line ")?;
+            push_number(out, line_at(&program.lines, Some(site)))
+        }
+        Stop::Watch(place) => {
+            push_text(out, b": ")?;
+            push_place(out, &program.names, place)
+        }
+    }
+}
+
+/// Adds the line of a breakpoint or a watch that was made.
+pub(crate) fn push_made(
+    out: &mut Vec<u8>,
+    program: &Program,
+    entry: Entry,
+) -> Result<(), AllocError>
+    ensures { OnOk result (out.new.items ≡ out.old.items ++ made_line program.now.lines.items program.now.names.items entry) }
+{
+    push_entry(out, entry)?;
+    push_spot(out, program, entry.stop)?;
+    push_text(out, b"\n")
+}
+
+/// Adds the line of a breakpoint or a watch that was removed.
+pub(crate) fn push_deleted(out: &mut Vec<u8>, entry: Entry) -> Result<(), AllocError>
+    ensures { OnOk result (out.new.items ≡ out.old.items ++ deleted_line entry) }
+{
+    match entry.stop {
+        Stop::Break(_) => push_text(out, b"Deleted breakpoint ")?,
+        Stop::Watch(_) => push_text(out, b"Deleted watchpoint ")?,
+    }
+    push_number(out, entry.number)?;
+    push_text(out, b"\n")
+}
+
+/// Adds the line of a fault, where there is one.
+fn push_at_line(out: &mut Vec<u8>, line: u64) -> Result<(), AllocError>
+    ensures { OnOk result (out.new.items ≡ out.old.items ++ at_line line) }
+{
+    if line == 0 {
+        return Ok(());
+    }
+    push_text(out, b" at line ")?;
+    push_number(out, line)
+}
+
+/// Adds a fault with its line.
+fn push_fault(out: &mut Vec<u8>, fault: Fault, line: u64) -> Result<(), AllocError>
+    ensures { OnOk result (out.new.items ≡ out.old.items ++ fault_place fault line) }
+{
+    push_text(out, b"fault F")?;
+    push_number(out, fault.number() as u64)?;
+    push_at_line(out, line)?;
+    push_text(out, b": ")?;
+    push_text(out, fault.text().as_bytes())
+}
+
+/// Adds where a point is.
+fn push_site(out: &mut Vec<u8>, lines: &[u64], site: Option<usize>) -> Result<(), AllocError>
+    ensures { OnOk result (out.new.items ≡ out.old.items ++ site_text lines.now site) }
+{
+    match site {
+        None => push_text(out, b"record read"),
+        Some(_) => {
+            push_text(out, b"line ")?;
+            push_number(out, line_at(lines, site))
+        }
+    }
+}
+
+/// The line where a machine stands, or that of the fault that ended its run.
+fn line_here<M: Stepper>(machine: &M) -> u64
+    ensures { result ≡ line_at (M.position machine.now).program.lines.items (M.held machine.now).site }
+{
+    line_at(&machine.program().lines, machine.site())
+}
+
+/// Adds how the run ended, or where the point is.
+fn push_where<M: Stepper>(out: &mut Vec<u8>, machine: &M) -> Result<(), AllocError>
+    ensures { OnOk result (out.new.items ≡ out.old.items ++ where_text (M.position machine.now).program.lines.items (M.held machine.now)) }
+{
+    match machine.ending() {
+        None => push_site(out, &machine.program().lines, machine.site()),
+        Some(Ending::Ended) => {
+            push_text(out, b"ended with status ")?;
+            push_number(out, machine.status() as u64)
+        }
+        Some(Ending::Faulted(fault)) => push_fault(out, fault, line_here(machine)),
+        Some(Ending::Limited(_)) => push_fault(out, Fault::StepLimit, line_here(machine)),
+    }
+}
+
+/// Adds the line that says where the machine stands.
+pub(crate) fn push_place_line<M: Stepper>(out: &mut Vec<u8>, machine: &M) -> Result<(), AllocError>
+    ensures { OnOk result (out.new.items ≡ out.old.items ++ place_line (M.position machine.now) (M.held machine.now)) }
+{
+    push_text(out, b"point ")?;
+    push_number(out, machine.point())?;
+    push_text(out, b", ")?;
+    push_where(out, machine)?;
+    push_text(out, b"\n")
+}
+
+/// Adds the line of the only activation.
+pub(crate) fn push_activation<M: Stepper>(out: &mut Vec<u8>, machine: &M) -> Result<(), AllocError>
+    ensures { OnOk result (out.new.items
+        ≡ out.old.items ++ (codes "#0 main line " ++ decimal (line_at (M.position machine.now).program.lines.items (M.held machine.now).site) ++ 10 ∷ [])) }
+{
+    push_text(out, b"#0 main line ")?;
+    push_number(out, line_here(machine))?;
+    push_text(out, b"\n")
+}
+
+/// Adds text as whole lines.
+fn push_lines(out: &mut Vec<u8>, text: &[u8]) -> Result<(), AllocError>
+    ensures { OnOk result (out.new.items ≡ out.old.items ++ as_lines text.now) }
+{
+    push_text(out, text)?;
+    if let Some(last) = text.last() {
+        if *last != b'\n' {
+            push_text(out, b"\n")?;
+        }
+    }
+    Ok(())
+}
+
+/// Adds the output beyond its first bytes.
+pub(crate) fn push_added<M: Stepper>(
+    out: &mut Vec<u8>,
+    machine: &M,
+    from: usize,
+) -> Result<(), AllocError>
+    ensures { OnOk result (out.new.items ≡ out.old.items ++ added from (M.held machine.now)) }
+{
+    let output = machine.output();
+    if from < output.len() {
+        push_lines(out, &output[from..])
+    } else {
+        Ok(())
+    }
+}
+
+/// Adds a global's value.
+fn push_global<M: Stepper>(out: &mut Vec<u8>, machine: &M, number: usize) -> Result<(), AllocError>
+    ensures { OnOk result (out.new.items ≡ out.old.items ++ shown_value (value_at (Watched.Global number) (seen (M.held machine.now).state))) }
+{
+    match machine.global(number) {
+        Some(value) => push_value(out, value),
+        None => push_text(out, b"uninitialized"),
+    }
+}
+
+/// Adds a field's value.
+fn push_field<M: Stepper>(out: &mut Vec<u8>, machine: &M, number: usize) -> Result<(), AllocError>
+    ensures { OnOk result (out.new.items ≡ out.old.items ++ shown_value (value_at (Watched.Field number) (seen (M.held machine.now).state))) }
+{
+    if number == 0 {
+        return push_shown(out, machine.text());
+    }
+    match machine.field(number) {
+        Some(FieldRef::Piece(bytes)) => push_shown(out, bytes),
+        Some(FieldRef::Kept(value)) => push_value(out, value),
+        None => push_text(out, b"uninitialized"),
+    }
+}
+
+/// Adds a place's value.
+fn push_value_at<M: Stepper>(
+    out: &mut Vec<u8>,
+    machine: &M,
+    place: Watched,
+) -> Result<(), AllocError>
+    ensures { OnOk result (out.new.items ≡ out.old.items ++ shown_value (value_at place (seen (M.held machine.now).state))) }
+{
+    match place {
+        Watched::Global(number) => push_global(out, machine, number),
+        Watched::FieldCount => push_number(out, machine.field_count() as u64),
+        Watched::Field(number) => push_field(out, machine, number),
+    }
+}
+
+/// Adds a place and its value.
+pub(crate) fn push_shown_line<M: Stepper>(
+    out: &mut Vec<u8>,
+    machine: &M,
+    place: Watched,
+) -> Result<(), AllocError>
+    ensures { OnOk result (out.new.items ≡ out.old.items ++ shown_line (M.position machine.now).program.names.items place (M.held machine.now)) }
+{
+    push_place(out, &machine.program().names, place)?;
+    push_text(out, b" = ")?;
+    push_value_at(out, machine, place)?;
+    push_text(out, b"\n")
+}

@@ -1,0 +1,95 @@
+//! What the lines of a session are answered.
+
+ghost use Rattle.std.specs.Prelude.{◌≡◌, Ok};
+ghost use Rattle.rawk_tape.specs.Records.{Input};
+ghost use Rattle.rawk_debug.specs.Commands.{IsReady};
+ghost use Rattle.rawk_debug.specs.Sessions.{stand, machine_of};
+ghost use Rattle.rawk_debug.specs.Transcript.{reply_text, Carries, Obeys, Says, IsReply, quits};
+
+use crate::answer::Answer;
+use crate::session::Session;
+use crate::stepper::Stepper;
+use rawk_commands::{C, Command};
+use std::alloc::{AllocError, Global};
+
+/// What a line is answered.
+#[derive(Drop)]
+pub enum Reply {
+    /// A text that was made.
+    Text(Vec<u8>),
+    /// A fixed line, which takes no memory.
+    Line(C),
+    /// The line asks for nothing.
+    Nothing,
+    /// The session ends.
+    Quits,
+}
+
+impl Reply {
+    /// Its bytes.
+    pub fn bytes(&self) -> &[u8]
+        ensures { result.now ≡ reply_text self.now }
+    {
+        match self {
+            Reply::Text(text) => text.as_slice(),
+            Reply::Line(reason) => reason.line().as_bytes(),
+            Reply::Nothing => b"",
+            Reply::Quits => b"",
+        }
+    }
+}
+
+/// The reply of an answer: its text, or that it was lost where its text was refused memory.
+fn told<M: Stepper>(alloc: Global, session: &Session<M>, answer: Answer) -> Reply
+    requires { IsReady (M.fresh session.now.machine) answer }
+    ensures says { (input : Input) → M.may_be session.now.machine input
+        → Says input (stand M.position session.now) (M.before session.now.machine) (Ok answer) (reply_text result) }
+    ensures stays { IsReply result }
+{
+    session.machine.known();
+    match answer.bytes(alloc, session) {
+        Ok(text) => Reply::Text(text),
+        Err(AllocError) => Reply::Line(C::AnswerLost),
+    }
+}
+
+fn is_quit(command: &Command) -> bool
+    ensures { result ≡ quits command.now }
+{
+    match command {
+        Command::Quit => true,
+        _ => false,
+    }
+}
+
+/// Executes a command that is not `quit`, and tells the outcome.
+fn obey<M: Stepper>(alloc: Global, session: &mut Session<M>, command: Command) -> Reply
+    ensures obeys { (input : Input) → M.may_be session.new.machine input
+        → Obeys input command (stand M.position session.old) (reply_text result) (stand M.position session.new) }
+    ensures stays { IsReply result }
+    ensures narrows { (input : Input) → M.may_be session.new.machine input → M.may_be session.old.machine input }
+{
+    match session.execute(alloc, command) {
+        Ok(answer) => told(alloc, session, answer),
+        Err(reason) => Reply::Line(reason),
+    }
+}
+
+/// Carries out a line of a session, and tells what it is answered. Where memory is refused for the answer's text, what was
+/// asked for is done, and the answer says that it is lost.
+pub fn carry_out<M: Stepper>(alloc: Global, session: &mut Session<M>, line: &[u8]) -> Reply
+    ensures carries { (input : Input) → M.may_be (machine_of session.new) input
+        → Carries input line.now (stand M.position session.old) result (stand M.position session.new) }
+    ensures narrows { (input : Input) → M.may_be (machine_of session.new) input → M.may_be (machine_of session.old) input }
+{
+    match Command::read(alloc, line) {
+        Ok(None) => Reply::Nothing,
+        Ok(Some(command)) => {
+            if is_quit(&command) {
+                return Reply::Quits;
+            }
+            obey(alloc, session, command)
+        }
+        Err(reason) => Reply::Line(reason),
+    }
+}

@@ -1,0 +1,9 @@
+pub mod Tree
+pub mod TreeCode
+pub mod Node
+pub mod Rows
+pub mod ByteSets
+pub mod Ends
+pub mod Cuts
+pub mod Open
+pub mod Code

@@ -1,0 +1,25 @@
+-- What was seen before the last move.
+use Rattle.std.proofs.Common.{◌≡◌, ℕ, List, [], ◌∷◌, length, Option, None, Some, refl, sym, ap, ◌∙◌, subst}
+use Rattle.std.proofs.lemmas.Option.{same_Some}
+use Rattle.rawk_value.specs.declared.value.Value.{Value}
+use Rattle.rawk_store.specs.declared.store.Group.{Group}
+use Rattle.rawk_store.specs.declared.keeper.Kept.{Kept}
+use Rattle.rawk_store.specs.Back.{back}
+use Rattle.rawk_store.specs.Growth.{length-back}
+use Rattle.rawk_store.specs.Layout.{Layout}
+use Rattle.rawk_code.specs.Actions.{SetAt}
+use Rattle.rawk_machine.specs.declared.last.Last.{Last}
+use Rattle.rawk_machine.specs.declared.last.Last.TheVariants as last
+use Rattle.rawk_machine.specs.Standing.{Seen}
+use Rattle.rawk_machine.specs.Kept.{pasts, back_in, globals_forth, before_of}
+
+length_forth : (xs : List Value) (gs : List Group) → length (globals_forth xs gs) ≡ length xs
+length_forth xs [] = refl
+length_forth xs (g ∷ gs) = length_forth (back xs g.globals.entries.items) gs ∙ length-back xs g.globals.entries.items
+
+pub length_before : (la : Last) (l : Layout) (sets : List SetAt) (point : ℕ) (here : List Group) (items : List Kept) (s : Seen) → (la ≡ last.On → here ≡ []) → before_of la l.globals l.current (pasts l sets point here items) ≡ Some s → length s.globals ≡ length l.globals
+length_before last.Nothing l sets point here items s clean h = absurd (cc h)
+length_before last.On l sets point here [] s clean h = absurd (cc h)
+length_before last.On l sets point here (item ∷ items) s clean h =
+    ap (λ (x : Seen). length x.globals) (sym (same_Some _ _ h)) ∙ ap (λ (gs : List Group). length (back_in l gs item).globals) (clean refl) ∙ length-back l.globals item.step.globals.entries.items
+length_before (last.Back kept) l sets point here items s clean h = ap (λ (x : Seen). length x.globals) (sym (same_Some _ _ h)) ∙ length_forth l.globals (kept.step ∷ kept.sets.items)

@@ -1,8 +1,0 @@
-use Rattle.std.specs.Prelude.{slice_range}
-use Rattle.rawk_machine.specs.Moving.{moving}
-use Rattle.rawk_machine.proofs.Readings.{finds_taken}
-use Rattle.rawk_machine.proofs.reading.take_found.Goals as goal
-
-pub returns-in-Taken-clause-did : goal.returns-in-Taken-clause-did
-returns-in-Taken-clause-did g c =
-    finds_taken c.in_ok-other.other c.text.result.now (slice_range c.args.tape.now.bytes c.args.found.start c.args.found.end) c.args.found.count (moving c.args.store.now) (moving c.take_text.new.store) c.in-Taken.is c.text.ensures c.in_ok-other.ensures.did

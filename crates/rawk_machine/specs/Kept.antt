@@ -1,0 +1,135 @@
+-- What groups lead back to.
+use Rattle.std.specs.Prelude.{◌≡◌, ℕ, ◌-◌, ◌<◌, ◌≤◌, nat_lt, List, [], ◌∷◌, ◌++◌, length, take, filter, reverse, Option, None, Some}
+use Rattle.rawk_value.specs.declared.value.Value.{Value}
+use Rattle.rawk_record.specs.Shown.{Shown, record_back}
+use Rattle.std.specs.Option.{option_map}
+use Rattle.rawk_store.specs.declared.store.Group.{Group}
+use Rattle.rawk_store.specs.declared.keeper.Kept.{Kept}
+use Rattle.rawk_store.specs.Layout.{Layout, state, operands}
+use Rattle.rawk_store.specs.Back.{back}
+use Rattle.rawk_store.specs.GroupBack.{FitsIn, put_back}
+use Rattle.rawk_travel.specs.Moving.{phase_of, ending_of}
+use Rattle.rawk_code.specs.Actions.{SetAt}
+use Rattle.rawk_machine.specs.declared.last.Last.{Last}
+use Rattle.rawk_machine.specs.declared.last.Last.TheVariants as last
+use Rattle.rawk_machine.specs.Standing.{Moment, Earlier, Past, Seen, seen}
+
+-- a moment, as it lies in the parts
+abbrev pub moment_in : Layout → Moment
+moment_in l = record {
+  state = state l;
+  operands = operands l;
+  keys = [];
+  returns = [];
+  place = l.registers.place;
+  phase = phase_of l.registers.phase;
+  ending = option_map ending_of l.registers.ending;
+  site = l.registers.site;
+}
+
+-- the groups of one point's sets, the newest first
+abbrev pub newest_first : Kept → List Group
+newest_first item = reverse item.sets.items
+
+-- the sets but for the last
+abbrev pub but_last : List SetAt → List SetAt
+but_last sets = take (length sets - 1) sets
+
+-- the sets of the points before this one
+abbrev pub below : ℕ → List SetAt → List SetAt
+below point sets = filter (λ e. nat_lt e.point point) sets
+
+-- with each group put back, the newest first
+abbrev pub all_back : Layout → List Group → Layout
+all_back l [] = l
+all_back l (g ∷ gs) = all_back (put_back l g) gs
+
+-- how it stood before each set of a point
+abbrev pub unsets : Layout → List SetAt → List Group → List Earlier
+unsets l sets [] = []
+unsets l sets (g ∷ gs) = record { moment = moment_in (put_back l g); sets = but_last sets } ∷ unsets (put_back l g) (but_last sets) gs
+
+-- the point before, as it lies in the parts
+abbrev pub back_in : Layout → List Group → Kept → Layout
+back_in l here item = put_back (all_back l here) item.step
+
+-- how it stood at each earlier point
+abbrev pub pasts : Layout → List SetAt → ℕ → List Group → List Kept → List Past
+pasts l sets point here [] = []
+pasts l sets point here (item ∷ items) =
+    record {
+      last = record { moment = moment_in (back_in l here item); sets = below point sets };
+      unset = unsets (back_in l here item) (below point sets) (newest_first item);
+    }
+    ∷ pasts (back_in l here item) (below point sets) (point - 1) (newest_first item) items
+
+-- what was seen at the newest of the earlier points
+abbrev pub seen_first : List Past → Option Seen
+seen_first [] = None
+seen_first (p ∷ ps) = Some (seen p.last.moment.state)
+
+-- what was seen before the groups were put back, which lead forward now, the oldest first
+abbrev pub globals_forth : List Value → List Group → List Value
+globals_forth xs [] = xs
+globals_forth xs (g ∷ gs) = globals_forth (back xs g.globals.entries.items) gs
+
+abbrev pub record_forth : Shown → List Group → Shown
+record_forth s [] = s
+record_forth s (g ∷ gs) = record_forth (record_back s g.current) gs
+
+abbrev pub seen_forth : List Value → Shown → Kept → Seen
+seen_forth globals current kept = record {
+  globals = globals_forth globals (kept.step ∷ kept.sets.items);
+  whole = (record_forth current (kept.step ∷ kept.sets.items)).text;
+  fields = (record_forth current (kept.step ∷ kept.sets.items)).fields;
+}
+
+-- what was seen before the last move
+abbrev pub before_of : Last → List Value → Shown → List Past → Option Seen
+before_of last.Nothing globals current history = None
+before_of last.On globals current history = seen_first history
+before_of (last.Back kept) globals current history = Some (seen_forth globals current kept)
+
+-- at the point of this number; so many bytes of the input are kept
+pub record IsPlaced (l : Layout) (point size : ℕ) : Type 0 where
+  pub goes : l.registers.ending ≡ None
+  pub here : l.registers.here ≡ point
+  pub consumed : l.registers.consumed ≤ size
+
+-- the groups of a point's sets fit where they are put back, the newest first
+abbrev pub FitHere : Layout → ℕ → ℕ → List Group → Type 0
+FitHere l point size [] = Unit {0}
+FitHere l point size (g ∷ gs) = FitsIn g l × IsPlaced (put_back l g) point size × FitHere (put_back l g) point size gs
+
+abbrev pub AllBelow : ℕ → List SetAt → Type 0
+AllBelow point [] = Unit {0}
+AllBelow point (e ∷ es) = (e.point < point) × AllBelow point es
+
+abbrev pub AllOf : ℕ → List SetAt → Type 0
+AllOf point [] = Unit {0}
+AllOf point (e ∷ es) = (e.point ≡ point) × AllOf point es
+
+-- the last so many sets are of this point, and those before are of earlier ones
+pub record EndsWith (point count : ℕ) (sets : List SetAt) : Type 0 where
+  pub earlier : List SetAt
+  pub own : List SetAt
+  pub is : sets ≡ earlier ++ own
+  pub before : AllBelow point earlier
+  pub now : AllOf point own
+  pub count_is : length own ≡ count
+
+-- the groups lead from point to point, and the sets of each point are as many as their groups
+abbrev pub Chain : Layout → ℕ → ℕ → List SetAt → List Group → List Kept → Type 0
+Chain l point size sets here [] = FitHere l point size here × EndsWith point (length here) sets
+Chain l point size sets here (item ∷ items) =
+    FitHere l point size here
+    × EndsWith point (length here) sets
+    × (0 < point)
+    × FitsIn item.step (all_back l here)
+    × IsPlaced (back_in l here item) (point - 1) size
+    × Chain (back_in l here item) (point - 1) size (below point sets) (newest_first item) items
+
+-- at most as many as the limit
+abbrev pub Few : Option ℕ → ℕ → Type 0
+Few None n = Unit {0}
+Few (Some h) n = n ≤ h

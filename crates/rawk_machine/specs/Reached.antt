@@ -1,0 +1,82 @@
+-- Where a machine stands, its code's run has reached.
+use Rattle.std.proofs.Common.{◌≡◌, ℕ, ◌+◌, Bool, true, false, List, [], ◌∷◌, ◌++◌, length, Option, None, Some, refl, sym, ap, ◌∙◌, subst, if◌then◌else◌}
+use Rattle.std.specs.Prelude.{slice_get, nat_eq}
+use Rattle.rawk_value.specs.declared.value.Value.{Value}
+use Rattle.rawk_value.specs.Values.{Bytes}
+use Rattle.rawk_tape.specs.Records.{Input}
+use Rattle.rawk_store.specs.State.{State}
+use Rattle.rawk_code.specs.declared.code.Instr.{Instr}
+use Rattle.rawk_code.specs.declared.code.Instr.TheVariants as instr
+use Rattle.rawk_code.specs.Listing.{Listing}
+use Rattle.rawk_code.specs.Actions.{Point, Run, Ending, Given, SetAt, sets_at, all_set, Outcome, Goes, Breaks, Stops}
+use Rattle.rawk_code.specs.Actions as actions
+use Rattle.rawk_code.specs.Trace.{site_at_end}
+use Rattle.rawk_code.specs.Machine.{Config, Going, Over, Phase, act, step, steps, goes_on}
+use Rattle.rawk_code.specs.Correct.{first, places_of, after}
+use Rattle.rawk_code.specs.Steps.{steps_add}
+use Rattle.rawk_machine.specs.Standing.{Standing, Ground, Moment, StandsAt, Arrived, HasReached, IsAt, run_under, whole, whole_state, run_at, config_at, SiteFits, given_of, ground_of, moment_of}
+
+-- what a point does, by the sets, by whether the limit is met, and by the number of points
+abbrev pub pointed : Option ℕ → Run → (Run → Config) → List SetAt → Bool → ℕ → Config
+pointed site run next sets met k =
+    let s : State = record (all_set (sets_at sets k) run.state) { here = k } in
+    goes_on {A = Unit {0}} (if met then Breaks (Stops (actions.Limited site)) run else Goes tt (record { points = run.points ++ (record { site = site; state = s } ∷ []); state = s })) (λ _. next)
+
+-- the instruction that reaches a point
+pub point_step : (code : Listing) (given : Given) (at : ℕ) (ops : List Value) (keys : List (List Bytes)) (returns : List ℕ) (phase : Phase) (run : Run) (site : Option ℕ) (k : ℕ) (met : Bool) →
+    slice_get code.instrs at ≡ Some (instr.Point site) → length run.points ≡ k → nat_eq k given.steps ≡ met →
+    step given code.instrs (places_of code) (Going at ops keys returns phase run) ≡ pointed site run (Going (at + 1) ops keys returns phase) given.sets met k
+point_step code given at ops keys returns phase run site k met there number is =
+    let next = Going (at + 1) ops keys returns phase in
+    ap (λ (i : Option Instr). act given (places_of code) i at ops keys returns phase run) there
+    ∙ ap (λ (j : ℕ). pointed site run next given.sets (nat_eq j given.steps) j) number
+    ∙ ap (λ (b : Bool). pointed site run next given.sets b k) is
+
+-- what was reached, by how the run ended
+pub record ReachedBy (ground : Ground) (sets : List SetAt) (moment : Moment) (ending : Option Ending) (earlier : List Point) (now : State) : Type 0 where
+  pub count : ℕ
+  pub reached : run_under ground sets count ≡ config_at ending moment.place moment.operands moment.keys moment.returns moment.phase (run_at ending moment.site earlier now)
+  pub site : SiteFits ending moment.site (run_at ending moment.site earlier now)
+
+pub reached_by : (ground : Ground) (sets : List SetAt) (point : ℕ) (moment : Moment) (now : State) (ending : Option Ending) (count at : ℕ) (earlier : List Point) (state : State) →
+    run_under ground sets count ≡ config_at ending at moment.operands moment.keys moment.returns moment.phase (record { points = earlier; state = state }) →
+    Arrived ending ground sets point moment.place moment.site now at earlier state → length earlier ≡ point → ReachedBy ground sets moment ending earlier now
+reached_by ground sets point moment now None count at earlier state pending (there, place, free, is) number =
+    let given : Given = record { input = ground.input; sets = sets; steps = ground.steps } in
+    let code = ground.code in
+    let run : Run = record { points = earlier; state = state } in
+    let here = Going at moment.operands moment.keys moment.returns moment.phase run in
+    record {
+      count = count + 1;
+      reached = steps_add given code.instrs (places_of code) count 1 (first code ground.settings)
+          ∙ ap (step given code.instrs (places_of code)) pending
+          ∙ point_step code given at moment.operands moment.keys moment.returns moment.phase run moment.site point false there number free
+          ∙ ap (λ (s : State). Going (at + 1) moment.operands moment.keys moment.returns moment.phase (run_at None moment.site earlier s)) (sym is)
+          ∙ ap (λ (p : ℕ). Going p moment.operands moment.keys moment.returns moment.phase (run_at None moment.site earlier now)) (sym place);
+      site = tt;
+    }
+reached_by ground sets point moment now (Some e) count at earlier state pending (is, site) number = record {
+  count = count;
+  reached = pending ∙ ap (λ (s : State). Over e (record { points = earlier; state = s })) (sym is);
+  site = ap (λ (s : State). site_at_end e (record { points = earlier; state = s })) is ∙ site;
+}
+
+pub stands_reached : (ground : Ground) (sets : List SetAt) (point : ℕ) (moment : Moment) (gone told : Bytes) → (at : StandsAt ground sets point moment gone told) → ReachedBy ground sets moment moment.ending at.earlier (whole gone told moment.state)
+stands_reached ground sets point moment gone told at = reached_by ground sets point moment (whole gone told moment.state) moment.ending at.count at.at at.earlier at.state at.pending at.arrived at.number
+
+pub has_reached : {S : Type 0} (machine : Standing S) (input : Input) (gone told : Bytes) → IsAt machine input gone told → HasReached machine input gone told
+has_reached machine input gone told at =
+    let r = stands_reached (ground_of machine input) machine.sets machine.point (moment_of machine) gone told at in
+    record { count = r.count; earlier = at.earlier; reached = r.reached; number = at.number; site = r.site }
+
+-- with a state that is the same with what was dropped and given
+pub stands_as : (ground : Ground) (sets : List SetAt) (point : ℕ) (m : Moment) (gone told gone2 told2 : Bytes) (s : State) → whole gone2 told2 s ≡ whole gone told m.state → StandsAt ground sets point m gone told → StandsAt ground sets point (record m { state = s }) gone2 told2
+stands_as ground sets point m gone told gone2 told2 s e at = record {
+  count = at.count;
+  at = at.at;
+  earlier = at.earlier;
+  state = at.state;
+  pending = at.pending;
+  arrived = subst (λ (x : State). Arrived m.ending ground sets point m.place m.site x at.at at.earlier at.state) (sym e) at.arrived;
+  number = at.number;
+}

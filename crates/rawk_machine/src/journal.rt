@@ -1,0 +1,122 @@
+//! The end of a step: what it changed is kept, or forgotten.
+
+ghost use Rattle.std.specs.Prelude.{◌≡◌, ◌<◌, ◌≤◌, ◌+◌, ◌^◌, [], List, None, Some, length, reverse, OnOk, OnErr};
+ghost use Rattle.rawk_value.specs.declared.value.Value.{Value};
+ghost use Rattle.rawk_tape.specs.Records.{Input};
+ghost use Rattle.rawk_tape.specs.Tapes.{MayBe};
+ghost use Rattle.rawk_tape.specs.declared.source.Ending.{Ending as End};
+ghost use Rattle.rawk_store.specs.Keeping.{keeps_any};
+ghost use Rattle.rawk_store.specs.Layout.{Grown, grown};
+ghost use Rattle.rawk_store.specs.Stacked.{IsLive};
+ghost use Rattle.rawk_store.specs.Stores.{now_of, start_of};
+ghost use Rattle.rawk_travel.specs.Moving.{moving};
+ghost use Rattle.rawk_machine.specs.Arrival.{Arrives, ends_quietly, EndsByRead, IsSettled};
+ghost use Rattle.rawk_machine.specs.Closing.{Closes, FitAll};
+ghost use Rattle.rawk_machine.specs.Kept.{all_back, globals_forth, record_forth};
+
+use crate::arrival::step;
+use rawk_code::Code;
+use rawk_store::{Group, Keeper, Kept, Store};
+use rawk_tape::{Source, Tape};
+use std::alloc::{AllocError, Global};
+use std::mem;
+
+/// Ends a step, and keeps what it changed with what the sets changed that were made at the point that it left. Where memory is
+/// refused, the step is put back, and its sets' groups stand as before.
+pub fn close<K: Keeper>(
+    alloc: Global,
+    store: &mut Store,
+    keeper: &mut K,
+    here: &mut Vec<Group>,
+) -> Result<(), AllocError>
+    ensures kept { OnOk result (Closes (keeps_any (K.limit keeper.old)) (start_of store.old) (now_of store.old) (K.kept keeper.old) (K.kept keeper.new) here.old.items (K.limit keeper.old)) }
+    ensures now { OnOk result (now_of store.new ≡ now_of store.old) }
+    ensures here { OnOk result (here.new.items ≡ []) }
+    ensures err { OnErr result (now_of store.new ≡ start_of store.old) }
+    ensures same { OnErr result (K.kept keeper.new ≡ K.kept keeper.old) }
+    ensures stays { OnErr result (here.new.items ≡ here.old.items) }
+    ensures rest { start_of store.new ≡ now_of store.new }
+    ensures live { IsLive store.old.operands.now }
+    ensures limit { K.limit keeper.new ≡ K.limit keeper.old }
+{
+    if !keeper.keeps() {
+        store.forget();
+        here.clear();
+        return Ok(());
+    }
+    let step = store.finish(alloc);
+    let sets = mem::replace(here, Vec::new(alloc));
+    match keeper.keep(Kept { step, sets }) {
+        Ok(()) => Ok(()),
+        Err(refused) => {
+            let mut item = refused.value;
+            store.undo(&mut item.step);
+            *here = item.sets;
+            Err(AllocError)
+        }
+    }
+}
+
+/// One step, kept. Where memory is refused, the parts are put back as they were; bytes may be read ahead then.
+pub fn journaled<R: Source + Drop, K: Keeper>(
+    alloc: Global,
+    code: &Code,
+    store: &mut Store,
+    tape: &mut Tape<R>,
+    executed: &mut u128,
+    keeper: &mut K,
+    here: &mut Vec<Group>,
+    count: u64,
+    limit: u64,
+) -> Result<(), AllocError>
+    requires rest { start_of store.old ≡ now_of store.old }
+    requires live { IsLive store.old.operands.now }
+    requires running { store.old.registers.now.ending ≡ None }
+    requires consumed { tape.old.consumed ≡ store.old.registers.now.consumed }
+    ensures may { (kept : Input) → MayBe R.may_give tape.new kept → MayBe R.may_give tape.old kept }
+    ensures did { OnOk result (Arrives R.may_give code.now tape.new count limit (moving store.old) (moving store.new)) }
+    ensures settled { OnOk result (IsSettled count limit store.new.registers.now) }
+    ensures kept { OnOk result ((more : List Value) × Closes (keeps_any (K.limit keeper.old)) (grown (now_of store.old) more) (now_of store.new) (K.kept keeper.old) (K.kept keeper.new) here.old.items (K.limit keeper.old)) }
+    ensures here { OnOk result (here.new.items ≡ []) }
+    ensures grown { OnErr result (Grown (now_of store.old) (now_of store.new)) }
+    ensures same { OnErr result (K.kept keeper.new ≡ K.kept keeper.old) }
+    ensures stays { OnErr result (here.new.items ≡ here.old.items) }
+    ensures rest { start_of store.new ≡ now_of store.new }
+    ensures live { IsLive store.new.operands.now }
+    ensures consumed { tape.new.consumed ≡ store.new.registers.now.consumed }
+    ensures longer { length tape.old.bytes ≤ length tape.new.bytes }
+    ensures quiet { OnOk result (ends_quietly store.new.registers.now.ending) }
+    ensures failed { OnOk result (EndsByRead store.new.registers.now.ending (R.over tape.new.source ≡ Some End.Failed)) }
+    ensures limit { K.limit keeper.new ≡ K.limit keeper.old }
+    ensures within { store.old.registers.now.consumed ≤ length tape.old.bytes }
+    ensures counted { executed.old ≤ executed.new }
+    ensures risen { executed.old + 1 < 2 ^ 128 → executed.old < executed.new }
+{
+    let consumed = tape.consumed();
+    step(alloc, code, store, tape, executed, count, limit)?;
+    match close(alloc, store, keeper, here) {
+        Ok(()) => Ok(()),
+        Err(refused) => {
+            tape.consume(consumed);
+            Err(refused)
+        }
+    }
+}
+
+/// Puts groups back, the newest first; they then lead forward again. It takes no memory and always succeeds.
+pub fn undo_all(store: &mut Store, groups: &mut Vec<Group>)
+    requires rest { start_of store.old ≡ now_of store.old }
+    requires live { IsLive store.old.operands.now }
+    requires fits { FitAll (now_of store.old) (reverse groups.old.items) }
+    ensures now { now_of store.new ≡ all_back (now_of store.old) (reverse groups.old.items) }
+    ensures rest { start_of store.new ≡ now_of store.new }
+    ensures live { IsLive store.new.operands.now }
+    ensures globals { globals_forth store.new.globals.now groups.new.items ≡ store.old.globals.now }
+    ensures record { record_forth store.new.current.now groups.new.items ≡ store.old.current.now }
+{
+    let mut i = groups.len();
+    while i > 0 {
+        i -= 1;
+        store.undo(&mut groups[i]);
+    }
+}

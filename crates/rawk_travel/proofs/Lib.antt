@@ -1,0 +1,9 @@
+pub mod Shifts
+pub mod Quiets
+pub mod Acts
+pub mod Lents
+pub mod Faults
+pub mod Lines
+pub mod Takings
+pub mod Readings
+pub mod Travels

@@ -1,0 +1,176 @@
+//! The reading of a record.
+
+ghost use Rattle.std.specs.Prelude.{◌≡◌, ◌≢◌, ◌≤◌, List, Some, length, slice_range, IfOk, OnOk};
+ghost use Rattle.rawk_store.specs.Stores.{start_of};
+ghost use Rattle.rawk_travel.specs.Moving.{moving};
+ghost use Rattle.rawk_travel.specs.Reading.{counter_up, Takes, Shows, Counts, Finds, consumed_by, ReadsTo, KeepsRegisters, IsQuietReading};
+ghost use Rattle.rawk_travel.specs.Lent.{global_in};
+ghost use Rattle.rawk_record.specs.Shown.{read_as};
+ghost use Rattle.rawk_value.specs.Values.{Bytes, text_of, is_empty};
+ghost use Rattle.rawk_tape.specs.Records.{Input};
+ghost use Rattle.rawk_tape.specs.Tapes.{MayBe};
+ghost use Rattle.rawk_tape.specs.declared.source.Ending.{Ending};
+ghost use Rattle.rawk_code.specs.Actions.{Point};
+
+use crate::lent::{global_lent, number, text_lent};
+use rawk_store::{Cells, Store};
+use rawk_tape::{Found, Source, Tape};
+use rawk_value::{Fault, Value};
+use std::alloc::{AllocError, Global};
+
+/// The numbers of the globals NR, FNR, FS and RS.
+const NR: usize = 0;
+
+const FNR: usize = 1;
+
+const FS: usize = 2;
+
+const RS: usize = 5;
+
+/// What came of the reading of a record.
+#[derive(Clone, Copy, Debug)]
+pub enum Reading {
+    Taken,
+    /// the input is at its end
+    Missing,
+    Faulted(Fault),
+}
+
+/// A counter with one more. It takes no memory.
+fn counter_up(globals: &Cells, counter: usize) -> Result<i64, Fault>
+    ensures { result ≡ counter_up counter globals.now.now }
+{
+    let n = number(global_lent(globals, counter))?;
+    rawk_value::add(n, 1)
+}
+
+/// The record of a text, by the field separator of now; a separator that is refused changes nothing. It fails where memory is refused.
+fn show(
+    alloc: Global,
+    store: &mut Store,
+    text: &[u8],
+    paragraph: bool,
+) -> Result<Option<Fault>, AllocError>
+    ensures did { IfOk result (λ fault. Shows fault (read_as text.now (text_of (global_in FS store.old.globals.now)) paragraph) (moving store.old) (moving store.new)) }
+    ensures start { start_of store.new ≡ start_of store.old }
+    ensures operands { store.new.operands ≡ store.old.operands }
+{
+    let mut buffer = Vec::new(alloc);
+    let separator = text_lent(global_lent(&store.globals, FS), &mut buffer)?;
+    match store.current.read(text, separator, paragraph) {
+        Ok(()) => Ok(None),
+        Err(Fault::OutOfMemory) => Err(AllocError),
+        Err(fault) => Ok(Some(fault)),
+    }
+}
+
+/// The record of a text, and the counters. It fails where memory is refused.
+fn show_counted(
+    alloc: Global,
+    store: &mut Store,
+    text: &[u8],
+    paragraph: bool,
+    nr: i64,
+    fnr: i64,
+) -> Result<Reading, AllocError>
+    ensures did { IfOk result (λ r. Counts r nr fnr (read_as text.now (text_of (global_in FS store.old.globals.now)) paragraph) (moving store.old) (moving store.new)) }
+    ensures start { start_of store.new ≡ start_of store.old }
+    ensures operands { store.new.operands ≡ store.old.operands }
+{
+    match show(alloc, store, text, paragraph)? {
+        Some(fault) => Ok(Reading::Faulted(fault)),
+        None => {
+            store.globals.set(NR, Value::Number(nr))?;
+            store.globals.set(FNR, Value::Number(fnr))?;
+            Ok(Reading::Taken)
+        }
+    }
+}
+
+/// A text becomes the record, and is counted; a fault of a counter or a separator changes nothing. It fails where memory is
+/// refused.
+fn take_text(
+    alloc: Global,
+    store: &mut Store,
+    text: &[u8],
+    paragraph: bool,
+) -> Result<Reading, AllocError>
+    requires { paragraph ≡ is_empty (text_of (global_in RS store.old.globals.now)) }
+    ensures did { IfOk result (λ r. Takes r text.now (moving store.old) (moving store.new)) }
+    ensures start { start_of store.new ≡ start_of store.old }
+    ensures operands { store.new.operands ≡ store.old.operands }
+{
+    match counter_up(&store.globals, NR) {
+        Err(fault) => Ok(Reading::Faulted(fault)),
+        Ok(nr) => match counter_up(&store.globals, FNR) {
+            Err(fault) => Ok(Reading::Faulted(fault)),
+            Ok(fnr) => show_counted(alloc, store, text, paragraph, nr, fnr),
+        },
+    }
+}
+
+/// A fault of a reading, or the want of memory.
+fn refused(fault: Fault) -> Result<Reading, AllocError>
+    ensures { IfOk result (λ r. (r ≡ Reading.Faulted fault) × (fault ≢ Fault.OutOfMemory)) }
+{
+    match fault {
+        Fault::OutOfMemory => Err(AllocError),
+        other => Ok(Reading::Faulted(other)),
+    }
+}
+
+/// A record that was found becomes the present one, and its bytes are consumed. It fails where memory is refused.
+fn take_found<R: Source + Drop>(
+    alloc: Global,
+    store: &mut Store,
+    tape: &mut Tape<R>,
+    found: Found,
+    paragraph: bool,
+) -> Result<Reading, AllocError>
+    requires paragraph { paragraph ≡ is_empty (text_of (global_in RS store.old.globals.now)) }
+    requires ordered { found.start ≤ found.end }
+    requires end_in_range { found.end ≤ length tape.old.bytes }
+    requires in_range { found.count ≤ length tape.old.bytes }
+    ensures did { IfOk result (λ r. Finds r (slice_range tape.old.bytes found.start found.end) found.count (moving store.old) (moving store.new)) }
+    ensures start { start_of store.new ≡ start_of store.old }
+    ensures operands { store.new.operands ≡ store.old.operands }
+    ensures tape { tape.new ≡ record tape.old { consumed = tape.new.consumed } }
+    ensures consumed { IfOk result (λ r. tape.new.consumed ≡ consumed_by r found.count tape.old.consumed) }
+{
+    match take_text(alloc, store, tape.text(&found), paragraph)? {
+        Reading::Taken => {
+            tape.consume(found.count);
+            store.registers.now.consumed = found.count;
+            Ok(Reading::Taken)
+        }
+        other => Ok(other),
+    }
+}
+
+/// Reads a record: it becomes the present one and is counted, all or nothing. It fails where memory is refused; bytes may be read
+/// ahead then.
+pub fn read<R: Source + Drop>(
+    alloc: Global,
+    store: &mut Store,
+    tape: &mut Tape<R>,
+) -> Result<Reading, AllocError>
+    requires { tape.old.consumed ≡ store.old.registers.now.consumed }
+    ensures may { (kept : Input) → MayBe R.may_give tape.new kept → MayBe R.may_give tape.old kept }
+    ensures did { IfOk result (λ r. (points : List Point) (gone told : Bytes) (kept : Input) → MayBe R.may_give tape.new kept → ReadsTo r points gone told kept (moving store.old) (moving store.new)) }
+    ensures registers { IfOk result (λ r. KeepsRegisters (moving store.old) (moving store.new)) }
+    ensures start { start_of store.new ≡ start_of store.old }
+    ensures operands { store.new.operands ≡ store.old.operands }
+    ensures consumed { OnOk result (tape.new.consumed ≡ store.new.registers.now.consumed) }
+    ensures longer { length tape.old.bytes ≤ length tape.new.bytes }
+    ensures quiet { IfOk result IsQuietReading }
+    ensures failed { IfOk result (λ r. r ≡ Reading.Faulted Fault.ReadFailed → R.over tape.new.source ≡ Some Ending.Failed) }
+{
+    let mut buffer = Vec::new(alloc);
+    let separator = text_lent(global_lent(&store.globals, RS), &mut buffer)?;
+    let paragraph = separator.len() == 0;
+    match tape.next(separator) {
+        Err(fault) => refused(fault),
+        Ok(None) => Ok(Reading::Missing),
+        Ok(Some(found)) => take_found(alloc, store, tape, found, paragraph),
+    }
+}
