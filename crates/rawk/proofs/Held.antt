@@ -11,7 +11,10 @@ use Rattle.rawk_dialog.specs.declared.dialog.Over.{Over}
 use Rattle.rawk_dialog.specs.declared.dialog.Over.TheVariants.{Ended, Unread, Unwritten, NoMemory}
 use Rattle.rawk_dialog.specs.Dialogs as dialog
 use Rattle.rawk.specs.Runs.{write_failures}
-use Rattle.rawk.specs.Debugs.{first_stand, report_over}
+use Rattle.rawk_value.specs.Values.{Bytes}
+use Rattle.rawk_tape.specs.Records.{Input}
+use Rattle.rawk.specs.declared.report.Report.{Report}
+use Rattle.rawk.specs.Debugs.{Debugs, text_refused, settings_refused, never_stood, held, asks_all, first_stand, report_over}
 
 pub stand_first : {S : Type 0} (p : Program) (m : Standing S) (settings : List FirstValue) (steps : ℕ) (limit : Option ℕ) → m.settings ≡ settings → m.steps ≡ steps → m.limit ≡ limit → m.point ≡ 0 → m.sets ≡ [] → m.history ≡ [] →
     (let s : Stand = record { machine = position_of p m; stops = []; made = 0 } in s) ≡ first_stand p settings steps limit
@@ -30,3 +33,11 @@ same_failures Ended = refl
 same_failures Unread = refl
 same_failures Unwritten = refl
 same_failures NoMemory = refl
+
+-- with commands that are one input
+pub told_all : {S C V : Type 0} (may_give : S → Input → Type 0) (may_ask : C → Input → Type 0) (may_hold : V → Bytes → Type 0) (text : Bytes) (settings : List FirstValue) (source : S) (commands : C) (lines : Bytes) (steps : ℕ) (history : Option ℕ) (sink now : V) (report : Report) →
+    ((asked : Input) → may_ask commands asked → asks_all lines asked) → Debugs may_give may_ask may_hold text settings source commands steps history sink now report → Debugs may_give asks_all may_hold text settings source lines steps history sink now report
+told_all may_give may_ask may_hold text settings source commands lines steps history sink now _ one (text_refused refusal complete same) = text_refused refusal complete same
+told_all may_give may_ask may_hold text settings source commands lines steps history sink now _ one (settings_refused p is fit same) = settings_refused p is fit same
+told_all may_give may_ask may_hold text settings source commands lines steps history sink now _ one (never_stood same) = never_stood same
+told_all may_give may_ask may_hold text settings source commands lines steps history sink now _ one (held p input asked over last is fit gives asks taken) = held p input asked over last is fit gives (one asked asks) taken

@@ -49,3 +49,7 @@ pub data Debugs {S C V : Type 0} (may_give : S → Input → Type 0) (may_ask : 
   held : (p : Program) (input asked : Input) (over : Over) (last : Stand) → IsProgram text p → settings_fit p settings ≡ true → may_give source input → may_ask commands asked
       → ((held : Bytes) → may_hold sink held → (taken : Bytes) × may_hold now (held ++ taken) × IsDialog input asked (first_stand p settings steps history) last over taken)
       → Debugs may_give may_ask may_hold text settings source commands steps history sink now (report_over over)
+
+-- commands in memory are one input, which ends
+abbrev pub asks_all : Bytes → Input → Type 0
+asks_all commands asked = asked ≡ record { bytes = commands; fails = false }

@@ -1,14 +1,14 @@
 //! Sessions, answered as they go.
 ghost use Rattle.std.specs.Prelude.{◌≡◌, ◌≤◌, ◌<◌, ◌++◌, [], true, List, ℕ, None, Some, IfOk, OnErr};
 ghost use Rattle.std.specs.Option.{ForSome};
-ghost use Rattle.rawk_tape.specs.Inputs.{CountsUp};
+ghost use Rattle.rawk_tape.specs.Inputs.{CountsUp, cut_off, left_from};
 ghost use Rattle.rawk_tape.specs.Records.{Input};
 ghost use Rattle.rawk_store.specs.Keeping.{keeps_any};
 ghost use Rattle.rawk_code.specs.Correct.{CodeOf};
 ghost use Rattle.rawk_debug.specs.Moves.{Stand};
 ghost use Rattle.rawk_dialog.specs.Dialogs.{IsDialog};
 ghost use Rattle.rawk.specs.Runs.{write_failures};
-ghost use Rattle.rawk.specs.Debugs.{Debugs, first_stand, report_over};
+ghost use Rattle.rawk.specs.Debugs.{Debugs, asks_all, first_stand, report_over};
 
 use crate::report::{Cause, Report};
 use crate::running::{settings_refused, stopped, text_refused};
@@ -19,7 +19,7 @@ use rawk_machine::{Full, Keeper, Machine};
 use rawk_ring::Ring;
 use rawk_stage::Stage;
 use rawk_syntax::{Program, parse};
-use rawk_tape::{Sink, Source, Tape};
+use rawk_tape::{BytesSource, Sink, Source, Tape};
 use rawk_value::Fault;
 use std::alloc::{AllocError, Global};
 
@@ -147,4 +147,58 @@ pub fn debug_from<R: Source + Drop, C: Source + Drop, W: Sink>(
         Ok(over) => report_of(over),
         Err(_) => stopped(Fault::OutOfMemory, 0),
     }
+}
+
+/// Commands in memory, as a source. It fails where memory is refused.
+fn source_of(alloc: Global, commands: &[u8]) -> Result<BytesSource, AllocError>
+    ensures open { IfOk result (λ source. source.over ≡ None) }
+    ensures all { IfOk result (λ source. left_from source.bytes.items source.at source.ending ≡ cut_off commands.now None) }
+{
+    let bytes = Vec::from_slice(alloc, commands)?;
+    Ok(BytesSource::new(bytes, Vec::new(alloc), None))
+}
+
+/// `debug_from` with commands in memory, one on each line.
+pub fn debug_with<R: Source + Drop, W: Sink>(
+    alloc: Global,
+    settings: &Settings,
+    program: &[u8],
+    source: R,
+    commands: &[u8],
+    sink: &mut W,
+    steps: u64,
+    history: Option<u64>,
+) -> Report
+    requires limit { steps ≤ 9223372036854775807 }
+    requires history { ForSome history (λ h. (1 ≤ h) × (h ≤ 1000000)) }
+    requires open { R.over source ≡ None }
+    ensures told { Debugs R.may_give asks_all W.may_hold program.now settings.now source commands.now steps history sink.old sink.new result }
+    ensures failures { CountsUp (W.failures sink.old) (W.failures sink.new) (write_failures result.cause) }
+{
+    match source_of(alloc, commands) {
+        Ok(lines) => debug_from(
+            alloc, settings, program, source, lines, sink, steps, history,
+        ),
+        Err(_) => stopped(Fault::OutOfMemory, 0),
+    }
+}
+
+/// `debug_with` that keeps all steps.
+pub fn debug<R: Source + Drop, W: Sink>(
+    alloc: Global,
+    settings: &Settings,
+    program: &[u8],
+    source: R,
+    commands: &[u8],
+    sink: &mut W,
+    steps: u64,
+) -> Report
+    requires limit { steps ≤ 9223372036854775807 }
+    requires open { R.over source ≡ None }
+    ensures told { Debugs R.may_give asks_all W.may_hold program.now settings.now source commands.now steps None sink.old sink.new result }
+    ensures failures { CountsUp (W.failures sink.old) (W.failures sink.new) (write_failures result.cause) }
+{
+    debug_with(
+        alloc, settings, program, source, commands, sink, steps, None,
+    )
 }

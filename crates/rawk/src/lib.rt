@@ -6,7 +6,7 @@ mod performing;
 mod report;
 mod running;
 
-pub use debugging::debug_from;
+pub use debugging::{debug, debug_from, debug_with};
 pub use performing::perform;
 pub use rawk_code::Settings;
 pub use rawk_syntax::RefusalKind;

@@ -1,12 +1,14 @@
 //! Runs the cases on the standard input, a line each, and writes what came of each.
 //!
-//! A case has five parts with tabs between: the words (a `|` between two), the input (`~` is a newline), the greatest
+//! A case has five parts with tabs between: the words (a `|` between two; behind `--debug` the commands themselves), the input (`~` is a newline), the greatest
 //! piece that a read gives, the place where the source fails, and the place where the sink fails. What is written of
 //! it: what the sink took, the line for the standard error, the status, the point, and how many bytes the source
 //! handed out.
 #![tactic(auto)]
 
-use rawk::{BytesSink, BytesSource, Invocation, Text, run, settings_of};
+ghost use Rattle.std.specs.Prelude.{◌≡◌, None};
+
+use rawk::{BytesSink, BytesSource, Invocation, Report, Text, debug_with, run, settings_of};
 use std::alloc::{AllocError, Global};
 use std::io;
 
@@ -55,7 +57,39 @@ fn newlines(alloc: Global, text: &str) -> Result<String, AllocError> {
     Ok(with)
 }
 
-/// What comes of a run.
+/// What is told of a run; or of a session, whose commands stand in the place of their file's name.
+fn reported(
+    alloc: Global,
+    invocation: &Invocation,
+    program: &[u8],
+    source: &mut BytesSource,
+    sink: &mut BytesSink,
+) -> Report
+    requires { source.old.over ≡ None }
+{
+    match &invocation.commands {
+        Some(Text::Path(commands)) => debug_with(
+            alloc,
+            &invocation.settings,
+            program,
+            source,
+            commands.as_bytes(),
+            sink,
+            invocation.steps,
+            invocation.history,
+        ),
+        _ => run(
+            alloc,
+            &invocation.settings,
+            program,
+            source,
+            sink,
+            invocation.steps,
+        ),
+    }
+}
+
+/// What comes of a run or a session.
 fn ran(
     alloc: Global,
     invocation: &Invocation,
@@ -77,14 +111,7 @@ fn ran(
         Text::Bytes(bytes) => bytes.as_slice(),
         _ => &[],
     };
-    let report = run(
-        alloc,
-        &invocation.settings,
-        program,
-        &mut source,
-        &mut sink,
-        invocation.steps,
-    );
+    let report = reported(alloc, invocation, program, &mut source, &mut sink);
     let mut text = String::new(alloc);
     for byte in sink.bytes() {
         text.push(if *byte == b'\n' { '~' } else { *byte as char })?;
