@@ -1,0 +1,136 @@
+#!/usr/bin/env python3
+"""Refuses each growth in turn of a built `rawk`, and looks at what comes of it.
+
+usage: refuse.py PATH_TO_RAWK
+
+A run must answer what it answers with ample memory, or `out of memory` behind a beginning of that output.
+A session must write nothing and answer `out of memory`, or give each command the answer that a session with ample memory gives at
+the same point with the same sets, breakpoints and watches; or C12 where the answer was lost; or C11: a command that does not move has
+then changed nothing, and a move stands at a point on its way, from which the session goes on. The last line is 'N growths refused, M wrong'; the exit status is 1 where one was wrong.
+"""
+import os, subprocess, sys, tempfile
+
+HERE = os.path.dirname(os.path.abspath(__file__))
+MARK = b"C1: unknown command\n"  # the answer to a line that no command is; it takes no memory
+
+RUNS = [
+    (["{ s += $1 } END { print s }"], b"3\n4\n"),
+    (["{ print $2, NR } END { print NR }"], b"a b\nc\n"),
+    (['BEGIN { x = "a long text, longer than a word"; print x, x; print 1 + 2 }'], b""),
+    (["--steps", "6", "{ print }"], b"a\nb\n"),
+    (["BEGIN { x = 9223372036854775807; print x; print x + 1 }"], b""),
+]
+
+SESSIONS = [
+    ("BEGIN { x = 1; x = x + 1; print x }", b"", ["step", "step", "print x", "reverse-step", "print x", "reverse-continue", "step", "step", "step", "step"]),
+    ("{ n += $1 } END { print n }", b"3\n4\n", ["continue", "print n", "rc", "step", "step", "step", "print $1", "rs", "print n", "continue", "rs", "backtrace"]),
+    ("{ n += $1 } END { print n }", b"3\n4\n", ["watch n", "continue", "print $1", "c", "set n=10", "watch $1", "rc", "rc", "c", "unwatch 1", "set NF=-1", "reverse-set", "set n=5", "step", "rs", "reverse-set", "rn", "break 1", "c", "delete 3", "print q", "c", "set n=1", "rc"]),
+    ('BEGIN { x = "a text"; y = x; print y, x }', b"", ["next", "next", "print y", "rn", "continue", "rc", "continue", "rs"]),
+]
+
+
+def library(folder):
+    path = os.path.join(folder, "refuse.so")
+    subprocess.run(["gcc", "-O2", "-shared", "-fPIC", "-o", path, os.path.join(HERE, "refuse.c"), "-ldl"], check=True)
+    return path
+
+
+class Tool:
+    def __init__(self, rawk, folder):
+        self.rawk, self.folder, self.so = rawk, folder, library(folder)
+        self.refused, self.wrong, self.plain = 0, 0, {}
+
+    def call(self, words, stdin, at):
+        """What the program wrote, its error lines, its status, and whether a growth was refused."""
+        env, r, w = dict(os.environ), None, None
+        r, w = os.pipe()
+        if at:
+            env.update(LD_PRELOAD=self.so, REFUSE_AT=str(at), REFUSE_TELL=str(w))
+        done = subprocess.run([self.rawk, *words], input=stdin, capture_output=True, env=env, pass_fds=(w,), timeout=60)
+        os.close(w)
+        told = os.read(r, 1)
+        os.close(r)
+        return done.stdout, done.stderr, done.returncode, bool(told)
+
+    def bad(self, what):
+        self.wrong += 1
+        print("wrong:", what)
+
+    def run(self, words, stdin):
+        out, err, status, _ = self.call(words, stdin, 0)
+        at = 0
+        while True:
+            at += 1
+            got, told, code, refused = self.call(words, stdin, at)
+            if not refused:
+                return
+            self.refused += 1
+            whole = (got, told, code) == (out, err, status)
+            memory = code == 2 and told.endswith(b"out of memory\n") and out.startswith(got)
+            if not (whole or memory):
+                self.bad(f"{words} growth {at}: {got!r} {told!r} {code}")
+
+    def answers(self, program, stdin, commands, at=0):
+        """The answer to each command, or None where the session did not stand."""
+        path = os.path.join(self.folder, "commands")
+        with open(path, "w") as file:
+            for command in commands:
+                file.write(command + "\nmark\n")
+        got, told, code, refused = self.call(["--debug", path, program], stdin, at)
+        return got.split(MARK)[:-1], told, code, refused, got.count(MARK)
+
+    def answer_behind(self, program, stdin, done, command):
+        """The answer to a command behind others, with ample memory."""
+        key = (program, stdin, tuple(done), command)
+        if key not in self.plain:
+            self.plain[key] = self.answers(program, stdin, [*done, command])[0][-1]
+        return self.plain[key]
+
+    def session(self, program, stdin, commands):
+        at = 0
+        while True:
+            at += 1
+            got, told, code, refused, marks = self.answers(program, stdin, commands, at)
+            if not refused:
+                return
+            self.refused += 1
+            if code == 2 and told == b"rawk: out of memory\n" and marks < len(commands):
+                continue  # before the session stood, or for the reading of a line
+            if code != 0 or marks != len(commands):
+                self.bad(f"{program} growth {at}: {told!r} {code} {marks}")
+                continue
+            point, done = 0, []  # the commands that were carried out; a move that was stopped short is as many steps
+            for command, answer in zip(commands, got):
+                want = self.answer_behind(program, stdin, done, command)
+                if answer == want or answer == b"C12: answer lost\n":
+                    point, done = point_of(want, point), [*done, command]
+                elif answer == b"C11: out of memory\n":
+                    continue
+                elif b"C11: out of memory\n" in answer and point <= point_of(answer, point) <= point_of(want, point):
+                    there = point_of(answer, point)
+                    point, done = there, [*done, *["step"] * (there - point)]
+                else:
+                    self.bad(f"{program} growth {at} {command} at {point}: {answer!r}, not {want!r}")
+                    break
+
+
+def point_of(answer, point):
+    """The number on the place line of a move's answer; the point before for another answer."""
+    for line in answer.decode("latin-1").splitlines():
+        if line.startswith("point "):
+            point = int(line[6:].split(",")[0])
+    return point
+
+
+def main():
+    with tempfile.TemporaryDirectory() as folder:
+        tool = Tool(os.path.abspath(sys.argv[1]), folder)
+        for words, stdin in RUNS:
+            tool.run(words, stdin)
+        for program, stdin, commands in SESSIONS:
+            tool.session(program, stdin, commands)
+        print(f"{tool.refused} growths refused, {tool.wrong} wrong")
+        sys.exit(1 if tool.wrong else 0)
+
+
+main()
