@@ -5,6 +5,7 @@ use Rattle.rawk_store.specs.declared.store.Group.{Group}
 use Rattle.rawk_store.specs.declared.keeper.Kept.{Kept}
 use Rattle.rawk_store.specs.Layout.{Layout, Grown, grown, operands}
 use Rattle.rawk_store.specs.Stacked.{IsLive}
+use Rattle.rawk_store.specs.Saving.{saved_in}
 use Rattle.rawk_store.specs.GroupBack.{FitsIn, put_back}
 use Rattle.rawk_store.specs.Growth.{operands-grown, put_back-grown, FitsIn-grown, IsLive-put_back, Grown-refl}
 use Rattle.rawk_store.specs.Keeping.{IsFront}
@@ -45,9 +46,9 @@ unsets-grown l more point size sets [] h = refl
 unsets-grown l more point size sets (g ∷ gs) (f, p, h) =
     let m = put_back l g in
     let e = put_back-grown l g more f in
-    ap (λ (x : Layout). record { moment = moment_in x; sets = but_last sets } ∷ unsets x (but_last sets) gs) e
-    ∙ ap (λ (x : Moment). record { moment = x; sets = but_last sets } ∷ unsets (grown m more) (but_last sets) gs) (moment-grown m more (IsLive-put_back l g f))
-    ∙ ap (λ (xs : List Earlier). record { moment = moment_in m; sets = but_last sets } ∷ xs) (unsets-grown m more point size (but_last sets) gs h)
+    ap (λ (x : Layout). record { moment = moment_in x; sets = but_last sets; saved = saved_in g } ∷ unsets x (but_last sets) gs) e
+    ∙ ap (λ (x : Moment). record { moment = x; sets = but_last sets; saved = saved_in g } ∷ unsets (grown m more) (but_last sets) gs) (moment-grown m more (IsLive-put_back l g f))
+    ∙ ap (λ (xs : List Earlier). record { moment = moment_in m; sets = but_last sets; saved = saved_in g } ∷ xs) (unsets-grown m more point size (but_last sets) gs h)
 
 pub fit_here : (l : Layout) (point size : ℕ) (sets : List SetAt) (here : List Group) (items : List Kept) → Chain l point size sets here items → FitHere l point size here
 fit_here l point size sets here [] h = h.0
@@ -78,7 +79,7 @@ pasts-grown l more point size sets here (item ∷ items) (h, e, z, f, p, c) =
     let m = back_in l here item in
     let s = below point sets in
     let new = newest_first item in
-    let past = λ (x : Moment) (u : List Earlier) (ps : List Past). let y : Past = record { last = record { moment = x; sets = s }; unset = u } in y ∷ ps in
+    let past = λ (x : Moment) (u : List Earlier) (ps : List Past). let y : Past = record { last = record { moment = x; sets = s; saved = saved_in item.step }; unset = u } in y ∷ ps in
     ap (λ (x : Layout). past (moment_in x) (unsets x s new) (pasts x s (point - 1) new items)) (back_in-grown l more point size here item h f)
     ∙ ap (λ (x : Moment). past x (unsets (grown m more) s new) (pasts (grown m more) s (point - 1) new items)) (moment-grown m more (IsLive-put_back (all_back l here) item.step f))
     ∙ ap (λ (u : List Earlier). past (moment_in m) u (pasts (grown m more) s (point - 1) new items)) (unsets-grown m more (point - 1) size s new (fit_here m (point - 1) size s new items c))
@@ -115,7 +116,7 @@ pasts-front l sets point here (item ∷ items) rest =
     let s = below point sets in
     let new = newest_first item in
     let r = pasts-front m s (point - 1) new items rest in
-    record { rest = r.rest; is = ap (λ (ps : List Past). record { last = record { moment = moment_in m; sets = s }; unset = unsets m s new } ∷ ps) r.is }
+    record { rest = r.rest; is = ap (λ (ps : List Past). record { last = record { moment = moment_in m; sets = s; saved = saved_in item.step }; unset = unsets m s new } ∷ ps) r.is }
 
 pub pasts_front : (l : Layout) (sets : List SetAt) (point : ℕ) (here : List Group) (items all : List Kept) → IsFront items all → IsFront (pasts l sets point here items) (pasts l sets point here all)
 pasts_front l sets point here items all front = subst (λ (xs : List Kept). IsFront (pasts l sets point here items) (pasts l sets point here xs)) (sym front.is) (pasts-front l sets point here items front.rest)
@@ -143,12 +144,12 @@ chain_step l n more point size sets item items placed back fits c =
     )
 
 pub pasts_step : (l n : Layout) (more : List Value) (point size : ℕ) (sets : List SetAt) (item : Kept) (items : List Kept) → IsLive l.operands → put_back n item.step ≡ grown l more → Chain l point size sets (newest_first item) items →
-    pasts n sets (point + 1) [] (item ∷ items) ≡ record { last = record { moment = moment_in l; sets = sets }; unset = unsets l sets (newest_first item) } ∷ pasts l sets point (newest_first item) items
+    pasts n sets (point + 1) [] (item ∷ items) ≡ record { last = record { moment = moment_in l; sets = sets; saved = saved_in item.step }; unset = unsets l sets (newest_first item) } ∷ pasts l sets point (newest_first item) items
 pasts_step l n more point size sets item items live back c =
     let here = newest_first item in
     let same = below_next point (length here) sets (ends_with l point size sets here items c) in
     let less : point + 1 - 1 ≡ point = omega arith in
-    let past = λ (x : Moment) (s : List SetAt) (u : List Earlier) (ps : List Past). let y : Past = record { last = record { moment = x; sets = s }; unset = u } in y ∷ ps in
+    let past = λ (x : Moment) (s : List SetAt) (u : List Earlier) (ps : List Past). let y : Past = record { last = record { moment = x; sets = s; saved = saved_in item.step }; unset = u } in y ∷ ps in
     ap (λ (x : Layout). past (moment_in x) (below (point + 1) sets) (unsets x (below (point + 1) sets) here) (pasts x (below (point + 1) sets) (point + 1 - 1) here items)) back
     ∙ ap (λ (s : List SetAt). past (moment_in (grown l more)) s (unsets (grown l more) s here) (pasts (grown l more) s (point + 1 - 1) here items)) same
     ∙ ap (λ (k : ℕ). past (moment_in (grown l more)) sets (unsets (grown l more) sets here) (pasts (grown l more) sets k here items)) less
@@ -184,7 +185,7 @@ pasts_under : (m n : Layout) (sets sets2 : List SetAt) (point : ℕ) (here here2
 pasts_under m n sets sets2 point here here2 [] e s = refl
 pasts_under m n sets sets2 point here here2 (item ∷ items) e s =
     let new = newest_first item in
-    let past = λ (x : Layout) (b : List SetAt). let y : Past = record { last = record { moment = moment_in x; sets = b }; unset = unsets x b new } in y ∷ pasts x b (point - 1) new items in
+    let past = λ (x : Layout) (b : List SetAt). let y : Past = record { last = record { moment = moment_in x; sets = b; saved = saved_in item.step }; unset = unsets x b new } in y ∷ pasts x b (point - 1) new items in
     ap (λ (x : Layout). past (put_back x item.step) (below point sets)) e ∙ ap (past (back_in n here2 item)) s
 
 pub pasts_set : (l n : Layout) (more : List Value) (point size : ℕ) (sets : List SetAt) (e : SetAt) (g : Group) (here : List Group) (items : List Kept) → put_back n g ≡ grown l more → e.point ≡ point →
@@ -193,11 +194,11 @@ pasts_set l n more point size sets e g here items back of c =
     pasts_under n (grown l more) (sets ++ e ∷ []) sets point (g ∷ here) here items (ap (λ (m : Layout). all_back m here) back) (below_push point sets e of) ∙ pasts-grown l more point size sets here items c
 
 pub unsets_set : (l n : Layout) (more : List Value) (point size : ℕ) (sets : List SetAt) (e : SetAt) (g : Group) (here : List Group) (items : List Kept) → IsLive l.operands → put_back n g ≡ grown l more → e.point ≡ point →
-    Chain l point size sets here items → unsets n (sets ++ e ∷ []) (g ∷ here) ≡ record { moment = moment_in l; sets = sets } ∷ unsets l sets here
+    Chain l point size sets here items → unsets n (sets ++ e ∷ []) (g ∷ here) ≡ record { moment = moment_in l; sets = sets; saved = saved_in g } ∷ unsets l sets here
 unsets_set l n more point size sets e g here items live back of c =
     let ends = ends_push point (length here) sets e (ends_with l point size sets here items c) of in
     let front : but_last (sets ++ e ∷ []) ≡ sets = take_front sets e in
-    let all = λ (x : Moment) (s : List SetAt) (u : List Earlier). let y : Earlier = record { moment = x; sets = s } in y ∷ u in
+    let all = λ (x : Moment) (s : List SetAt) (u : List Earlier). let y : Earlier = record { moment = x; sets = s; saved = saved_in g } in y ∷ u in
     ap (λ (m : Layout). all (moment_in m) (but_last (sets ++ e ∷ [])) (unsets m (but_last (sets ++ e ∷ [])) here)) back
     ∙ ap (λ (s : List SetAt). all (moment_in (grown l more)) s (unsets (grown l more) s here)) front
     ∙ ap (λ (x : Moment). all x sets (unsets (grown l more) sets here)) (moment-grown l more live)

@@ -7,6 +7,7 @@ use Rattle.rawk_store.specs.declared.keeper.Kept.{Kept}
 use Rattle.rawk_store.specs.Keeping.{IsFront, room, keeps_any}
 use Rattle.rawk_store.specs.Layout.{Layout, grown, state}
 use Rattle.rawk_store.specs.Stacked.{IsLive}
+use Rattle.rawk_store.specs.Saving.{saved_in}
 use Rattle.rawk_store.specs.GroupBack.{put_back}
 use Rattle.rawk_code.specs.Actions.{SetAt}
 use Rattle.rawk_machine.specs.Standing.{Past, Seen, seen}
@@ -16,13 +17,14 @@ use Rattle.rawk_machine.proofs.SetLists.{ends_next}
 use Rattle.rawk_machine.proofs.Chains.{ends_with, chain_step, pasts_step, chain_front, pasts_front, length-pasts, chain-size}
 
 -- what a machine was at the point that a step left
-abbrev pub left_past : Layout → List SetAt → List Group → Past
-left_past l sets here = record { last = record { moment = moment_in l; sets = sets }; unset = unsets l sets here }
+abbrev pub left_past : ℕ → Layout → List SetAt → List Group → Past
+left_past saved l sets here = record { last = record { moment = moment_in l; sets = sets; saved = saved }; unset = unsets l sets here }
 
 -- the step is closed
 pub record Moved (l n : Layout) (point size : ℕ) (sets : List SetAt) (here : List Group) (old new : List Kept) (limit : Option ℕ) : Type 0 where
   pub chain : Chain n (point + 1) size sets [] new
-  pub front : IsFront (pasts n sets (point + 1) [] new) (left_past l sets here ∷ pasts l sets point here old)
+  pub saved : ℕ
+  pub front : IsFront (pasts n sets (point + 1) [] new) (left_past saved l sets here ∷ pasts l sets point here old)
   pub count : length (pasts n sets (point + 1) [] new) ≡ room limit (length (pasts l sets point here old) + 1)
   pub before : keeps_any limit ≡ true → seen_first (pasts n sets (point + 1) [] new) ≡ Some (seen (state l))
 
@@ -71,19 +73,20 @@ kept_on l n more point old_size size sets here old new limit live placed le k c 
     let c2 : Chain l point size sets (newest_first item) old = subst (λ (gs : List Group). Chain l point size sets gs old) mine (chain-size l point old_size size sets (reverse here) old le c) in
     let placed2 : IsPlaced l point size = record { goes = placed.goes; here = placed.here; consumed = omega (arith, placed.consumed, le) } in
     let whole = chain_step l n more point size sets item old placed2 k.back k.fits c2 in
-    let same : pasts n sets (point + 1) [] (item ∷ old) ≡ left_past l sets (reverse here) ∷ pasts l sets point (reverse here) old =
-    pasts_step l n more point size sets item old live k.back c2 ∙ ap (λ (gs : List Group). left_past l sets gs ∷ pasts l sets point gs old) (sym mine) in
-    let front : IsFront (pasts n sets (point + 1) [] new) (left_past l sets (reverse here) ∷ pasts l sets point (reverse here) old) =
+    let same : pasts n sets (point + 1) [] (item ∷ old) ≡ left_past (saved_in item.step) l sets (reverse here) ∷ pasts l sets point (reverse here) old =
+    pasts_step l n more point size sets item old live k.back c2 ∙ ap (λ (gs : List Group). left_past (saved_in item.step) l sets gs ∷ pasts l sets point gs old) (sym mine) in
+    let front : IsFront (pasts n sets (point + 1) [] new) (left_past (saved_in item.step) l sets (reverse here) ∷ pasts l sets point (reverse here) old) =
     subst (λ (ps : List Past). IsFront (pasts n sets (point + 1) [] new) ps) same (pasts_front n sets (point + 1) [] new (item ∷ old) k.front) in
     let count : length (pasts n sets (point + 1) [] new) ≡ room limit (length (pasts l sets point (reverse here) old) + 1) =
     length-pasts n sets (point + 1) [] new ∙ k.count ∙ ap (λ m. room limit (m + 1)) (sym (length-pasts l sets point (reverse here) old)) in
     record {
       chain = chain_front n (point + 1) size sets [] new (item ∷ old) k.front whole;
+      saved = saved_in item.step;
       front = front;
       count = count;
       before = λ any.
           let some = some_room limit (length (pasts l sets point (reverse here) old)) any in
-          first_of (pasts n sets (point + 1) [] new) (left_past l sets (reverse here)) (pasts l sets point (reverse here) old) front (omega (arith, some, count));
+          first_of (pasts n sets (point + 1) [] new) (left_past (saved_in item.step) l sets (reverse here)) (pasts l sets point (reverse here) old) front (omega (arith, some, count));
     }
 
 forgotten_on : (l n : Layout) (point old_size size : ℕ) (sets : List SetAt) (here : List Group) (old new : List Kept) (limit : Option ℕ) → keeps_any limit ≡ false → new ≡ [] →
@@ -91,7 +94,8 @@ forgotten_on : (l n : Layout) (point old_size size : ℕ) (sets : List SetAt) (h
 forgotten_on l n point old_size size sets here old new limit none empty c =
     subst (λ (ks : List Kept). Moved l n point size sets here old ks limit) (sym empty) (record {
       chain = (tt, ends_next point (length here) sets (ends_with l point old_size sets here old c));
-      front = record { rest = left_past l sets here ∷ pasts l sets point here old; is = refl };
+      saved = 0;
+      front = record { rest = left_past 0 l sets here ∷ pasts l sets point here old; is = refl };
       count = no_room limit (length (pasts l sets point here old) + 1) none;
       before = λ any. absurd (true_false (sym any ∙ none));
     })

@@ -1,3 +1,4 @@
+pub mod Savings
 pub mod Arrivals
 pub mod Stands
 pub mod SetLists

@@ -7,6 +7,7 @@ use Rattle.rawk_store.specs.declared.store.Group.{Group}
 use Rattle.rawk_store.specs.declared.keeper.Kept.{Kept}
 use Rattle.rawk_store.specs.Layout.{Layout, state, operands}
 use Rattle.rawk_store.specs.Back.{back}
+use Rattle.rawk_store.specs.Saving.{saved_in}
 use Rattle.rawk_store.specs.GroupBack.{FitsIn, put_back}
 use Rattle.rawk_travel.specs.Moving.{phase_of, ending_of}
 use Rattle.rawk_code.specs.Actions.{SetAt}
@@ -47,7 +48,7 @@ all_back l (g ∷ gs) = all_back (put_back l g) gs
 -- how it stood before each set of a point
 abbrev pub unsets : Layout → List SetAt → List Group → List Earlier
 unsets l sets [] = []
-unsets l sets (g ∷ gs) = record { moment = moment_in (put_back l g); sets = but_last sets } ∷ unsets (put_back l g) (but_last sets) gs
+unsets l sets (g ∷ gs) = record { moment = moment_in (put_back l g); sets = but_last sets; saved = saved_in g } ∷ unsets (put_back l g) (but_last sets) gs
 
 -- the point before, as it lies in the parts
 abbrev pub back_in : Layout → List Group → Kept → Layout
@@ -58,7 +59,7 @@ abbrev pub pasts : Layout → List SetAt → ℕ → List Group → List Kept �
 pasts l sets point here [] = []
 pasts l sets point here (item ∷ items) =
     record {
-      last = record { moment = moment_in (back_in l here item); sets = below point sets };
+      last = record { moment = moment_in (back_in l here item); sets = below point sets; saved = saved_in item.step };
       unset = unsets (back_in l here item) (below point sets) (newest_first item);
     }
     ∷ pasts (back_in l here item) (below point sets) (point - 1) (newest_first item) items

@@ -8,7 +8,7 @@ ghost use Rattle.rawk_tape.specs.declared.source.Ending.{Ending as End};
 ghost use Rattle.rawk_store.specs.Stores.{now_of, start_of};
 ghost use Rattle.rawk_machine.specs.Kept.{below};
 ghost use Rattle.rawk_machine.specs.Stood.{IsFirst};
-ghost use Rattle.rawk_machine.specs.Standing.{Standing, MayCome, IsAt, Stood, step_of, IsQuietStep, Stays, MovesOn, gone_back, taken_back, set_made, dropped};
+ghost use Rattle.rawk_machine.specs.Standing.{Standing, MayCome, IsAt, Stood, step_of, IsQuietStep, Stays, MovesOn, gone_back, taken_back, set_made, dropped, old_values};
 ghost use Rattle.rawk_travel.specs.Moving.{ending_of};
 
 use crate::arrival::step;
@@ -18,7 +18,7 @@ use crate::last::Last;
 use crate::start::{copy_settings, fill_globals};
 use crate::step::Step;
 use rawk_code::{Code, SetAt, Settings};
-use rawk_store::{Ending, Group, Keeper, Off, Phase, Registers, Store, Target};
+use rawk_store::{Ending, Group, Keeper, Off, Phase, Registers, Store, Target, saved_in_groups};
 use rawk_tape::{Source, Tape};
 use rawk_value::{Fault, Value};
 use std::alloc::{AllocError, Global};
@@ -242,7 +242,7 @@ impl<R: Source + Drop, K: Keeper> Machine<R, K> {
         value: Value,
     ) -> Result<Option<Fault>, AllocError>
         requires { self.old.ending ≡ None }
-        ensures made { IfOk result (λ fault. (fault ≡ None) × (self.new ≡ set_made target value self.old)) }
+        ensures made { IfOk result (λ fault. (fault ≡ None) × (saved : ℕ) × (self.new ≡ set_made saved target value self.old)) }
         ensures err { OnErr result (self.new ≡ self.old) }
         ensures code { self.new.code ≡ self.old.code }
         ensures limit { self.new.limit ≡ self.old.limit }
@@ -284,6 +284,14 @@ impl<R: Source + Drop, K: Keeper> Machine<R, K> {
         ensures { result ≡ self.now.executed }
     {
         self.executed
+    }
+
+    /// How many old values of globals and records are kept that lead back: for each step and each set one for each of them that it wrote. It
+    /// takes no memory, looks at each step that is kept, and stays at the greatest number of 128 bits.
+    pub fn kept(&self) -> u128
+        ensures { old_values self.now < 2 ^ 128 → result ≡ old_values self.now }
+    {
+        saved_in_groups(&self.here).saturating_add(self.keeper.saved())
     }
 
     /// The exit status so far.

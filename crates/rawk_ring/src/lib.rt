@@ -4,7 +4,7 @@
 ghost use Rattle.std.specs.Prelude.{◌≡◌, ◌≤◌, ◌<◌, Some, IfOk, []};
 
 use circular_buffer::HeapCircularBuffer;
-use rawk_store::{Keeper, Kept};
+use rawk_store::{Keeper, Kept, saved_by_all};
 use std::alloc::{AllocError, AllocFailed, Global};
 
 /// Keeps the newest steps, as many as its buffer holds. The buffer is taken once, and is never moved.
@@ -40,6 +40,11 @@ impl Keeper for Ring {
     fn keep(&mut self, item: Kept) -> Result<(), AllocFailed<Kept>> {
         let _oldest = self.items.push_back(item);
         Ok(())
+    }
+
+    fn saved(&self) -> u128 {
+        let (first, wrapped) = self.items.as_slices();
+        saved_by_all(first).saturating_add(saved_by_all(wrapped))
     }
 
     fn newest(&self) -> Option<&Kept> {

@@ -8,4 +8,5 @@ pub mod Layout
 pub mod Stores
 pub mod GroupBack
 pub mod Keeping
+pub mod Saving
 pub mod Growth

@@ -3,8 +3,10 @@
 ghost use Rattle.std.specs.Prelude.{◌≡◌, ◌+◌, ℕ, List, [], ◌∷◌, IfErr, MatchOption, OnErr, OnOk, Option, length};
 ghost use Rattle.std.specs.Bool.{OnFalse};
 ghost use Rattle.rawk_store.specs.Keeping.{IsFront, keeps_any, room};
+ghost use Rattle.rawk_store.specs.Saving.{Counts, saved_by_all};
 ghost use Rattle.rawk_store.specs.declared.keeper.Kept.{Kept};
 
+use crate::saving::saved_by_all;
 use crate::store::Group;
 use std::alloc::{AllocFailed, Global};
 
@@ -36,6 +38,10 @@ pub trait Keeper: Drop {
         ensures back { IfErr result (λ e. e.value ≡ item) }
         ensures limit { limit self.new ≡ limit self.old };
 
+    /// How many old values of globals and records it keeps. It takes no memory, looks at each step that is kept, and stays at the greatest number of 128 bits.
+    fn saved(&self) -> u128
+        ensures { Counts (saved_by_all (kept self.now)) result };
+
     /// The newest step that it kept, if it keeps one. It takes no memory.
     fn newest(&self) -> Option<&Kept>
         ensures { MatchOption result (kept self.now ≡ []) (λ item. (rest : List Kept) × (kept self.now ≡ item.now ∷ rest)) };
@@ -63,6 +69,10 @@ impl Keeper for Off {
 
     fn keep(&mut self, _item: Kept) -> Result<(), AllocFailed<Kept>> {
         Ok(())
+    }
+
+    fn saved(&self) -> u128 {
+        0
     }
 
     fn newest(&self) -> Option<&Kept> {
@@ -107,6 +117,10 @@ impl Keeper for Full {
             Ok(()) => Ok(()),
             Err(refused) => Err(refused),
         }
+    }
+
+    fn saved(&self) -> u128 {
+        saved_by_all(&self.items)
     }
 
     fn newest(&self) -> Option<&Kept> {

@@ -50,7 +50,7 @@ returns-in_ok-journaled-in-None-clause-moves g c = λ none.
     v.live placed c.journaled.ensures.longer e.kept.1 v.chain in
     let old : Standing g.row.R.Denot = standing_of i.code i.settings i.steps i.sets.items i.point i.tape l i.executed (reverse i.here.items) (g.K.Keeper.kept i.keeper) (g.K.Keeper.limit i.keeper) i.last in
     let new = λ (gs : List Group). standing_of i.code i.settings i.steps i.sets.items (i.point + 1) c.journaled.new.tape n c.journaled.new.executed (reverse gs) (g.K.Keeper.kept c.journaled.new.keeper) (g.K.Keeper.limit c.journaled.new.keeper) On in
-    let on : MovesOn old (new []) = record { point = refl; unset = refl; history = m.front; kept = m.count; before = λ any. m.before any } in
+    let on : MovesOn old (new []) = record { point = refl; unset = refl; saved = m.saved; history = m.front; kept = m.count; before = λ any. m.before any } in
     subst (λ (x : Standing g.row.R.Denot). MovesOn x (new c.journaled.new.here.items)) c.self.view_is (subst (λ (gs : List Group). MovesOn old (new gs)) (sym e.here) on)
 
 pub returns-in_ok-journaled-in-None-clause-stood : goal.returns-in_ok-journaled-in-None-clause-stood
@@ -61,7 +61,7 @@ returns-in_ok-journaled-in-None-clause-stood g c = λ input may stood.
     let on = returns-in_ok-journaled-in-None-clause-moves g c going in
     let new : Standing g.row.R.Denot =
     standing_of i.code i.settings i.steps i.sets.items (i.point + 1) c.journaled.new.tape n c.journaled.new.executed (reverse c.journaled.new.here.items) (g.K.Keeper.kept c.journaled.new.keeper) (g.K.Keeper.limit c.journaled.new.keeper) On in
-    stood_step c.args.self.now new input on.point on.unset on.history (ap (λ (m : Standing g.row.R.Denot). ground_of m input) c.self.view_is)
+    stood_step on.saved c.args.self.now new input on.point on.unset on.history (ap (λ (m : Standing g.row.R.Denot). ground_of m input) c.self.view_is)
     (returns-in_ok-journaled-in-None-clause-stands g c input [] [] may stood.now) stood
 
 pub invariant_of-self : goal.invariant_of-self

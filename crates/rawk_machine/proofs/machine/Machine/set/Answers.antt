@@ -8,6 +8,7 @@ use Rattle.rawk_store.specs.declared.target.Target.TheVariants.{Global}
 use Rattle.rawk_store.specs.Layout.{Layout}
 use Rattle.rawk_store.specs.Stacked.{IsLive}
 use Rattle.rawk_store.specs.Growth.{Grown-refl}
+use Rattle.rawk_store.specs.Saving.{saved_in}
 use Rattle.rawk_store.specs.GroupBack.{FitsIn, put_back}
 use Rattle.rawk_store.specs.Stores.{now_of}
 use Rattle.rawk_code.specs.Actions.{SetAt}
@@ -76,17 +77,19 @@ returns-clause-made g c =
     let did : n ≡ record l { globals = slice_set l.globals number value } = w.did ∙ ap (λ (y : Value). record l { globals = slice_set l.globals number y }) c.in_ok-kept.ensures in
     let standing = λ (xs : List SetAt) (m : Layout) (gs : List Group). standing_of i.code i.settings i.steps xs i.point i.tape m i.executed gs kept limit Nothing in (
       refl,
+      saved_in x,
       ap (λ (xs : List SetAt). standing xs n (reverse c.write_global.new.here.items)) (pushed ∙ ap (λ (d : SetAt). i.sets.items ++ d ∷ []) is)
           ∙ ap (λ (gs : List Group). standing (i.sets.items ++ f ∷ []) n gs) last
           ∙ ap (λ (m : Layout). standing (i.sets.items ++ f ∷ []) m (x ∷ here)) did
           ∙ set_is i.code i.settings i.steps i.sets.items i.point size i.tape l i.executed x here kept limit i.last number value v.live (ap (λ (m : Layout). put_back m x) (sym did) ∙ w.back.2) v.chain
-          ∙ ap (λ (t : Target). set_made t value (standing_of i.code i.settings i.steps i.sets.items i.point i.tape l i.executed here kept limit i.last)) (sym c.global_of-number.ensures)
-          ∙ ap (set_made c.args.target value) c.self.view_is,
+          ∙ ap (λ (t : Target). set_made (saved_in x) t value (standing_of i.code i.settings i.steps i.sets.items i.point i.tape l i.executed here kept limit i.last)) (sym c.global_of-number.ensures)
+          ∙ ap (set_made (saved_in x) c.args.target value) c.self.view_is,
     )
 
 pub returns-clause-stood : goal.returns-clause-stood
 returns-clause-stood g c = λ input stood.
     let old = c.args.self.now in
-    let made = (returns-clause-made g c).1 in
+    let made = (returns-clause-made g c).2 in
+    let saved = (returns-clause-made g c).1 in
     subst (λ (m : Standing g.row.R.Denot). Stood m input) (sym made ∙ refl)
-    (subst (λ (t : Target). Stood (set_made t c.args.value old) input) (sym c.global_of-number.ensures) (stood_set old input c.global_of-number.result c.args.value c.requires stood))
+    (subst (λ (t : Target). Stood (set_made saved t c.args.value old) input) (sym c.global_of-number.ensures) (stood_set saved old input c.global_of-number.result c.args.value c.requires stood))
