@@ -1,5 +1,5 @@
 -- What reading ahead leaves.
-use Rattle.std.proofs.Common.{◌⊎◌, inl, inr, ◌≡◌, ◌+◌, ◌-◌, ℕ, List, Option, None, Some, length, ◌++◌, drop, arith, subst, sym, ◌∙◌, ap, refl}
+use Rattle.std.proofs.Common.{◌⊎◌, inl, inr, ◌≡◌, ◌≤◌, ◌+◌, ◌-◌, ℕ, List, Option, None, Some, length, ◌++◌, drop, arith, subst, sym, ◌∙◌, ap, refl}
 use Rattle.std.proofs.lemmas.List.{length-append, append_assoc, append-nil, drop-append-le, drop_all}
 use Rattle.rawk_tape.specs.Records.{Input}
 use Rattle.rawk_tape.specs.Inputs.{before, CountsUp}
@@ -43,11 +43,16 @@ ahead_more {S = S} may_give over handed old now new a still r same =
     }
 
 -- one read more, behind bytes that did not settle the record
-pub last_read : {S : Type 0} (may_give : S → Input → Type 0) (over : S → Option Ending) (handed : S → ℕ) (old now new : Held S) (separator : List ℕ) (consumed : ℕ) → ReadsAhead may_give over handed old now → (now ≡ old) ⊎ LastRead separator consumed old.bytes now.bytes → ReadsOn may_give over handed now.source now.bytes new.source new.bytes → IsUnsettled separator now.bytes consumed → (new ≡ old) ⊎ LastRead separator consumed old.bytes new.bytes
-last_read {S = S} may_give over handed old now new separator consumed a earlier r unsettled =
-    let first : IsUnsettled separator old.bytes consumed =
+pub read_behind_unsettled : {A B : Type 0} (separator : List ℕ) (consumed : ℕ) (old bytes chunk new : List ℕ) → (A → bytes ≡ old) → A ⊎ LastRead separator consumed old bytes → bytes ≡ old ++ drop (length old) bytes → new ≡ bytes ++ chunk → length chunk ≤ 65536 → IsUnsettled separator bytes consumed → B ⊎ LastRead separator consumed old new
+read_behind_unsettled separator consumed old bytes chunk new none earlier grown whole bounded unsettled =
+    let first : IsUnsettled separator old consumed =
     elim earlier [
-      | inl none ↦ subst (λ (t : Held S). IsUnsettled separator t.bytes consumed) none unsettled
+      | inl still ↦ subst (λ (x : List ℕ). IsUnsettled separator x consumed) (none still) unsettled
       | inr some ↦ some.first
     ] in
-    inr (record { held = now.bytes; chunk = r.chunk; before = a.grown; whole = r.grown; bounded = r.bounded; first = first; last = unsettled })
+    inr (record { held = bytes; chunk = chunk; before = grown; whole = whole; bounded = bounded; first = first; last = unsettled })
+
+-- the same of a tape
+pub last_read : {S : Type 0} (may_give : S → Input → Type 0) (over : S → Option Ending) (handed : S → ℕ) (old now new : Held S) (separator : List ℕ) (consumed : ℕ) → ReadsAhead may_give over handed old now → (now ≡ old) ⊎ LastRead separator consumed old.bytes now.bytes → ReadsOn may_give over handed now.source now.bytes new.source new.bytes → IsUnsettled separator now.bytes consumed → (new ≡ old) ⊎ LastRead separator consumed old.bytes new.bytes
+last_read {S = S} may_give over handed old now new separator consumed a earlier r unsettled =
+    read_behind_unsettled {A = now ≡ old} {B = new ≡ old} separator consumed old.bytes now.bytes r.chunk new.bytes (λ same. ap (λ (t : Held S). t.bytes) same) earlier a.grown r.grown r.bounded unsettled

@@ -5,3 +5,4 @@ pub mod Ahead
 pub mod Lines
 pub mod Breaks
 pub mod Paragraphs
+pub mod Separators

@@ -3,10 +3,13 @@ use Rattle.std.specs.Prelude.{◌≡◌, ℕ, ◌+◌, Bool, true, false, cond, 
 use Rattle.std.proofs.Common.{refl, sym, ap, subst, ◌∙◌, arith}
 use Rattle.std.proofs.lemmas.List.{append_assoc, take-append-drop}
 use Rattle.std.proofs.Math.Seq.{drop-append-add}
-use Rattle.rawk_value.specs.Values.{Bytes}
+use Rattle.rawk_value.specs.Values.{Bytes, is_empty}
 use Rattle.rawk_value.specs.declared.fault.Fault.{Fault}
 use Rattle.rawk_value.specs.declared.fault.Fault.TheVariants.{ReadFailed}
-use Rattle.rawk_tape.specs.Records.{Input, Found, found, next_line, next_paragraph, next_record}
+use Rattle.rawk_ere_code.specs.Tree.{Tree}
+use Rattle.rawk_match.specs.declared.span.Span.{Span}
+use Rattle.rawk_match.specs.Expressions.{ere_of}
+use Rattle.rawk_tape.specs.Records.{Input, Found, found, next_line, next_paragraph, separator_in, ended_by, next_match, next_record}
 use Rattle.rawk_tape.specs.Inputs.{before}
 use Rattle.rawk_tape.specs.Tapes.{Held, MayBe}
 
@@ -51,6 +54,15 @@ paragraph_moved true empty text n a c e = refl
 paragraph_moved false true text n a c e = refl
 paragraph_moved false false text n a c e = ap (found text) e
 
+ended_moved : (m : Option Span) (fails : Bool) (rest : Bytes) (n count : ℕ) → ended_by m fails rest (n + count) ≡ moved n (ended_by m fails rest count)
+ended_moved (Some m) fails rest n count =
+    let e : n + count + m.end ≡ n + (count + m.end) = omega arith in ap (found (take m.start rest)) e
+ended_moved None fails rest n count = line_moved false fails (is_empty rest) rest rest n 0 (count + length rest) n (n + count + length rest) (omega arith) (omega arith)
+
+match_moved : (e : Option Tree) (fails : Bool) (rest : Bytes) (n count : ℕ) → next_match e fails rest (n + count) ≡ moved n (next_match e fails rest count)
+match_moved (Some e) fails rest n count = ended_moved (separator_in e fails rest) fails rest n count
+match_moved None fails rest n count = refl
+
 -- the next record behind bytes that stand before the input
 pub next_record-before : (front : Bytes) (input : Input) (count : ℕ) (separator : Bytes) → next_record (before front input) (length front + count) separator ≡ moved (length front) (next_record input count separator)
 next_record-before front input count [] =
@@ -59,4 +71,6 @@ next_record-before front input count [] =
 next_record-before front input count (b ∷ []) =
     let rest : drop (length front + count) (front ++ input.bytes) ≡ drop count input.bytes = drop-append-add front input.bytes count in
     ap (λ (x : Bytes). next_line b input.fails x (length front + count)) rest ∙ line_moved _ _ _ _ _ (length front) _ _ _ _ (omega arith) (omega arith)
-next_record-before front input count (b ∷ c ∷ more) = refl
+next_record-before front input count (b ∷ c ∷ more) =
+    let rest : drop (length front + count) (front ++ input.bytes) ≡ drop count input.bytes = drop-append-add front input.bytes count in
+    ap (λ (x : Bytes). next_match (ere_of (b ∷ c ∷ more)) input.fails x (length front + count)) rest ∙ match_moved (ere_of (b ∷ c ∷ more)) input.fails (drop count input.bytes) (length front) count

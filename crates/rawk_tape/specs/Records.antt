@@ -1,9 +1,13 @@
 -- An input, and its next record (POSIX awk, "Variables and Special Variables": RS).
-use Rattle.std.specs.Prelude.{ℕ, ◌+◌, Bool, ◌&&◌, ◌||◌, ◌==◌, nat_lt, if◌then◌else◌, [], ◌∷◌, length, take, drop, Option, None, Some, Result, Ok, Err}
+use Rattle.std.specs.Prelude.{ℕ, ◌+◌, Bool, true, ◌&&◌, ◌||◌, ◌==◌, nat_lt, if◌then◌else◌, [], ◌∷◌, length, take, drop, Option, None, Some, Result, Ok, Err}
 use Rattle.std.specs.List.{prefix_len, position_or_len}
 use Rattle.rawk_value.specs.Values.{Bytes, begins, is_empty}
 use Rattle.rawk_value.specs.declared.fault.Fault.{Fault}
 use Rattle.rawk_value.specs.declared.fault.Fault.TheVariants.{BadSeparator, ReadFailed}
+use Rattle.rawk_ere_code.specs.Tree.{Tree}
+use Rattle.rawk_match.specs.declared.span.Span.{Span}
+use Rattle.rawk_match.specs.Expressions.{ere_of}
+use Rattle.rawk_match.specs.Matches.{first_nonempty, open_match}
 
 -- all bytes of an input, and whether a failed read ends it
 pub record Input : Type 0 where
@@ -53,8 +57,22 @@ next_paragraph fails rest count =
     else if first == length rest then Ok None
     else found (take size (drop first rest)) (count + after)
 
--- the next record after `count` bytes, by a record separator: of one byte, empty, or (which POSIX leaves open) refused
+-- what separates: the leftmost match that is not empty, the longest there; where a failed read ends the input, only one that the bytes before it settle
+abbrev pub separator_in : Tree → Bool → Bytes → Option Span
+separator_in e fails rest = if fails then open_match rest e 0 else first_nonempty true rest e 0
+
+-- a record ends where what separates begins, which is consumed with it
+abbrev pub ended_by : Option Span → Bool → Bytes → ℕ → Result (Option Found) Fault
+ended_by (Some m) fails rest count = found (take m.start rest) (count + m.end)
+ended_by None fails rest count = last_line fails rest count
+
+-- a record ends at the first match of the expression; a text that is none is refused
+abbrev pub next_match : Option Tree → Bool → Bytes → ℕ → Result (Option Found) Fault
+next_match (Some e) fails rest count = ended_by (separator_in e fails rest) fails rest count
+next_match None fails rest count = Err BadSeparator
+
+-- the next record after `count` bytes, by a record separator: empty, of one byte, or (which POSIX leaves open) an extended regular expression, of which `^` holds at the record's first byte and `$` at the input's end
 abbrev pub next_record : Input → ℕ → Bytes → Result (Option Found) Fault
 next_record input count [] = next_paragraph input.fails (drop count input.bytes) count
 next_record input count (b ∷ []) = next_line b input.fails (drop count input.bytes) count
-next_record input count (b ∷ c ∷ more) = Err BadSeparator
+next_record input count (b ∷ c ∷ more) = next_match (ere_of (b ∷ c ∷ more)) input.fails (drop count input.bytes) count

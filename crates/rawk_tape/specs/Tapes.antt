@@ -3,6 +3,9 @@ use Rattle.std.specs.Prelude.{true, ◌≡◌, ◌≢◌, ◌≤◌, ◌<◌, �
 use Rattle.rawk_value.specs.Values.{Bytes}
 use Rattle.rawk_value.specs.declared.fault.Fault.{Fault}
 use Rattle.rawk_value.specs.declared.fault.Fault.TheVariants.{ReadFailed, OutOfMemory}
+use Rattle.rawk_ere_code.specs.Tree.{Tree}
+use Rattle.rawk_match.specs.declared.span.Span.{Span}
+use Rattle.rawk_match.specs.Expressions.{ere_of}
 use Rattle.rawk_tape.specs.Records.{Input, Found, next_record}
 use Rattle.rawk_tape.specs.Inputs.{before, CountsUp}
 use Rattle.rawk_tape.specs.declared.source.Ending.{Ending}
@@ -51,6 +54,14 @@ pub record LastRead (separator : Bytes) (consumed : ℕ) (old new : Bytes) : Typ
   pub bounded : length chunk ≤ 65536
   pub first : IsUnsettled separator old consumed
   pub last : IsUnsettled separator held consumed
+
+-- a separator of several bytes is read as this expression
+abbrev pub IsExpression : Bytes → Tree → Type 0
+IsExpression separator e = (2 ≤ length separator) × (ere_of separator ≡ Some e)
+
+-- the place of a record before a match in the rest from a place on
+abbrev pub place_before : Span → ℕ → Place
+place_before m start = record { start = start; end = start + m.start; count = start + m.end }
 
 -- a record that stands among these bytes
 abbrev pub text_at : Bytes → Place → Found

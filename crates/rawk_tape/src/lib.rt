@@ -5,6 +5,8 @@ mod buffer;
 mod bytes_sink;
 mod bytes_source;
 mod found;
+mod last;
+mod matches;
 mod search;
 mod sink;
 mod source;

@@ -1,67 +1,24 @@
 //! What is held of an input, and its next record.
-ghost use Rattle.std.specs.Prelude.{◌≡◌, ◌≤◌, ◌≢◌, ℕ, drop, length, IfOk, IfSome, IfErr};
-ghost use Rattle.rawk_tape.specs.Records.{last_line, next_paragraph};
-ghost use Rattle.rawk_tape.specs.Inputs.{is_failed};
-ghost use Rattle.rawk_tape.specs.Tapes.{Answers, IsWithin};
-ghost use Rattle.rawk_tape.specs.Paragraphs.{IsParagraph};
-
 use crate::buffer::Buffer;
+use crate::last::{last_line, last_paragraph};
+use crate::matches::next_match;
 use crate::search::{find_in, scan_paragraph};
 use crate::{Ending, Found, Source};
+use rawk_match::LastExpression;
 use rawk_value::Fault;
 use std::alloc::Global;
 use std::marker::Model;
 
-/// The rest as the last record, where no separator stands in it and the input is over.
-fn last_line(ending: Ending, bytes: &[u8], start: usize) -> Result<Option<Found>, Fault>
-    requires { start ≤ length bytes.now }
-    ensures next { Answers (last_line (is_failed ending) (drop start bytes.now) start) bytes.now result }
-    ensures within { IsWithin bytes.now start result }
-    ensures failed { IfErr result (λ fault. ending ≡ Ending.Failed) }
-{
-    match ending {
-        Ending::Failed => Err(Fault::ReadFailed),
-        Ending::Ended => {
-            let end = bytes.len();
-            if start == end {
-                return Ok(None);
-            }
-            Ok(Some(Found {
-                start,
-                end,
-                count: end,
-            }))
-        }
-    }
-}
-
-/// The last paragraph, where nothing stands behind it and the input is over.
-fn last_paragraph(ending: Ending, bytes: &[u8], found: Found) -> Result<Option<Found>, Fault>
-    requires { found.count ≡ length bytes.now }
-    ensures next { (start : ℕ) → IsParagraph bytes.now start found →
-        Answers (next_paragraph (is_failed ending) (drop start bytes.now) start) bytes.now result }
-    ensures within { (start : ℕ) → IsParagraph bytes.now start found → IsWithin bytes.now start result }
-    ensures place { IfOk result (λ answer. IfSome answer (λ place. place ≡ found)) }
-    ensures failed { IfErr result (λ fault. ending ≡ Ending.Failed) }
-{
-    match ending {
-        Ending::Failed => Err(Fault::ReadFailed),
-        Ending::Ended => {
-            if found.start == bytes.len() {
-                return Ok(None);
-            }
-            Ok(Some(found))
-        }
-    }
-}
-
-/// Bytes read from a source, and how many of them are consumed.
+/// Bytes read from a source, and how many of them are consumed. Beside them the expression of the
+/// last separator is kept, of which contracts see nothing.
 #[derive(Drop)]
 pub struct Tape<R: Source + Drop> {
     source: R,
     over: Option<Ending>,
     bytes: Buffer,
     start: usize,
+    expression: LastExpression,
+    alloc: Global,
 }
 
 impl<R: Source + Drop> Model for Tape<R> {
@@ -92,6 +49,8 @@ impl<R: Source + Drop> Tape<R> {
             over: None,
             bytes: Buffer::new(alloc),
             start: 0,
+            expression: LastExpression::new(alloc),
+            alloc,
         }
     }
 
@@ -248,15 +207,44 @@ impl<R: Source + Drop> Tape<R> {
         }
     }
 
+    /// The next record, which a match of the expression that the separator is ends.
+    fn next_expression(&mut self, separator: &[u8]) -> Result<Option<Found>, Fault>
+        requires { 2 ≤ length separator.now }
+        ensures ahead { ReadsAhead R.may_give R.over R.handed self.old self.new }
+        ensures next { (input : Input) → MayBe R.may_give self.new input →
+            Answers (next_record input self.old.consumed separator.now) self.new.bytes result }
+        ensures lazy { (self.new ≡ self.old)
+            ⊎ LastRead separator.now self.old.consumed self.old.bytes self.new.bytes }
+        ensures within { IsWithin self.new.bytes self.old.consumed result }
+        ensures failed { IfErr result (λ fault.
+            fault ≡ Fault.ReadFailed → R.over self.new.source ≡ Some Ending.Failed) }
+    {
+        match self.expression.get(self.alloc, separator) {
+            Ok(Some(ere)) => next_match(
+                self.alloc,
+                &mut self.source,
+                &mut self.over,
+                &mut self.bytes,
+                self.start,
+                ere,
+            ),
+            Ok(None) => Err(Fault::BadSeparator),
+            Err(_) => Err(Fault::OutOfMemory),
+        }
+    }
+
     /// The next record of the input, or None at its end. Nothing is consumed yet.
     ///
     /// An empty separator ends a record at a run of two or more newlines, and skips newlines
-    /// before it; a single byte ends a record by itself (POSIX awk, the variable RS). What is
-    /// read only stands behind the bytes kept so far, whatever the answer, and the source is
-    /// read only while the bytes kept do not settle the record.
+    /// before it; a single byte ends a record by itself (POSIX awk, the variable RS). Several
+    /// bytes are an extended regular expression: a record ends at its first match that is not
+    /// empty; `^` holds at the record's first byte, `$` at the input's end. What is read only
+    /// stands behind the bytes kept so far, whatever the answer, and the source is read only
+    /// while the bytes kept do not settle the record.
     ///
-    /// Errors: `BadSeparator` for several bytes; `ReadFailed` where the source has failed before
-    /// the record was settled; `OutOfMemory` where a growth was refused.
+    /// Errors: `BadSeparator` for several bytes that are no expression, before anything is read;
+    /// `ReadFailed` where the source has failed before the record was settled; `OutOfMemory` where
+    /// a growth was refused.
     pub fn next(&mut self, separator: &[u8]) -> Result<Option<Found>, Fault>
         ensures ahead { ReadsAhead R.may_give R.over R.handed self.old self.new }
         ensures next { (input : Input) → MayBe R.may_give self.new input →
@@ -264,14 +252,15 @@ impl<R: Source + Drop> Tape<R> {
         ensures lazy { (self.new ≡ self.old)
             ⊎ LastRead separator.now self.old.consumed self.old.bytes self.new.bytes }
         ensures within { IsWithin self.new.bytes self.old.consumed result }
-        ensures short { IsShortOf self.old.bytes self.old.consumed self.new.bytes result }
+        ensures short { length separator.now ≤ 1 →
+            IsShortOf self.old.bytes self.old.consumed self.new.bytes result }
         ensures failed { IfErr result (λ fault.
             fault ≡ Fault.ReadFailed → R.over self.new.source ≡ Some Ending.Failed) }
     {
         match separator {
             [] => self.next_paragraph(),
             [byte] => self.next_line(*byte),
-            _ => Err(Fault::BadSeparator),
+            _ => self.next_expression(separator),
         }
     }
 }

@@ -1,4 +1,3 @@
-pub mod Shifts
 pub mod Quiets
 pub mod Acts
 pub mod Lents

@@ -4,7 +4,7 @@ use Rattle.rawk_tape.specs.Records.{next_paragraph}
 use Rattle.rawk_tape.specs.Inputs.{is_failed}
 use Rattle.rawk_tape.specs.declared.source.Ending.{Ending}
 use Rattle.rawk_tape.proofs.Breaks.{found_is, none_is, fails_is}
-use Rattle.rawk_tape.proofs.tape.last_paragraph.Goals as goal
+use Rattle.rawk_tape.proofs.last.last_paragraph.Goals as goal
 
 pub returns-then-found-bytes-clause-next : goal.returns-then-found-bytes-clause-next
 returns-then-found-bytes-clause-next c = λ start p.
