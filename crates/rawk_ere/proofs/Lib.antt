@@ -6,3 +6,4 @@ pub mod BracketLemmas
 pub mod IntervalLemmas
 pub mod ScanLemmas
 pub mod ReadsLemmas
+pub mod NonemptyLemmas

@@ -2,6 +2,7 @@ pub mod Grammar
 pub mod Pattern
 pub mod Reading
 pub mod Reads
+pub mod Nonempty
 pub use Rattle.rawk_ere_code.specs.Tree
 pub use Rattle.rawk_ere_code.specs.TreeCode
 pub use Rattle.rawk_ere_code.specs.ByteSets

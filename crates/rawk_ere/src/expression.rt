@@ -3,6 +3,7 @@
 ghost use Rattle.std.specs.Prelude.{◌≡◌, ◌+◌, ◌-◌, ◌*◌, ◌<◌, ◌≤◌, length, ℕ, Some, IfOk, IfErr};
 ghost use Rattle.rawk_ere_code.specs.Tree.{size_of, IsWithinLimits};
 ghost use Rattle.rawk_ere.specs.Reads.{Reads, IsRefused};
+ghost use Rattle.rawk_ere.specs.Nonempty.{IsFirstNonempty};
 ghost use Rattle.rawk_ere_code.specs.Code.{code_of};
 ghost use Rattle.rawk_ere_code.specs.Ends.{IsLongest, IsMatch};
 ghost use Rattle.rawk_ere_code.specs.Open.{IsOpenMatch, IsSettled, IsOpenFrom};
@@ -94,6 +95,33 @@ impl Ere {
         ensures within { IfOk result (AreBetween from (length text.now)) }
     {
         self.automaton.find(alloc, text, from)
+    }
+
+    /// The leftmost nonempty match from `from` on, and the longest there: its begin and its end.
+    pub fn find_nonempty(
+        &self,
+        alloc: Global,
+        text: &[u8],
+        from: usize,
+    ) -> Result<Option<(usize, usize)>, AllocError>
+        requires { from ≤ length text.now }
+        ensures is { IfOk result (IsFirstNonempty text.now self.now from) }
+        ensures within { IfOk result (AreBetween from (length text.now)) }
+    {
+        let mut at = from;
+        while at < text.len() {
+            let found = self.find(alloc, text, at)?;
+            match found {
+                None => return Ok(None),
+                Some((begin, end)) => {
+                    if begin < end {
+                        return Ok(Some((begin, end)));
+                    }
+                    at = begin + 1;
+                }
+            }
+        }
+        Ok(None)
     }
 
     /// The leftmost nonempty match from `from` on, and the longest there, if it stays that in every longer text that begins

@@ -1,4 +1,5 @@
-//! Counts the lines of the standard input in which an extended regular expression is found: `rawk_ere_bench PATTERN`.
+//! Counts the lines of the standard input in which an extended regular expression is found: `rawk_ere_bench PATTERN`. With
+//! a second word, counts the matches that cut the input, as a text that may go on, and shows where the next one may begin.
 #![tactic(auto)]
 
 use anyhow::{Result, anyhow, bail};
@@ -6,7 +7,7 @@ use memchr::memchr_iter;
 use rawk_ere::{Ere, EreError};
 use std::alloc::{AllocError, Global};
 use std::env;
-use std::io::{BufRead, BufReader};
+use std::io::{BufRead, BufReader, Read};
 use std::rt::Env;
 
 /// How many bytes are read at once.
@@ -16,6 +17,13 @@ fn main(rt: HostRuntime) -> Result<()> {
     let alloc = rt.alloc();
     let ere = expression(alloc, &rt)?;
     let mut reader = BufReader::with_capacity(alloc, PIECE, rt.reader())?;
+    if is_open(&rt)? {
+        let mut text = Vec::new(alloc);
+        let _read = reader.read_to_end(&mut text)?;
+        let (count, next) = count_open(alloc, &ere, &text)?;
+        println!(rt; "{count} {next}")?;
+        return Ok(());
+    }
     let count = count_lines(alloc, &ere, &mut reader)?;
     println!(rt; "{count}")?;
     Ok(())
@@ -34,6 +42,33 @@ fn expression(alloc: Global, rt: &(impl Env + Alloc)) -> Result<Ere> {
         Err(EreError::TooLarge) => Err(anyhow!("too large")),
         Err(EreError::Memory) => Err(anyhow!("no memory")),
     }
+}
+
+/// Whether a second word is there.
+fn is_open(rt: &(impl Env + Alloc)) -> Result<bool> {
+    let mut words = env::args(rt)?;
+    let _program = words.next();
+    let _pattern = words.next();
+    Ok(words.next().is_some())
+}
+
+/// How many nonempty matches follow one another in a text that may go on, and the place where the next one may begin.
+fn count_open(alloc: Global, ere: &Ere, text: &[u8]) -> Result<(u64, usize), AllocError> {
+    let mut count = 0u64;
+    let mut from = 0;
+    for _ in 0..u64::MAX {
+        if from > text.len() {
+            break;
+        }
+        match ere.find_open(alloc, text, from)? {
+            None => return Ok((count, ere.open_from(alloc, text, from)?)),
+            Some((_begin, end)) => {
+                count = count.saturating_add(1);
+                from = end;
+            }
+        }
+    }
+    Ok((count, from))
 }
 
 /// How many lines the expression is found in.

@@ -1,2 +1,5 @@
 pub mod Repeated
 pub mod CodeLemmas
+pub mod KeptLemmas
+pub mod Walks
+pub mod SetLemmas

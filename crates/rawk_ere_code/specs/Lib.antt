@@ -7,3 +7,6 @@ pub mod Ends
 pub mod Cuts
 pub mod Open
 pub mod Code
+pub mod Kept
+pub mod StateSets
+pub mod Begins

@@ -202,3 +202,16 @@ marked_none code marks e k is = absurd (true≢false (sym is ∙ ap (λ l. get_o
 
 pub some_is : {T : Type 0} (P : T → Type 0) (x : T) → P x → ForSome (Some x) P
 some_is P x h = λ y is. let e : x ≡ y = cc in subst P e h
+
+-- one more mark says whether P holds at its place
+pub marks_more : (P : ℕ → Type 0) (old new : List Bool) (i : ℕ) (b : Bool) → new ≡ old ++ b ∷ [] → IsTrue b ↔ P i
+    → (length old ≡ i) × ((r : ℕ) → r < i → IsTrue (get_or old r false) ↔ P r)
+    → (length new ≡ i + 1) × ((r : ℕ) → r < i + 1 → IsTrue (get_or new r false) ↔ P r)
+marks_more P old new i b is here h =
+    let here_at : (r : ℕ) → r ≡ i → get_or new r false ≡ b = λ r e. ap (λ l. get_or l r false) is ∙ ap (λ n. get_or (old ++ b ∷ []) n false) (e ∙ sym h.0) ∙ get_or-append_seam old b [] false in (
+      ap length is ∙ length-append old (b ∷ []) ∙ ap (λ n. n + 1) h.0,
+      λ r lt. elim (cases_eq r i) as (λ _. IsTrue (get_or new r false) ↔ P r) [
+        | inl e ↦ subst (λ x. IsTrue x ↔ P r) (sym (here_at r e)) (subst (λ n. IsTrue b ↔ P n) (sym e) here)
+        | inr o ↦ subst (λ x. IsTrue x ↔ P r) (sym (ap (λ l. get_or l r false) is ∙ get_or-append old (b ∷ []) false r (omega (arith, h.0, lt, o)))) (h.1 r (omega (arith, lt, o)))
+      ],
+    )

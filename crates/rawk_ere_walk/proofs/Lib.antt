@@ -1,5 +1,4 @@
 pub mod Paths
-pub mod SetLemmas
 pub mod WalkLemmas
 pub mod EreLemmas
 pub mod SizeLemmas

@@ -8,13 +8,14 @@ use Rattle.std.proofs.lemmas.List.Elements.{Contains-append_cases}
 use Rattle.rawk_ere_code.specs.declared.code.Instruction.{Instruction}
 use Rattle.rawk_ere_code.specs.Ends.{IsLast}
 use Rattle.rawk_ere_code.specs.Code.{Hops, Step, Path, wide_code}
-use Rattle.rawk_ere_walk.specs.Sets.{Adds, Closes, AreReached, IsFarthestBefore, IsFarthest}
-use Rattle.rawk_ere_walk.specs.Search.{EndsFrom, Widens, BeginsNone}
-use Rattle.rawk_ere_walk.specs.Begins.{begins_with}
+use Rattle.rawk_ere_code.specs.StateSets.{Adds}
+use Rattle.rawk_ere_walk.specs.Sets.{Closes, AreReached, IsFarthestBefore, IsFarthest}
+use Rattle.rawk_ere_walk.specs.Search.{EndsFrom, Widens, BeginsNone, MayStart, NoneMay}
+use Rattle.rawk_ere_code.specs.Begins.{begins_with}
 use Rattle.rawk_ere_walk.specs.declared.table.Table.{Table}
 use Rattle.rawk_ere_walk.specs.Table.{members, Begins, LeadsBy, EndsLast, AreFilled, AreStarts, IsTable}
-use Rattle.rawk_ere_walk.proofs.SetLemmas.{Contains-none}
-use Rattle.rawk_ere_walk.proofs.WalkLemmas.{hops_where, closes_where, path_of_hops, path_more, path_last, path_join, path_up, step_up, reached_first, reached_more, none_before, noted_is, farthest_stop, farthest_end}
+use Rattle.rawk_ere_code.proofs.SetLemmas.{Contains-none}
+use Rattle.rawk_ere_walk.proofs.WalkLemmas.{hops_where, closes_where, path_of_hops, path_more, path_last, path_join, path_up, path_passes, wants_none, step_up, reached_first, reached_more, none_before, noted_is, farthest_stop, farthest_end}
 
 not_true : IsTrue false → ⊥
 not_true h = true≢false (sym h)
@@ -159,6 +160,73 @@ module _ (code : List Instruction) (s : List ℕ) where
         reached = leads_reached i at b (members sets row) (members sets row') le lt eb r.reached there;
         before = noted_is code true s i at (members sets row) longest result (reached_within i at (members sets row) lt r.reached) here r.before;
       }
+
+  -- the row that a byte leads to
+  pub row_next : (sets : List (ℕ × List ℕ)) (next : List ℕ) (i at row b row' : ℕ) → AreFilled code sets next → length next ≡ 256 * length sets → i ≤ at → at < length s → b ≡ get_or s at 0 → b < 256 → row' ≡ get_or next (row * 256 + b) 0
+      → row < length sets → AreReached code false s i at (members sets row) → (row' < length sets) × AreReached code false s i (at + 1) (members sets row')
+  row_next sets next i at row b row' f all le lt eb lb e within r =
+      let k = row * 256 + b in
+      let lk : k < length next = omega (arith, within, all) in
+      let d : k / 256 ≡ row = omega arith in
+      let m : k % 256 ≡ b = omega arith in
+      let there = subst (λ x. LeadsBy code b (members sets row) (members sets x)) (sym e) (subst (λ x. LeadsBy code x (members sets row) (members sets (slice_index next k))) m (subst (λ x. LeadsBy code (k % 256) (members sets x) (members sets (slice_index next k))) d (f.leads k lk))) in
+      (omega (arith, f.target k lk, e), leads_reached i at b (members sets row) (members sets row') le lt eb r there)
+
+  -- what a walk by the table keeps in a text that may go on
+  pub record OpenRunning (sets : List (ℕ × List ℕ)) (i at row : ℕ) (longest : Option ℕ) : Type 0 where
+    pub within : row < length sets
+    pub reached : AreReached code false s i at (members sets row)
+    pub before : IsFarthestBefore code false s i at longest
+
+  pub open_running_start : (sets : List (ℕ × List ℕ)) (start later i row : ℕ) → AreStarts code sets start later → ((i ≡ 0) × (row ≡ start)) ⊎ ((i ≡ 0 → ⊥) × (row ≡ later)) → OpenRunning sets i i row None
+  open_running_start sets start later i row a h = let r = running_start sets start later i row a h in record { within = r.within; reached = r.reached; before = none_before code false s i }
+
+  open_noted : (i at : ℕ) (set : List ℕ) (longest result : Option ℕ) (ends : Bool) → IsTrue ends ↔ Contains set (length code) → (IsTrue ends × (result ≡ Some at)) ⊎ ((IsTrue ends → ⊥) × (result ≡ longest))
+      → AreReached code false s i at set → IsFarthestBefore code false s i at longest → IsFarthestBefore code false s i (at + 1) result
+  open_noted i at set longest result ends is c r f =
+      noted_is code false s i at set longest result r (elim c as (λ _. (Contains set (length code) × (result ≡ Some at)) ⊎ ((Contains set (length code) → ⊥) × (result ≡ longest))) [ inl h ↦ inl (is.0 h.0, h.1) | inr h ↦ inr (λ x. h.0 (is.1 x), h.1) ]) f
+
+  pub open_running_next : (sets : List (ℕ × List ℕ)) (next : List ℕ) (i at row b row' : ℕ) (longest result : Option ℕ) (ends : Bool) → AreFilled code sets next → length next ≡ 256 * length sets
+      → i ≤ at → at < length s → b ≡ get_or s at 0 → b < 256 → row' ≡ get_or next (row * 256 + b) 0 → IsTrue ends ↔ Contains (members sets row) (length code)
+      → (IsTrue ends × (result ≡ Some at)) ⊎ ((IsTrue ends → ⊥) × (result ≡ longest)) → OpenRunning sets i at row longest → OpenRunning sets i (at + 1) row' result
+  open_running_next sets next i at row b row' longest result ends f all le lt eb lb e is c r =
+      let n = row_next sets next i at row b row' f all le lt eb lb e r.within r.reached in
+      record { within = n.0; reached = n.1; before = open_noted i at (members sets row) longest result ends is c r.reached r.before }
+
+  pub open_running_end : (sets : List (ℕ × List ℕ)) (i at row : ℕ) (longest result : Option ℕ) (ends : Bool) → i ≤ length s → at ≡ length s → IsTrue ends ↔ Contains (members sets row) (length code)
+      → (IsTrue ends × (result ≡ Some at)) ⊎ ((IsTrue ends → ⊥) × (result ≡ longest)) → OpenRunning sets i at row longest → IsFarthest code false s i result
+  open_running_end sets i at row longest result ends le e is c r =
+      farthest_end code false s i (at + 1) result le (omega (arith, e)) (open_noted i at (members sets row) longest result ends is c r.reached r.before)
+
+  -- no way that reads a byte may begin with the byte at the place
+  pub may_not : (t : Table) (is : IsTable code t) (at b : ℕ) → 0 < at → at < length s → b ≡ get_or s at 0 → b < 256 → get_or t.next.items (t.later * 256 + b) 0 ≡ t.dead → MayStart code s at → ⊥
+  may_not t is at b pos lt eb lb nd m =
+      let r0 = running_start is.sets t.start t.later at t.later is.starts (inr (λ z. omega (arith, z), refl)) in
+      let r1 = row_next is.sets t.next.items at at t.later b t.dead is.filled is.all (omega arith) lt eb lb (sym nd) r0.within r0.reached in
+      let z = is.none r1.0 in
+      elim m as (λ _. ⊥) [
+        | inl w ↦ not_true ((wants_none code false s at (at + 1) (members is.sets t.dead) (omega arith) (omega arith) z r1.1).1 w)
+        | inr h ↦
+            let later = h.1 in
+            let p = path_passes code false s h.2.0 0 at (length code) h.0 (at + 1) (omega arith) h.2.1 (omega arith) (omega (arith, later)) in
+            let x = r1.1.all p.0 p.1 p.2 p.3 in omega (arith, x.1, z)
+      ]
+
+  pub none_may_more : (p at : ℕ) → NoneMay code s p at → (MayStart code s at → ⊥) → NoneMay code s p (at + 1)
+  none_may_more p at n h = λ i from lt m. elim (cases_eq i at) [
+    | inl is ↦ h (subst (λ x. MayStart code s x) is m)
+    | inr other ↦ (let o : i ≡ at → ⊥ = other in n i from (omega (arith, o)) m)
+  ]
+
+  pub none_may_seek : (t : Table) (is : IsTable code t) (from n : ℕ) (rest : List ℕ) → 0 < from → from + n ≤ length s → rest ≡ drop from s → ((k : ℕ) → get_or s k 0 < 256) → ((k : ℕ) → k < n → begins_with t.begins (get_or rest k 0) ≡ false)
+      → NoneMay code s from (from + n)
+  none_may_seek t is from n rest pos le er fits h = λ i low lt m.
+      let e : from + (i - from) ≡ i = omega arith in
+      let b = get_or s i 0 in
+      let byte : get_or rest (i - from) 0 ≡ b = ap (λ l. get_or l (i - from) 0) er ∙ get_or-drop from s (i - from) 0 ∙ ap (λ x. get_or s x 0) e in
+      let not : begins_with t.begins b ≡ false = subst (λ x. begins_with t.begins x ≡ false) byte (h (i - from) (omega arith)) in
+      let known = is.begin_with b (fits i) not in
+      may_not t is i b (omega arith) (omega arith) refl (fits i) known.1 m
 
   -- an end at the row is one of a way
   pub running_way : (sets : List (ℕ × List ℕ)) (i at row : ℕ) (longest : Option ℕ) → at < length s → Contains (members sets row) (length code) → Running sets i at row longest → (n : ℕ) × Path code true s n 0 i (length code) at

@@ -1,18 +1,19 @@
 -- The walk from byte to byte keeps the states that are reached.
-use Rattle.std.proofs.Common.{◌≡◌, ℕ, zero, suc, ◌+◌, ◌<◌, ◌≤◌, ◌⊎◌, inl, inr, Bool, false, true≢false, List, [], length, get_or, Option, Some, None, refl, sym, ap, ◌∙◌, subst, arith, length-append, true}
+use Rattle.std.proofs.Common.{◌≡◌, ℕ, zero, suc, ◌+◌, ◌<◌, ◌≤◌, ◌⊎◌, inl, inr, min, Bool, false, true≢false, List, [], length, get_or, Option, Some, None, refl, sym, ap, ◌∙◌, subst, arith, length-append, true}
 use Rattle.std.specs.Prelude.{◌↔◌, IsTrue, Contains, slice_get}
 use Rattle.std.proofs.Math.ListN.{get_or-append}
 use Rattle.std.proofs.lemmas.Bool.{cases_eq, cases_lt}
-use Rattle.std.proofs.lemmas.List.{get_or_default}
+use Rattle.std.proofs.lemmas.List.{get_or_default, append-nil}
 use Rattle.std.proofs.lemmas.List.Elements.{Contains-get_or, Contains-append_left, Contains-append_cases}
 use Rattle.std.proofs.lemmas.Option.{slice_get_within, get_or_from_slice_get, slice_get-get_or}
 use Rattle.rawk_ere_code.specs.declared.code.Instruction.{Instruction}
 use Rattle.rawk_ere_code.specs.declared.code.Instruction.TheVariants.{Bytes, Start, End, Split, Go, Back, Fork}
 use Rattle.rawk_ere_code.specs.Ends.{IsLast}
 use Rattle.rawk_ere_code.specs.Code.{Hops, Reads, Step, Path}
-use Rattle.rawk_ere_walk.specs.Sets.{Adds, HopsFrom, HopsBy, ReadsFrom, Closes, AdvancesBy, AreReached, IsFarthestBefore, IsFarthest, AsksAt, AsksIn, WantsFrom, HasReached}
-use Rattle.rawk_ere_walk.specs.Search.{EndsFrom}
-use Rattle.rawk_ere_walk.proofs.SetLemmas.{Contains-none}
+use Rattle.rawk_ere_code.specs.StateSets.{Adds}
+use Rattle.rawk_ere_walk.specs.Sets.{HopsFrom, HopsBy, ReadsFrom, Closes, AdvancesBy, AreReached, IsFarthestBefore, IsFarthest, AsksAt, AsksIn, WantsFrom, HasReached}
+use Rattle.rawk_ere_walk.specs.Search.{EndsFrom, MayBy}
+use Rattle.rawk_ere_code.proofs.SetLemmas.{Contains-none}
 
 pub get_or_of : (s : List ℕ) (k b : ℕ) → slice_get s k ≡ Some b → get_or s k 0 ≡ b
 get_or_of s k b h = get_or_from_slice_get s k b 0 h
@@ -300,44 +301,87 @@ asks_none code states index le n = (
       absurd (n a.1.0 (omega (arith, a.1.1)) (subst (λ q. AsksAt code q) (sym e) a.2)),
 )
 
-module _ (code : List Instruction) (s : List ℕ) where
-  pub all_start : (i upto : ℕ) (states : List ℕ) → i ≤ upto → AreReached code true s i i states → HasReached code s i upto i states
+module _ (code : List Instruction) (closed : Bool) (s : List ℕ) where
+  pub all_start : (i upto : ℕ) (states : List ℕ) → i ≤ upto → AreReached code closed s i i states → HasReached code closed s i upto i states
   all_start i upto states up r = record {
     sound = λ q h. let p = r.sound q h in (i, p.0, omega arith, up, p.1);
-    all = λ k q n le kup upat lq p. let e : k ≡ i = omega arith in r.all q n lq (subst (λ x. Path code true s n 0 x q i) e p);
+    all = λ k q n le kup upat lq p. let e : k ≡ i = omega arith in r.all q n lq (subst (λ x. Path code closed s n 0 x q i) e p);
   }
 
-  pub all_more : (room room' from upto at b : ℕ) (Begin : Type 0) (old mid one new : List ℕ) → room ≡ length code + 1 → room' ≡ room → at < length s → from ≤ at → b ≡ get_or s at 0 → Begin ↔ (at < upto) → HasReached code s from upto at old
-      → AdvancesBy room code b old mid → Adds room mid one (λ r. Begin × (r ≡ 0)) → Closes room' code (at + 1 ≡ 0) (IsLast true s (at + 1)) one new → HasReached code s from upto (at + 1) new
+  pub all_more : (room room' from upto at b : ℕ) (Begin : Type 0) (old mid one new : List ℕ) → room ≡ length code + 1 → room' ≡ room → at < length s → from ≤ at → b ≡ get_or s at 0 → Begin ↔ (at < upto) → HasReached code closed s from upto at old
+      → AdvancesBy room code b old mid → Adds room mid one (λ r. Begin × (r ≡ 0)) → Closes room' code (at + 1 ≡ 0) (IsLast closed s (at + 1)) one new → HasReached code closed s from upto (at + 1) new
   all_more room room' from upto at b Begin old mid one new e er lt begun eb bg h a d c = record {
     sound = λ q hq.
         let o = c.only q hq in
-        let hops = path_of_hops code true s o.2.0 o.0 q (at + 1) o.2.1 in
-        elim (Contains-append_cases mid d.more o.0 (subst (λ l. Contains l o.0) d.is o.1)) as (λ _. (i : ℕ) × (n : ℕ) × (from ≤ i) × (i ≤ upto) × Path code true s n 0 i q (at + 1)) [
+        let hops = path_of_hops code closed s o.2.0 o.0 q (at + 1) o.2.1 in
+        elim (Contains-append_cases mid d.more o.0 (subst (λ l. Contains l o.0) d.is o.1)) as (λ _. (i : ℕ) × (n : ℕ) × (from ≤ i) × (i ≤ upto) × Path code closed s n 0 i q (at + 1)) [
           | inl u ↦
               let m = a.only o.0 u in
               let before = h.sound m.0 m.1 in
               let byte : slice_get s at ≡ Some b = slice_get_is s at b lt eb in
-              let there = path_more code true s before.1 0 before.0 m.0 at o.0 (at + 1) before.4 (m.2.0, m.2.1, inr (b, byte, m.2.2, m.3, refl)) in
-              let whole = path_join code true s (suc before.1) o.2.0 0 before.0 o.0 (at + 1) q (at + 1) there hops in
+              let there = path_more code closed s before.1 0 before.0 m.0 at o.0 (at + 1) before.4 (m.2.0, m.2.1, inr (b, byte, m.2.2, m.3, refl)) in
+              let whole = path_join code closed s (suc before.1) o.2.0 0 before.0 o.0 (at + 1) q (at + 1) there hops in
               (before.0, whole.0, before.2, before.3, whole.1)
           | inr v ↦
               let z = d.only o.0 v in
               let up : at < upto = bg.0 z.0 in
-              (at + 1, o.2.0, omega arith, omega arith, subst (λ x. Path code true s o.2.0 x (at + 1) q (at + 1)) z.1 hops)
+              (at + 1, o.2.0, omega arith, omega arith, subst (λ x. Path code closed s o.2.0 x (at + 1) q (at + 1)) z.1 hops)
         ];
     all = λ i q n le up upat lq p.
-        reached_all code true s room' i (at + 1) one new (er ∙ e) c (λ is. (let lu : at < upto = omega arith in d.has 0 (bg.1 lu, refl) (omega arith)))
+        reached_all code closed s room' i (at + 1) one new (er ∙ e) c (λ is. (let lu : at < upto = omega arith in d.has 0 (bg.1 lu, refl) (omega arith)))
         (λ r k m ek pk rd lr.
         let is : k ≡ at = omega arith in
         let lx = slice_get_within code r rd.0 rd.1 in
-        let begin_up = path_up code true s m 0 i r k pk in
-        let has_r = h.all i r m le up (omega (arith, begin_up, is)) (omega (arith, lx)) (subst (λ y. Path code true s m 0 i r y) is pk) in
+        let begin_up = path_up code closed s m 0 i r k pk in
+        let has_r = h.all i r m le up (omega (arith, begin_up, is)) (omega (arith, lx)) (subst (λ y. Path code closed s m 0 i r y) is pk) in
         let byte = subst (λ y. ReadsFrom code r y) (ap (λ y. get_or s y 0) is ∙ sym eb) rd in
         subst (λ l. Contains l (r + 1)) (sym d.is) (Contains-append_left mid d.more (r + 1) (a.has r has_r byte (omega arith))))
         q n lq p;
   }
 
+  -- of the ways that have begun before
+  pub reached_begun : (from upto at : ℕ) (states : List ℕ) → HasReached code closed s from upto at states → HasReached code closed s from (min upto at) at states
+  reached_begun from upto at states h = record {
+    sound = λ q hq. let p = h.sound q hq in (p.0, p.1, p.2, omega (arith, p.3, path_up code closed s p.1 0 p.0 q at p.4), p.4);
+    all = λ i q n le up upat lq p. h.all i q n le (omega (arith, up)) upat lq p;
+  }
+
+  none_added : (room : ℕ) (mid : List ℕ) → Adds room mid mid (λ r. ⊥ × (r ≡ 0))
+  none_added room mid = record { more = []; is = sym (append-nil mid); only = λ r h. absurd (Contains-none r h); has = λ r h. absurd h.0 }
+
+  pub begun_more : (room room' from upto at b : ℕ) (old mid new : List ℕ) → room ≡ length code + 1 → room' ≡ room → at < length s → from ≤ at → b ≡ get_or s at 0 → HasReached code closed s from upto at old
+      → AdvancesBy room code b old mid → Closes room' code (at + 1 ≡ 0) (IsLast closed s (at + 1)) mid new → HasReached code closed s from (min upto at) (at + 1) new
+  begun_more room room' from upto at b old mid new e er lt begun eb h a c =
+      all_more room room' from (min upto at) at b ⊥ old mid mid new e er lt begun eb (λ x. absurd x, λ x. omega (arith, x)) (reached_begun from upto at old h) a (none_added room mid) c
+
+  -- and of one that begins at the place
+  pub begin_more : (room room' from upto at : ℕ) (Begin : Type 0) (old one new : List ℕ) → room ≡ length code + 1 → room' ≡ room → from ≤ at → Begin ↔ (at < upto) → HasReached code closed s from (min upto at) (at + 1) old
+      → Adds room old one (λ r. Begin × (r ≡ 0)) → Closes room' code (at + 1 ≡ 0) (IsLast closed s (at + 1)) one new → HasReached code closed s from upto (at + 1) new
+  begin_more room room' from upto at Begin old one new e er begun bg h d c = record {
+    sound = λ q hq.
+        let o = c.only q hq in
+        let hops = path_of_hops code closed s o.2.0 o.0 q (at + 1) o.2.1 in
+        elim (Contains-append_cases old d.more o.0 (subst (λ l. Contains l o.0) d.is o.1)) as (λ _. (i : ℕ) × (n : ℕ) × (from ≤ i) × (i ≤ upto) × Path code closed s n 0 i q (at + 1)) [
+          | inl u ↦
+              let p = h.sound o.0 u in
+              let whole = path_join code closed s p.1 o.2.0 0 p.0 o.0 (at + 1) q (at + 1) p.4 hops in
+              (p.0, whole.0, p.2, omega (arith, p.3), whole.1)
+          | inr v ↦
+              let z = d.only o.0 v in
+              let up : at < upto = bg.0 z.0 in
+              (at + 1, o.2.0, omega (arith, begun), omega (arith, up), subst (λ x. Path code closed s o.2.0 x (at + 1) q (at + 1)) z.1 hops)
+        ];
+    all = λ i q n le up upat lq p. elim (cases_eq i (at + 1)) [
+      | inl is ↦
+          let has0 : Contains one 0 = (let lu : at < upto = omega (arith, is, up) in d.has 0 (bg.1 lu, refl) (omega (arith, e))) in
+          reached_all code closed s room' i (at + 1) one new (er ∙ e) c (λ _. has0) (λ r k m ek pk rd lr. absurd (omega (arith, ek, is, path_up code closed s m 0 i r k pk))) q n lq p
+      | inr other ↦
+          let o : i ≡ at + 1 → ⊥ = other in
+          c.keeps q (subst (λ l. Contains l q) (sym d.is) (Contains-append_left old d.more q (h.all i q n le (omega (arith, o, upat, up)) upat lq p)))
+    ];
+  }
+
+module _ (code : List Instruction) (s : List ℕ) where
   -- no way begun from here on, up to there, has ended before the place
   abbrev pub NoneEnded : ℕ → ℕ → ℕ → Type 0
   NoneEnded from upto at = (i j n : ℕ) → from ≤ i → i ≤ upto → j < at → Path code true s n 0 i (length code) j → ⊥
@@ -345,7 +389,7 @@ module _ (code : List Instruction) (s : List ℕ) where
   pub none_ended : (from upto : ℕ) → NoneEnded from upto from
   none_ended from upto = λ i j n le up lt p. omega (arith, path_up code true s n 0 i (length code) j p)
 
-  pub none_ended_more : (from upto at : ℕ) (states : List ℕ) → HasReached code s from upto at states → (Contains states (length code) → ⊥) → NoneEnded from upto at → NoneEnded from upto (at + 1)
+  pub none_ended_more : (from upto at : ℕ) (states : List ℕ) → HasReached code true s from upto at states → (Contains states (length code) → ⊥) → NoneEnded from upto at → NoneEnded from upto (at + 1)
   none_ended_more from upto at states h not f = λ i j n le up lt p. elim (cases_eq j at) [
     | inl e ↦ (let pu = path_up code true s n 0 i (length code) j p in not (h.all i (length code) n le up (omega (arith, pu, e)) (omega arith) (subst (λ x. Path code true s n 0 i (length code) x) e p)))
     | inr ne ↦ (let ne' : j ≡ at → ⊥ = ne in f i j n le up (omega (arith, ne')) p)
@@ -355,7 +399,7 @@ module _ (code : List Instruction) (s : List ℕ) where
   no_way from upto at lt end f = λ w. f w.0 w.1 w.4.0 w.2 w.3 (omega (arith, path_within code true s w.4.0 0 w.0 (length code) w.1 (omega (arith, w.3)) w.4.1)) w.4.1
 
   -- no way is left
-  pub no_way_left : (from upto at : ℕ) (states : List ℕ) → upto ≤ at → length states ≡ 0 → HasReached code s from upto at states → NoneEnded from upto at → EndsFrom code s from upto None
+  pub no_way_left : (from upto at : ℕ) (states : List ℕ) → upto ≤ at → length states ≡ 0 → HasReached code true s from upto at states → NoneEnded from upto at → EndsFrom code s from upto None
   no_way_left from upto at states past z h f = λ w. elim (cases_lt w.1 at) [
     | inl lt ↦ f w.0 w.1 w.4.0 w.2 w.3 lt w.4.1
     | inr ge ↦
@@ -366,5 +410,54 @@ module _ (code : List Instruction) (s : List ℕ) where
   ]
 
   -- one has ended
-  pub way_found : (from upto at : ℕ) (states : List ℕ) → HasReached code s from upto at states → Contains states (length code) → EndsFrom code s from upto (Some at)
+  pub way_found : (from upto at : ℕ) (states : List ℕ) → HasReached code true s from upto at states → Contains states (length code) → EndsFrom code s from upto (Some at)
   way_found from upto at states h c = let p = h.sound (length code) c in (p.0, p.2, p.3, (p.1, p.4))
+
+  -- no way that reads a byte, begun from here on, up to there, has ended by the place
+  abbrev pub NoneRead : ℕ → ℕ → ℕ → Type 0
+  NoneRead from upto at = (i j n : ℕ) → from ≤ i → i ≤ upto → i < j → j ≤ at → Path code false s n 0 i (length code) j → ⊥
+
+  pub none_read : (from upto : ℕ) → NoneRead from upto from
+  none_read from upto = λ i j n le up lt la p. omega (arith, le, lt, la)
+
+  pub none_read_more : (from upto at : ℕ) (states : List ℕ) → HasReached code false s from (min upto at) (at + 1) states → (Contains states (length code) → ⊥) → NoneRead from upto at → NoneRead from upto (at + 1)
+  none_read_more from upto at states h not f = λ i j n le up lt la p. elim (cases_eq j (at + 1)) [
+    | inl e ↦ not (h.all i (length code) n le (omega (arith, e, lt, up)) (omega (arith, e, lt)) (omega arith) (subst (λ x. Path code false s n 0 i (length code) x) e p))
+    | inr ne ↦ (let ne' : j ≡ at + 1 → ⊥ = ne in f i j n le up lt (omega (arith, ne', la)) p)
+  ]
+
+  -- one that has ended
+  pub may_found : (from upto at : ℕ) (states : List ℕ) (by : ℕ) → by ≡ min upto at → from ≤ upto → from ≤ at → HasReached code false s from (min upto at) (at + 1) states → Contains states (length code) → MayBy code s from upto (Some by)
+  may_found from upto at states by e lu la h c =
+      let p = h.sound (length code) c in
+      (omega (arith, e, lu, la), omega (arith, e), (p.0, p.2, omega (arith, e, p.3), inr (at + 1, omega (arith, p.3), (p.1, p.4))))
+
+  -- no way is left
+  pub may_stop : (from upto at : ℕ) (states : List ℕ) → upto < at → at ≤ length s → length states ≡ 0 → HasReached code false s from upto at states → NoneRead from upto at → MayBy code s from upto None
+  may_stop from upto at states past le z h f = λ m. elim m.3 as (λ _. ⊥) [
+    | inl w ↦
+        let within = slice_get_within code w.0 w.3.0 w.3.1 in
+        let t = path_passes code false s w.1 0 m.0 w.0 (length s) at (omega (arith, within)) w.2 (omega (arith, m.2, past)) le in
+        let x = h.all m.0 t.0 t.1 m.1 m.2 (omega (arith, m.2, past)) t.2 t.3 in omega (arith, x.1, z)
+    | inr r ↦ elim (cases_lt at r.0) as (λ _. ⊥) [
+      | inl after ↦
+          let t = path_passes code false s r.2.0 0 m.0 (length code) r.0 at (omega arith) r.2.1 (omega (arith, m.2, past)) (omega (arith, after)) in
+          let x = h.all m.0 t.0 t.1 m.1 m.2 (omega (arith, m.2, past)) t.2 t.3 in omega (arith, x.1, z)
+      | inr upto' ↦ f m.0 r.0 r.2.0 m.1 m.2 r.1 upto' r.2.1
+    ]
+  ]
+
+  -- what the states at the end of the text tell
+  pub may_end : (from upto : ℕ) (states : List ℕ) (asks : Bool) → from ≤ upto → upto < length s → IsTrue asks ↔ AsksIn code states → IsTrue asks → HasReached code false s from upto (length s) states → MayBy code s from upto (Some upto)
+  may_end from upto states asks le lt e a h =
+      let x = e.0 a in
+      let p = h.sound x.0 x.1 in
+      (le, omega arith, (p.0, p.2, p.3, inl (x.0, p.1, p.4, x.2)))
+
+  pub may_end_none : (from upto : ℕ) (states : List ℕ) (asks : Bool) → upto < length s → IsTrue asks ↔ AsksIn code states → (IsTrue asks → ⊥) → HasReached code false s from upto (length s) states → NoneRead from upto (length s) → MayBy code s from upto None
+  may_end_none from upto states asks lt e na h f = λ m. elim m.3 as (λ _. ⊥) [
+    | inl w ↦
+        let within = slice_get_within code w.0 w.3.0 w.3.1 in
+        na (e.1 (w.0, h.all m.0 w.0 w.1 m.1 m.2 (omega (arith, m.2, lt)) (omega (arith, within)) w.2, w.3))
+    | inr r ↦ f m.0 r.0 r.2.0 m.1 m.2 r.1 (path_within code false s r.2.0 0 m.0 (length code) r.0 (omega (arith, m.2, lt)) r.2.1) r.2.1
+  ]

@@ -1,4 +1,3 @@
 pub mod Sets
 pub mod Search
-pub mod Begins
 pub mod Table

@@ -1,10 +1,12 @@
 -- Ways through a code, found from a place on.
-use Rattle.std.specs.Prelude.{ℕ, ◌<◌, ◌≤◌, ◌⊎◌, Bool, true, false, List, length, Option, Some, None}
+use Rattle.std.specs.Prelude.{◌≡◌, ◌↔◌, IsTrue, ℕ, ◌<◌, ◌≤◌, ◌⊎◌, Bool, true, false, List, length, Option, Some, None}
 use Rattle.rawk_ere_code.specs.declared.code.Instruction.{Instruction}
 use Rattle.rawk_ere_code.specs.Code.{Path, wide_code}
-use Rattle.rawk_ere_walk.specs.Sets.{WantsFrom}
+use Rattle.rawk_ere_walk.specs.Sets.{IsFarthest, WantsFrom}
 use Rattle.rawk_ere_walk.specs.declared.progress.Progress.{Progress}
 use Rattle.rawk_ere_walk.specs.declared.progress.Progress.TheVariants.{Found, Nothing, Paused}
+use Rattle.rawk_ere_walk.specs.declared.progress.Opening.{Opening}
+use Rattle.rawk_ere_walk.specs.declared.progress.Opening.TheVariants.{At, After}
 
 -- the place, if there is one, lies between these
 abbrev pub IsBetween : ℕ → ℕ → Option ℕ → Type 0
@@ -15,6 +17,10 @@ IsBetween low high (Some j) = (low ≤ j) × (j ≤ high)
 abbrev pub AreBetween : ℕ → ℕ → Option (ℕ × ℕ) → Type 0
 AreBetween low high None = Unit {0}
 AreBetween low high (Some m) = (low ≤ m.0) × (m.0 ≤ m.1) × (m.1 ≤ high)
+
+-- the place, if there is one, lies after the other
+abbrev pub IsAhead : ℕ → Option ℕ → Type 0
+IsAhead here o = (j : ℕ) × (o ≡ Some j) × (here < j)
 
 module _ (code : List Instruction) (s : List ℕ) where
   -- a way through the code
@@ -65,6 +71,19 @@ module _ (code : List Instruction) (s : List ℕ) where
   abbrev pub MayStart : ℕ → Type 0
   MayStart i = WantsFrom code false s i ⊎ ((j : ℕ) × (i < j) × Way false i j)
 
+  -- there is such a place from `from` to `upto`
+  abbrev pub MayIn : ℕ → ℕ → Type 0
+  MayIn from upto = (k : ℕ) × (from ≤ k) × (k ≤ upto) × MayStart k
+
+  -- there is one up to the given place; without a place, there is none
+  abbrev pub MayBy : ℕ → ℕ → Option ℕ → Type 0
+  MayBy from upto None = MayIn from upto → ⊥
+  MayBy from upto (Some by) = (from ≤ by) × (by ≤ upto) × MayIn from by
+
+  -- no such place is from here on before there
+  abbrev pub NoneMay : ℕ → ℕ → Type 0
+  NoneMay from upto = (i : ℕ) → from ≤ i → i < upto → MayStart i → ⊥
+
   -- the first such place from p on, or the end of the text
   pub record IsOpenStart (p f : ℕ) : Type 0 where
     pub within : (p ≤ f) × (f ≤ length s)
@@ -76,3 +95,13 @@ module _ (code : List Instruction) (s : List ℕ) where
   IsProgress from (Found i j) = IsFound from (Some (i, j))
   IsProgress from Nothing = BeginsNone from (length s)
   IsProgress from (Paused at) = (from ≤ at) × (at ≤ length s) × BeginsNone from at
+
+  -- how a search for the first place went where a way that reads a byte may begin
+  abbrev pub IsOpening : ℕ → Opening → Type 0
+  IsOpening from (At begin longest asks) =
+      (from ≤ begin) × (begin < length s) × NoneMay from begin × IsFarthest code false s begin longest × (IsTrue asks ↔ WantsFrom code false s begin) × (IsTrue asks ⊎ IsAhead begin longest)
+  IsOpening from (After at) = (from ≤ at) × (at ≤ length s) × NoneMay from at
+
+  -- the same of a search that has come to its end
+  abbrev pub IsOpened : ℕ → Opening → Type 0
+  IsOpened from o = IsOpening from o × ((at : ℕ) → o ≡ After at → at ≡ length s)

@@ -1,21 +1,8 @@
--- Sets of states, and the states that are reached at a place.
-use Rattle.std.specs.Prelude.{◌≡◌, ℕ, zero, suc, ◌+◌, ◌<◌, ◌≤◌, Bool, true, false, List, ◌++◌, Option, None, length, Some, slice_get, slice_index_or, count_by, Contains}
+-- The states that are reached at a place.
+use Rattle.std.specs.Prelude.{◌≡◌, ℕ, zero, suc, ◌+◌, ◌<◌, ◌≤◌, Bool, List, Option, None, length, Some, slice_get, Contains}
 use Rattle.rawk_ere_code.specs.declared.code.Instruction.{Instruction}
 use Rattle.rawk_ere_code.specs.declared.code.Instruction.TheVariants.{Bytes, Start, End, Split, Go, Back, Fork}
 use Rattle.rawk_ere_code.specs.Code.{Hops, Reads, Path}
-
--- the marks are true at the members alone
-pub record AreMarks (members : List ℕ) (marks : List Bool) : Type 0 where
-  pub marked : (q : ℕ) → Contains members q → slice_index_or marks q false ≡ true
-  pub listed : (q : ℕ) → slice_index_or marks q false ≡ true → Contains members q
-  pub counted : length members ≡ count_by (λ b. b) marks
-
--- new is old, and after it those with P below room that were not there
-pub record Adds (room : ℕ) (old new : List ℕ) (P : ℕ → Type 0) : Type 0 where
-  pub more : List ℕ
-  pub is : new ≡ old ++ more
-  pub only : (r : ℕ) → Contains more r → P r
-  pub has : (r : ℕ) → P r → r < room → Contains new r
 
 -- the state q leads to r without reading
 abbrev pub HopsFrom : List Instruction → Type 0 → Type 0 → ℕ → ℕ → Type 0
@@ -82,6 +69,6 @@ abbrev pub WantsFrom : List Instruction → Bool → List ℕ → ℕ → Type 0
 WantsFrom code closed s i = (q : ℕ) × (n : ℕ) × Path code closed s n 0 i q (length s) × AsksAt code q
 
 -- the states are those that a way from the first state, begun at a place from `from` to `upto`, reaches at the place
-pub record HasReached (code : List Instruction) (s : List ℕ) (from upto at : ℕ) (states : List ℕ) : Type 0 where
-  pub sound : (q : ℕ) → Contains states q → (i : ℕ) × (n : ℕ) × (from ≤ i) × (i ≤ upto) × Path code true s n 0 i q at
-  pub all : (i q n : ℕ) → from ≤ i → i ≤ upto → i ≤ at → q ≤ length code → Path code true s n 0 i q at → Contains states q
+pub record HasReached (code : List Instruction) (closed : Bool) (s : List ℕ) (from upto at : ℕ) (states : List ℕ) : Type 0 where
+  pub sound : (q : ℕ) → Contains states q → (i : ℕ) × (n : ℕ) × (from ≤ i) × (i ≤ upto) × Path code closed s n 0 i q at
+  pub all : (i q n : ℕ) → from ≤ i → i ≤ upto → i ≤ at → q ≤ length code → Path code closed s n 0 i q at → Contains states q

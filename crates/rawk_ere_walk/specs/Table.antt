@@ -2,8 +2,9 @@
 use Rattle.std.specs.Prelude.{◌≡◌, ℕ, ◌+◌, ◌*◌, ◌/◌, ◌%◌, ◌<◌, ◌↔◌, Bool, true, false, IsTrue, List, [], ◌++◌, length, slice_index, slice_index_or, Contains, ◌-◌}
 use Rattle.rawk_ere_code.specs.declared.code.Instruction.{Instruction}
 use Rattle.rawk_ere_walk.specs.declared.table.Table.{Table}
-use Rattle.rawk_ere_walk.specs.Begins.{AreBegins}
-use Rattle.rawk_ere_walk.specs.Sets.{Adds, Closes, AdvancesBy, ReadsFrom}
+use Rattle.rawk_ere_code.specs.Begins.{AreBegins}
+use Rattle.rawk_ere_code.specs.StateSets.{Adds}
+use Rattle.rawk_ere_walk.specs.Sets.{Closes, AdvancesBy, ReadsFrom, AsksIn}
 
 -- the states of a row
 abbrev pub members : List (ℕ × List ℕ) → ℕ → List ℕ
@@ -52,6 +53,8 @@ pub record IsTable (code : List Instruction) (t : Table) : Type 0 where
   pub ends_are : (r : ℕ) → r < length sets → IsTrue (slice_index_or t.ends.items r false) ↔ Contains (members sets r) (length code)
   pub last_all : length t.last_ends.items ≡ length sets
   pub last : (r : ℕ) → r < length sets → EndsLast code (members sets r) (slice_index_or t.last_ends.items r false)
+  pub wants_all : length t.wants.items ≡ length sets
+  pub wants_are : (r : ℕ) → r < length sets → IsTrue (slice_index_or t.wants.items r false) ↔ AsksIn code (members sets r)
   pub none : t.dead < length sets → length (members sets t.dead) ≡ 0
   pub begin_with : AreBegins t.next.items t.ends.items t.later t.dead t.begins
 

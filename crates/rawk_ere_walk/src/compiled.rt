@@ -12,16 +12,18 @@ ghost use Rattle.rawk_ere_walk.specs.Search.{IsBetween, AreBetween};
 
 use crate::search::{first, first_by, first_open, longest, open_start};
 use crate::table::{Table, build, run};
-use rawk_ere_code::code::{Instruction, emit, widen};
+use rawk_ere_code::code::Code;
+use rawk_ere_code::emit::{emit, widen};
 use rawk_ere_code::node::Node;
+use rawk_ere_code::proof_tree::ProofTree;
 use std::alloc::{AllocError, Global};
 use std::marker::Model;
 
-/// The tree of an extended regular expression, with its automaton. A contract sees the tree.
+/// The automaton of an extended regular expression. A contract sees the tree, which takes no memory.
 #[derive(Drop)]
 pub struct Automaton {
-    node: Node,
-    code: Vec<Instruction>,
+    tree: ProofTree,
+    code: Code,
     table: Option<Table>,
     wide: Option<Table>,
 }
@@ -39,14 +41,14 @@ impl Model for Automaton {
     ghost use Rattle.rawk_ere_code.specs.Node.{tree_of};
     ghost use Rattle.rawk_ere_code.specs.Code.{code_of, wide_code};
 
-    ghost view = { λ e. tree_of e.node };
+    ghost view = { λ e. e.tree.tree };
 
     ghost use Rattle.rawk_ere_walk.specs.Table.{IsTable};
     ghost use Rattle.std.specs.Option.{ForSome};
 
-    ghost invariant = { λ e. (e.code.items ≡ code_of (tree_of e.node))
-        × ForSome e.table (IsTable e.code.items)
-        × ForSome e.wide (IsTable (wide_code e.code.items)) };
+    ghost invariant = { λ e. (e.code ≡ code_of e.tree.tree)
+        × ForSome e.table (IsTable e.code)
+        × ForSome e.wide (IsTable (wide_code e.code)) };
 }
 
 /// Only a code that is no longer than this gets a table.
@@ -58,7 +60,7 @@ const ROWS: usize = 256;
 const STATES: usize = 32768;
 
 // The table of a code that is short and needs few rows.
-fn small_table(alloc: Global, code: &[Instruction]) -> Result<Option<Table>, AllocError>
+fn small_table(alloc: Global, code: &Code) -> Result<Option<Table>, AllocError>
     ensures { IfOk result (λ table. ForSome table (IsTable code.now)) }
 {
     if code.len() > SHORT {
@@ -71,7 +73,7 @@ fn small_table(alloc: Global, code: &[Instruction]) -> Result<Option<Table>, All
 // The table of the wide code, where the code has one.
 fn small_wide(
     alloc: Global,
-    code: &[Instruction],
+    code: &Code,
     table: &Option<Table>,
 ) -> Result<Option<Table>, AllocError>
     ensures { IfOk result (λ wide. ForSome wide (IsTable (wide_code code.now))) }
@@ -89,12 +91,13 @@ impl Automaton {
     pub fn new(alloc: Global, node: Node) -> Result<Automaton, AllocError>
         ensures { IfOk result (λ e. e ≡ tree_of node) }
     {
-        let mut code = Vec::new(alloc);
-        emit(&mut code, &node)?;
+        let mut code = Code::new(alloc);
+        emit(alloc, &mut code, &node)?;
+        code.shrink();
         let table = small_table(alloc, &code)?;
         let wide = small_wide(alloc, &code, &table)?;
         Ok(Automaton {
-            node,
+            tree: ProofTree::of(&node),
             code,
             table,
             wide,
@@ -176,7 +179,7 @@ impl Automaton {
         ensures settled { IfOk result (λ o. (m : ℕ × ℕ) → o ≡ Some m → IsSettled text.now self.now from m) }
         ensures within { IfOk result (AreBetween from (length text.now)) }
     {
-        first_open(alloc, &self.code, text, from)
+        first_open(alloc, &self.table, &self.code, text, from)
     }
 
     /// The first place from `from` on where a nonempty match may begin, in this text or in a longer one that begins with it;
@@ -185,6 +188,6 @@ impl Automaton {
         requires { from ≤ length text.now }
         ensures { IfOk result (IsOpenFrom text.now self.now from) }
     {
-        open_start(alloc, &self.code, text, from)
+        open_start(alloc, &self.table, &self.code, text, from)
     }
 }

@@ -1,10 +1,8 @@
 //! Trees of extended regular expressions over bytes, what they match, and the automata that find it.
 #![tactic(auto)]
 
-pub mod begins;
 pub mod compiled;
 pub mod progress;
 pub mod search;
-pub mod set;
 pub mod table;
 pub mod walk;

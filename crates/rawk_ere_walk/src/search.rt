@@ -5,13 +5,13 @@ ghost use Rattle.rawk_ere_walk.specs.Sets.{IsFarthest, WantsFrom};
 ghost use Rattle.rawk_ere_code.specs.Code.{wide_code};
 ghost use Rattle.rawk_ere_walk.specs.Table.{IsTable};
 ghost use Rattle.std.specs.Option.{ForSome};
-ghost use Rattle.rawk_ere_walk.specs.Search.{BeginsIn, BeginsNone, EndsFrom, IsFirstBegin, IsProgress, Widens, IsBetween, AreBetween, IsFound, IsFirstOpen, IsOpenStart};
+ghost use Rattle.rawk_ere_walk.specs.Search.{BeginsIn, BeginsNone, EndsFrom, IsFirstBegin, IsProgress, Widens, IsBetween, AreBetween, IsFound, IsFirstOpen, IsOpenStart, MayStart, MayIn, NoneMay, IsOpening, IsOpened};
 
-use crate::progress::Progress;
-use crate::set::StateSet;
-use crate::table::{Table, first_end_by, run, skip};
-use crate::walk::{Walked, first_end, walk};
-use rawk_ere_code::code::Instruction;
+use crate::progress::{Opening, Progress};
+use crate::table::{Table, first_end_by, run, run_open, skip, skip_open};
+use crate::walk::{Walked, first_end, may_begin_by, no_states, walk};
+use rawk_ere_code::code::Code;
+use rawk_ere_code::set::StateSet;
 use std::alloc::{AllocError, Global};
 
 /// How many bytes a search reads in vain before one pass over the text tells whether there is a way at all.
@@ -20,7 +20,7 @@ const FEW: usize = 32;
 /// Walks from a place to the end of the text.
 pub fn longest(
     alloc: Global,
-    code: &[Instruction],
+    code: &Code,
     text: &[u8],
     from: usize,
     closed: bool,
@@ -30,8 +30,8 @@ pub fn longest(
     ensures within { IfOk result (λ w. IsBetween from (length text.now) w.longest) }
     ensures entered { IfOk result (λ w. w.entered ≤ (length text.now - from + 1) * (length code.now + 1)) }
 {
-    let mut now = StateSet::new(alloc, code.len() + 1)?;
-    let mut next = StateSet::new(alloc, code.len() + 1)?;
+    let mut now = no_states(alloc, code)?;
+    let mut next = no_states(alloc, code)?;
     Ok(walk(&mut now, &mut next, code, text, from, closed))
 }
 
@@ -39,7 +39,7 @@ pub fn longest(
 fn first_begin(
     now: &mut StateSet,
     next: &mut StateSet,
-    code: &[Instruction],
+    code: &Code,
     text: &[u8],
     from: usize,
     upto: usize,
@@ -70,15 +70,15 @@ fn first_begin(
 /// The begin and the end of the first way, and the longest there. It reads the text once for each halving of its length.
 pub fn first(
     alloc: Global,
-    code: &[Instruction],
+    code: &Code,
     text: &[u8],
     from: usize,
 ) -> Result<Option<(usize, usize)>, AllocError>
     requires { from ≤ length text.now }
     ensures { IfOk result (IsFound code.now text.now from) }
 {
-    let mut now = StateSet::new(alloc, code.len() + 1)?;
-    let mut next = StateSet::new(alloc, code.len() + 1)?;
+    let mut now = no_states(alloc, code)?;
+    let mut next = no_states(alloc, code)?;
     let found = first_end(&mut now, &mut next, code, text, from, text.len());
     match found {
         None => Ok(None),
@@ -91,7 +91,7 @@ pub fn first(
 }
 
 // Looks for a way from place to place, until it has read so many bytes in vain.
-fn restart(table: &Table, code: &[Instruction], text: &[u8], from: usize, most: usize) -> Progress
+fn restart(table: &Table, code: &Code, text: &[u8], from: usize, most: usize) -> Progress
     requires within { from ≤ length text.now }
     requires some { 0 < length text.now }
     requires table { IsTable code.now table.now }
@@ -117,7 +117,7 @@ fn restart(table: &Table, code: &[Instruction], text: &[u8], from: usize, most: 
 }
 
 // The way at the end of the text, where none begins before.
-fn at_end(table: &Table, code: &[Instruction], text: &[u8], from: usize) -> Option<(usize, usize)>
+fn at_end(table: &Table, code: &Code, text: &[u8], from: usize) -> Option<(usize, usize)>
     requires within { from ≤ length text.now }
     requires some { 0 < length text.now }
     requires table { IsTable code.now table.now }
@@ -135,7 +135,7 @@ fn at_end(table: &Table, code: &[Instruction], text: &[u8], from: usize) -> Opti
 fn pass(
     alloc: Global,
     wide: &Option<Table>,
-    code: &[Instruction],
+    code: &Code,
     text: &[u8],
     from: usize,
 ) -> Result<Option<usize>, AllocError>
@@ -148,8 +148,8 @@ fn pass(
     match wide {
         Some(table) => Ok(first_end_by(table, code, text, from)),
         None => {
-            let mut now = StateSet::new(alloc, code.len() + 1)?;
-            let mut next = StateSet::new(alloc, code.len() + 1)?;
+            let mut now = no_states(alloc, code)?;
+            let mut next = no_states(alloc, code)?;
             Ok(first_end(&mut now, &mut next, code, text, from, text.len()))
         }
     }
@@ -159,7 +159,7 @@ fn pass(
 fn halve(
     alloc: Global,
     table: &Table,
-    code: &[Instruction],
+    code: &Code,
     text: &[u8],
     from: usize,
     upto: usize,
@@ -171,8 +171,8 @@ fn halve(
     requires some { BeginsIn code.now text.now from upto }
     ensures { IfOk result (IsFound code.now text.now from) }
 {
-    let mut now = StateSet::new(alloc, code.len() + 1)?;
-    let mut next = StateSet::new(alloc, code.len() + 1)?;
+    let mut now = no_states(alloc, code)?;
+    let mut next = no_states(alloc, code)?;
     let begin = first_begin(&mut now, &mut next, code, text, from, upto);
     let ran = run(table, code, text, begin);
     Ok(span(begin, ran.longest))
@@ -183,7 +183,7 @@ fn resume(
     alloc: Global,
     table: &Table,
     wide: &Option<Table>,
-    code: &[Instruction],
+    code: &Code,
     text: &[u8],
     from: usize,
 ) -> Result<Option<(usize, usize)>, AllocError>
@@ -216,7 +216,7 @@ pub fn first_by(
     alloc: Global,
     table: &Table,
     wide: &Option<Table>,
-    code: &[Instruction],
+    code: &Code,
     text: &[u8],
     from: usize,
 ) -> Result<Option<(usize, usize)>, AllocError>
@@ -240,53 +240,162 @@ pub fn first_by(
     }
 }
 
+// The first place from `from` to `upto` where a way may begin that reads a byte, of which there is one: it halves what is left.
+fn first_may(
+    now: &mut StateSet,
+    next: &mut StateSet,
+    code: &Code,
+    text: &[u8],
+    from: usize,
+    upto: usize,
+) -> usize
+    requires now { now.old.0 ≡ length code.now + 1 }
+    requires next { next.old.0 ≡ length code.now + 1 }
+    requires from { from ≤ upto }
+    requires upto { upto < length text.now }
+    requires some { MayIn code.now text.now from upto }
+    ensures now { now.new.0 ≡ length code.now + 1 }
+    ensures next { next.new.0 ≡ length code.now + 1 }
+    ensures low { from ≤ result }
+    ensures high { result < length text.now }
+    ensures none { NoneMay code.now text.now from result }
+    ensures here { MayStart code.now text.now result }
+{
+    let mut low = from;
+    let mut high = upto;
+    while low < high {
+        let half = low + (high - low) / 2;
+        let found = may_begin_by(now, next, code, text, low, half);
+        match found {
+            Some(by) => high = by,
+            None => low = half + 1,
+        }
+    }
+    low
+}
+
+// Looks for the first place where a way may begin that reads a byte, by walks of state sets.
+fn open_by_walks(
+    alloc: Global,
+    code: &Code,
+    text: &[u8],
+    from: usize,
+) -> Result<Opening, AllocError>
+    requires { from ≤ length text.now }
+    ensures { IfOk result (IsOpened code.now text.now from) }
+{
+    if from == text.len() {
+        return Ok(Opening::After(from));
+    }
+    let mut now = no_states(alloc, code)?;
+    let mut next = no_states(alloc, code)?;
+    let found = may_begin_by(&mut now, &mut next, code, text, from, text.len() - 1);
+    match found {
+        None => Ok(Opening::After(text.len())),
+        Some(by) => {
+            let begin = first_may(&mut now, &mut next, code, text, from, by);
+            let walked = walk(&mut now, &mut next, code, text, begin, false);
+            Ok(Opening::At(begin, walked.longest, walked.asks))
+        }
+    }
+}
+
+// The same from place to place by the table, until it has read so many bytes in vain.
+fn open_by_table(table: &Table, code: &Code, text: &[u8], from: usize, most: usize) -> Opening
+    requires from { from ≤ length text.now }
+    requires table { IsTable code.now table.now }
+    ensures { IsOpening code.now text.now from result }
+{
+    let mut begin = from;
+    let mut left = most;
+    while begin < text.len() {
+        let ran = run_open(table, code, text, begin);
+        if ran.asks {
+            return Opening::At(begin, ran.longest, true);
+        }
+        if reads(ran.longest, begin) {
+            return Opening::At(begin, ran.longest, false);
+        }
+        let next = skip_open(table, code, text, begin + 1);
+        let spent = ran.stop - begin;
+        if spent >= left {
+            return Opening::After(next);
+        }
+        left -= spent;
+        begin = next;
+    }
+    Opening::After(begin)
+}
+
+// The first place where a way may begin that reads a byte, in the text or in a longer one.
+fn opening(
+    alloc: Global,
+    table: &Option<Table>,
+    code: &Code,
+    text: &[u8],
+    from: usize,
+) -> Result<Opening, AllocError>
+    requires from { from ≤ length text.now }
+    requires table { ForSome table.now (IsTable code.now) }
+    ensures { IfOk result (IsOpened code.now text.now from) }
+{
+    match table {
+        None => open_by_walks(alloc, code, text, from),
+        Some(table) => {
+            let most = (text.len() - from).saturating_mul(8).saturating_add(1024);
+            match open_by_table(table, code, text, from, most) {
+                Opening::At(begin, longest, asks) => Ok(Opening::At(begin, longest, asks)),
+                Opening::After(at) => {
+                    let found = open_by_walks(alloc, code, text, at)?;
+                    Ok(found)
+                }
+            }
+        }
+    }
+}
+
 /// The begin and the end of the first way that reads a byte, and the longest there, if nothing up to there asks what follows the text.
 pub fn first_open(
     alloc: Global,
-    code: &[Instruction],
+    table: &Option<Table>,
+    code: &Code,
     text: &[u8],
     from: usize,
 ) -> Result<Option<(usize, usize)>, AllocError>
-    requires { from ≤ length text.now }
+    requires from { from ≤ length text.now }
+    requires table { ForSome table.now (IsTable code.now) }
     ensures is { IfOk result (IsFirstOpen code.now text.now from) }
     ensures within { IfOk result (AreBetween from (length text.now)) }
 {
-    let mut now = StateSet::new(alloc, code.len() + 1)?;
-    let mut next = StateSet::new(alloc, code.len() + 1)?;
-    for begin in from..text.len() {
-        let walked = walk(&mut now, &mut next, code, text, begin, false);
-        if walked.asks {
-            return Ok(None);
-        }
-        if reads(walked.longest, begin) {
-            return Ok(span(begin, walked.longest));
+    let found = opening(alloc, table, code, text, from)?;
+    match found {
+        Opening::After(_) => Ok(None),
+        Opening::At(begin, longest, asks) => {
+            if asks {
+                return Ok(None);
+            }
+            Ok(span(begin, longest))
         }
     }
-    Ok(None)
 }
 
 /// The first place where a way that reads a byte may begin, in the text or in a longer one; the end of the text if there is none before it.
 pub fn open_start(
     alloc: Global,
-    code: &[Instruction],
+    table: &Option<Table>,
+    code: &Code,
     text: &[u8],
     from: usize,
 ) -> Result<usize, AllocError>
-    requires { from ≤ length text.now }
+    requires from { from ≤ length text.now }
+    requires table { ForSome table.now (IsTable code.now) }
     ensures { IfOk result (IsOpenStart code.now text.now from) }
 {
-    let mut now = StateSet::new(alloc, code.len() + 1)?;
-    let mut next = StateSet::new(alloc, code.len() + 1)?;
-    for begin in from..text.len() {
-        let walked = walk(&mut now, &mut next, code, text, begin, false);
-        if walked.asks {
-            return Ok(begin);
-        }
-        if reads(walked.longest, begin) {
-            return Ok(begin);
-        }
+    let found = opening(alloc, table, code, text, from)?;
+    match found {
+        Opening::After(at) => Ok(at),
+        Opening::At(begin, _, _) => Ok(begin),
     }
-    Ok(text.len())
 }
 
 // Whether the way ends after its begin.

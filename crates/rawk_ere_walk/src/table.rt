@@ -1,16 +1,17 @@
 //! The sets of states that a walk can be in between two bytes, each found once, and where each byte leads.
 
 ghost use Rattle.std.specs.Prelude.{◌≡◌, ℕ, ◌+◌, ◌-◌, ◌*◌, ◌<◌, ◌≤◌, ◌↔◌, ◌⊎◌, true, List, [], ◌++◌, length, slice_index_or, false, IfOk, OnOk, IsTrue, Contains, Some};
-ghost use Rattle.rawk_ere_walk.specs.Sets.{Adds, Closes, IsFarthest};
+ghost use Rattle.rawk_ere_code.specs.StateSets.{Adds};
+ghost use Rattle.rawk_ere_walk.specs.Sets.{Closes, IsFarthest, AsksIn, WantsFrom};
 ghost use Rattle.rawk_ere_walk.specs.Table.{members, Begins, LeadsBy, EndsLast, AreFilled, AreStarts, IsTable, IsPlaced, Extends, AreAlike, AreMarkedAlike, IsTarget};
 ghost use Rattle.rawk_ere_code.specs.Code.{wide_code};
-ghost use Rattle.rawk_ere_walk.specs.Search.{EndsFrom, Widens, BeginsNone};
+ghost use Rattle.rawk_ere_walk.specs.Search.{EndsFrom, Widens, BeginsNone, NoneMay};
 ghost use Rattle.std.specs.Option.{ForSome};
 
-use crate::begins::{FirstBytes, find_begins, seek};
-use crate::set::StateSet;
-use crate::walk::{close, read, reads_from};
-use rawk_ere_code::code::Instruction;
+use crate::walk::{asks_in, close, has_end, no_states, read, reads_from};
+use rawk_ere_code::begins::{FirstBytes, find_begins, seek};
+use rawk_ere_code::code::Code;
+use rawk_ere_code::set::StateSet;
 use std::alloc::{AllocError, Global};
 
 /// The rows: the sets of states, of which only what a walk asks is kept.
@@ -22,6 +23,8 @@ pub struct Table {
     pub ends: Vec<bool>,
     /// The same at the end of the text.
     pub last_ends: Vec<bool>,
+    /// Whether a state of the row wants to know what follows the text.
+    pub wants: Vec<bool>,
     /// The row at the start of the text.
     pub start: usize,
     /// The row at a later place.
@@ -41,6 +44,17 @@ pub struct Ran {
     pub stop: usize,
 }
 
+/// What a walk by a table found in a text that may go on.
+#[derive(Clone, Copy)]
+pub struct OpenRan {
+    /// The end of the longest way through the code.
+    pub longest: Option<usize>,
+    /// Where the walk stopped.
+    pub stop: usize,
+    /// Whether a way reaches the end of the text where it wants to know what follows.
+    pub asks: bool,
+}
+
 // The longest way so far, once the row at the place is looked at.
 fn marked(ends: bool, at: usize, longest: Option<usize>) -> Option<usize>
     ensures { (IsTrue ends × (result ≡ Some at))
@@ -50,7 +64,7 @@ fn marked(ends: bool, at: usize, longest: Option<usize>) -> Option<usize>
 }
 
 /// Walks from a place by a table of the code.
-pub fn run(table: &Table, code: &[Instruction], text: &[u8], from: usize) -> Ran
+pub fn run(table: &Table, code: &Code, text: &[u8], from: usize) -> Ran
     requires within { from ≤ length text.now }
     requires some { 0 < length text.now }
     requires table { IsTable code.now table.now }
@@ -74,8 +88,38 @@ pub fn run(table: &Table, code: &[Instruction], text: &[u8], from: usize) -> Ran
     }
 }
 
+/// The same in a text that may go on, so that `$` does not hold at its end.
+pub fn run_open(table: &Table, code: &Code, text: &[u8], from: usize) -> OpenRan
+    requires within { from ≤ length text.now }
+    requires table { IsTable code.now table.now }
+    ensures farthest { IsFarthest code.now false text.now from result.longest }
+    ensures asks { IsTrue result.asks ↔ WantsFrom code.now false text.now from }
+    ensures low { from ≤ result.stop }
+    ensures high { result.stop ≤ length text.now }
+{
+    let mut row = if from == 0 { table.start } else { table.later };
+    let mut longest = None;
+    for at in from..text.len() {
+        if row == table.dead {
+            return OpenRan {
+                longest,
+                stop: at,
+                asks: false,
+            };
+        }
+        longest = marked(table.ends[row], at, longest);
+        row = table.next[row * 256 + text[at] as usize] as usize;
+    }
+    longest = marked(table.ends[row], text.len(), longest);
+    OpenRan {
+        longest,
+        stop: text.len(),
+        asks: table.wants[row],
+    }
+}
+
 /// Where the ways that begin at a place or later end first, by a table of the wide code.
-pub fn first_end_by(wide: &Table, code: &[Instruction], text: &[u8], from: usize) -> Option<usize>
+pub fn first_end_by(wide: &Table, code: &Code, text: &[u8], from: usize) -> Option<usize>
     requires within { from ≤ length text.now }
     requires some { 0 < length text.now }
     requires table { IsTable (wide_code code.now) wide.now }
@@ -97,7 +141,7 @@ pub fn first_end_by(wide: &Table, code: &[Instruction], text: &[u8], from: usize
 }
 
 /// The first place from `from` on where a way may begin that reads a byte, or that reads none; the end of the text, if none is left.
-pub fn skip(table: &Table, code: &[Instruction], text: &[u8], from: usize) -> usize
+pub fn skip(table: &Table, code: &Code, text: &[u8], from: usize) -> usize
     requires begun { 0 < from }
     requires within { from ≤ length text.now }
     requires table { IsTable code.now table.now }
@@ -117,8 +161,26 @@ pub fn skip(table: &Table, code: &[Instruction], text: &[u8], from: usize) -> us
     text.len()
 }
 
+/// The first place from `from` on where a way may begin that reads a byte; the end of the text, if none is left.
+pub fn skip_open(table: &Table, code: &Code, text: &[u8], from: usize) -> usize
+    requires begun { 0 < from }
+    requires within { from ≤ length text.now }
+    requires table { IsTable code.now table.now }
+    ensures low { from ≤ result }
+    ensures high { result ≤ length text.now }
+    ensures none { NoneMay code.now text.now from result }
+{
+    let first = from + seek(table.begins, &text[from..]);
+    for at in first..text.len() {
+        if table.next[table.later * 256 + text[at] as usize] as usize != table.dead {
+            return at;
+        }
+    }
+    text.len()
+}
+
 /// The table of the code, if it has fewer than `most` rows.
-pub fn build(alloc: Global, code: &[Instruction], most: usize) -> Result<Option<Table>, AllocError>
+pub fn build(alloc: Global, code: &Code, most: usize) -> Result<Option<Table>, AllocError>
     ensures { IfOk result (λ table. ForSome table (IsTable code.now)) }
 {
     let mut sets = Vec::new(alloc);
@@ -144,7 +206,7 @@ pub fn build(alloc: Global, code: &[Instruction], most: usize) -> Result<Option<
 // What a walk asks of the sets.
 fn finish(
     alloc: Global,
-    code: &[Instruction],
+    code: &Code,
     sets: &[StateSet],
     rows: &[usize],
     start: usize,
@@ -157,6 +219,7 @@ fn finish(
 {
     let ends = find_ends(alloc, code, sets)?;
     let last_ends = find_last(alloc, code, sets)?;
+    let wants = find_wants(alloc, code, sets)?;
     let dead = find_dead(sets);
     let packed = pack(alloc, rows)?;
     match packed {
@@ -167,6 +230,7 @@ fn finish(
                 next,
                 ends,
                 last_ends,
+                wants,
                 start,
                 later,
                 dead,
@@ -204,17 +268,25 @@ fn find_dead(sets: &[StateSet]) -> usize
 }
 
 // Whether the set of each row has the end of the code.
-fn find_ends(
-    alloc: Global,
-    code: &[Instruction],
-    sets: &[StateSet],
-) -> Result<Vec<bool>, AllocError>
+fn find_ends(alloc: Global, code: &Code, sets: &[StateSet]) -> Result<Vec<bool>, AllocError>
     ensures all { IfOk result (λ ends. length ends.items ≡ length sets.now) }
     ensures each { IfOk result (λ ends. (r : ℕ) → r < length sets.now → IsTrue (slice_index_or ends.items r false) ↔ Contains (members sets.now r) (length code.now)) }
 {
     let mut found = Vec::new(alloc);
     for index in 0..sets.len() {
-        found.push(sets[index].contains(code.len()))?;
+        found.push(has_end(code, &sets[index]))?;
+    }
+    Ok(found)
+}
+
+// Whether a state of each row wants to know what follows the text.
+fn find_wants(alloc: Global, code: &Code, sets: &[StateSet]) -> Result<Vec<bool>, AllocError>
+    ensures all { IfOk result (λ wants. length wants.items ≡ length sets.now) }
+    ensures each { IfOk result (λ wants. (r : ℕ) → r < length sets.now → IsTrue (slice_index_or wants.items r false) ↔ AsksIn code.now (members sets.now r)) }
+{
+    let mut found = Vec::new(alloc);
+    for index in 0..sets.len() {
+        found.push(asks_in(code, &sets[index]))?;
     }
     Ok(found)
 }
@@ -222,7 +294,7 @@ fn find_ends(
 // Finds the rows that the bytes lead to from a row.
 fn fill(
     alloc: Global,
-    code: &[Instruction],
+    code: &Code,
     alike: &[bool],
     sets: &mut Vec<StateSet>,
     next: &mut Vec<usize>,
@@ -246,7 +318,7 @@ fn fill(
 // The row that the byte leads to; where the byte is like the one before it, that is known.
 fn target(
     alloc: Global,
-    code: &[Instruction],
+    code: &Code,
     alike: &[bool],
     sets: &mut Vec<StateSet>,
     next: &[usize],
@@ -280,7 +352,7 @@ fn is_alike(alike: &[bool], byte: u8) -> bool
 }
 
 // Whether each state reads both bytes or none.
-fn are_alike(code: &[Instruction], a: u8, b: u8) -> bool
+fn are_alike(code: &Code, a: u8, b: u8) -> bool
     ensures { result ≡ true → AreAlike code.now a b }
 {
     for state in 0..code.len() {
@@ -292,7 +364,7 @@ fn are_alike(code: &[Instruction], a: u8, b: u8) -> bool
 }
 
 // The marks of the bytes that are like the ones before them.
-fn find_alike(alloc: Global, code: &[Instruction]) -> Result<Vec<bool>, AllocError>
+fn find_alike(alloc: Global, code: &Code) -> Result<Vec<bool>, AllocError>
     ensures { IfOk result (λ marks. AreMarkedAlike code.now marks.items) }
 {
     let mut marks = Vec::new(alloc);
@@ -305,25 +377,20 @@ fn find_alike(alloc: Global, code: &[Instruction]) -> Result<Vec<bool>, AllocErr
 }
 
 // The states at the start of a match.
-fn begin(alloc: Global, code: &[Instruction], first: bool) -> Result<StateSet, AllocError>
+fn begin(alloc: Global, code: &Code, first: bool) -> Result<StateSet, AllocError>
     ensures { IfOk result (λ set. Begins code.now (IsTrue first) set.1) }
 {
-    let mut set = StateSet::new(alloc, code.len() + 1)?;
+    let mut set = no_states(alloc, code)?;
     set.add(0);
     close(code, &mut set, first, false);
     Ok(set)
 }
 
 // The states after a byte.
-fn step(
-    alloc: Global,
-    code: &[Instruction],
-    from: &StateSet,
-    byte: u8,
-) -> Result<StateSet, AllocError>
+fn step(alloc: Global, code: &Code, from: &StateSet, byte: u8) -> Result<StateSet, AllocError>
     ensures { IfOk result (λ to. LeadsBy code.now byte from.now.1 to.1) }
 {
-    let mut to = StateSet::new(alloc, code.len() + 1)?;
+    let mut to = no_states(alloc, code)?;
     read(code, from, &mut to, byte);
     close(code, &mut to, false, false);
     Ok(to)
@@ -355,21 +422,17 @@ fn row_of(sets: &[StateSet], set: &StateSet) -> Option<usize>
 }
 
 // Whether the set leads to the end of the code at the end of the text.
-fn ends_last(alloc: Global, code: &[Instruction], set: &StateSet) -> Result<bool, AllocError>
+fn ends_last(alloc: Global, code: &Code, set: &StateSet) -> Result<bool, AllocError>
     ensures { IfOk result (λ ends. EndsLast code.now set.now.1 ends) }
 {
-    let mut copy = StateSet::new(alloc, code.len() + 1)?;
+    let mut copy = no_states(alloc, code)?;
     copy.add_all(set);
     close(code, &mut copy, false, true);
-    Ok(copy.contains(code.len()))
+    Ok(has_end(code, &copy))
 }
 
 // The same of each set.
-fn find_last(
-    alloc: Global,
-    code: &[Instruction],
-    sets: &[StateSet],
-) -> Result<Vec<bool>, AllocError>
+fn find_last(alloc: Global, code: &Code, sets: &[StateSet]) -> Result<Vec<bool>, AllocError>
     ensures all { IfOk result (λ ends. length ends.items ≡ length sets.now) }
     ensures each { IfOk result (λ ends. (r : ℕ) → r < length sets.now → EndsLast code.now (members sets.now r) (slice_index_or ends.items r false)) }
 {

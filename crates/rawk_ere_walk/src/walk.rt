@@ -1,25 +1,29 @@
 //! The longest match from a place, by a walk of a set of states from byte to byte.
 
-ghost use Rattle.std.specs.Prelude.{◌≡◌, ℕ, ◌+◌, ◌-◌, ◌*◌, ◌^◌, ◌<◌, ◌≤◌, ◌↔◌, ◌⊎◌, List, [], ◌∷◌, length, IfOk, IsTrue, Contains, Some, slice_get, slice_index, vec_len, true, false};
-ghost use Rattle.rawk_ere_code.specs.ByteSets.{IsIn};
+ghost use Rattle.std.specs.Prelude.{◌≡◌, ℕ, ◌+◌, ◌-◌, ◌*◌, ◌^◌, ◌<◌, ◌≤◌, ◌↔◌, ◌⊎◌, List, [], ◌∷◌, length, min, IfOk, IsTrue, Contains, Some, slice_get, slice_index, vec_len, true, false};
 ghost use Rattle.rawk_ere_code.specs.Ends.{IsLast};
 ghost use Rattle.rawk_ere_code.specs.Code.{Hops, Reads};
-ghost use Rattle.rawk_ere_walk.specs.Sets.{Adds, HopsFrom, ReadsFrom, AdvancesBy, AreReached, Closes, IsFarthest, Asks, AsksAt, AsksIn, WantsFrom, HasReached};
-ghost use Rattle.rawk_ere_walk.specs.Search.{EndsFrom};
+ghost use Rattle.rawk_ere_code.specs.StateSets.{Adds};
+ghost use Rattle.rawk_ere_walk.specs.Sets.{HopsFrom, ReadsFrom, AdvancesBy, AreReached, Closes, IsFarthest, Asks, AsksAt, AsksIn, WantsFrom, HasReached};
+ghost use Rattle.rawk_ere_walk.specs.Search.{EndsFrom, MayBy};
 
-use crate::set::StateSet;
-use rawk_ere_code::byte_set::is_in;
-use rawk_ere_code::code::Instruction;
+use rawk_ere_code::code::{Code, Instruction};
+use rawk_ere_code::set::StateSet;
+use std::alloc::{AllocError, Global};
 use std::mem;
 
-// Whether the instruction reads the byte.
-fn reads(instr: &Instruction, byte: u8) -> bool
-    ensures { IsTrue result ↔ Reads instr.now byte }
+/// No state of the code.
+pub fn no_states(alloc: Global, code: &Code) -> Result<StateSet, AllocError>
+    ensures { IfOk result (λ set. set ≡ (length code.now + 1, [])) }
 {
-    match instr {
-        Instruction::Bytes(words) => is_in(byte, words),
-        _ => false,
-    }
+    StateSet::new(alloc, code.len() + 1)
+}
+
+/// Whether the end of the code is one of the states.
+pub fn has_end(code: &Code, set: &StateSet) -> bool
+    ensures { IsTrue result ↔ Contains set.now.1 (length code.now) }
+{
+    set.contains(code.len())
 }
 
 // Adds the states that the instruction at `state` leads to without reading.
@@ -53,21 +57,21 @@ fn hop(set: &mut StateSet, instr: &Instruction, state: usize, first: bool, last:
 }
 
 // Adds the states that `state` leads to without reading.
-fn hop_from(code: &[Instruction], set: &mut StateSet, state: usize, first: bool, last: bool)
+fn hop_from(code: &Code, set: &mut StateSet, state: usize, first: bool, last: bool)
     ensures room { set.new.0 ≡ set.old.0 }
     ensures adds { Adds set.old.0 set.old.1 set.new.1 (HopsFrom code.now (IsTrue first) (IsTrue last) state) }
 {
     if state < code.len() {
-        hop(set, &code[state], state, first, last);
+        hop(set, &code.at(state), state, first, last);
     }
 }
 
 /// Whether the state reads the byte.
-pub fn reads_from(code: &[Instruction], state: usize, byte: u8) -> bool
+pub fn reads_from(code: &Code, state: usize, byte: u8) -> bool
     ensures { IsTrue result ↔ ReadsFrom code.now state byte }
 {
     if state < code.len() {
-        reads(&code[state], byte)
+        code.reads(state, byte)
     } else {
         false
     }
@@ -81,7 +85,7 @@ fn is_last(text: &[u8], at: usize, closed: bool) -> bool
 }
 
 // Adds the states that the members lead to without reading, and so on.
-pub fn close(code: &[Instruction], set: &mut StateSet, first: bool, last: bool)
+pub fn close(code: &Code, set: &mut StateSet, first: bool, last: bool)
     ensures room { set.new.0 ≡ set.old.0 }
     ensures closes { Closes set.old.0 code.now (IsTrue first) (IsTrue last) set.old.1 set.new.1 }
 {
@@ -94,7 +98,7 @@ pub fn close(code: &[Instruction], set: &mut StateSet, first: bool, last: bool)
 }
 
 // Adds the state after this one, if it reads the byte.
-fn read_from(code: &[Instruction], to: &mut StateSet, state: usize, byte: u8)
+fn read_from(code: &Code, to: &mut StateSet, state: usize, byte: u8)
     ensures room { to.new.0 ≡ to.old.0 }
     ensures adds { Adds to.old.0 to.old.1 to.new.1 (λ r. ReadsFrom code.now state byte × (r ≡ state + 1)) }
 {
@@ -104,7 +108,7 @@ fn read_from(code: &[Instruction], to: &mut StateSet, state: usize, byte: u8)
 }
 
 // The states after those that read the byte.
-pub fn read(code: &[Instruction], from: &StateSet, to: &mut StateSet, byte: u8)
+pub fn read(code: &Code, from: &StateSet, to: &mut StateSet, byte: u8)
     ensures room { to.new.0 ≡ to.old.0 }
     ensures reads { AdvancesBy to.old.0 code.now byte from.now.1 to.new.1 }
 {
@@ -115,7 +119,7 @@ pub fn read(code: &[Instruction], from: &StateSet, to: &mut StateSet, byte: u8)
 }
 
 // The states that are reached at the start of a match.
-fn start(code: &[Instruction], set: &mut StateSet, text: &[u8], from: usize, closed: bool)
+fn start(code: &Code, set: &mut StateSet, text: &[u8], from: usize, closed: bool)
     requires { set.old.0 ≡ length code.now + 1 }
     ensures room { set.new.0 ≡ set.old.0 }
     ensures reached { AreReached code.now closed text.now from from set.new.1 }
@@ -127,7 +131,7 @@ fn start(code: &[Instruction], set: &mut StateSet, text: &[u8], from: usize, clo
 
 // The states that are reached one place later.
 fn advance(
-    code: &[Instruction],
+    code: &Code,
     now: &StateSet,
     next: &mut StateSet,
     text: &[u8],
@@ -147,11 +151,15 @@ fn advance(
 }
 
 // The longest match so far, once the place is looked at.
-pub fn noted(longest: Option<usize>, now: &StateSet, end: usize, at: usize) -> Option<usize>
-    ensures { (Contains now.now.1 end × (result ≡ Some at))
-        ⊎ ((Contains now.now.1 end → ⊥) × (result ≡ longest)) }
+fn noted(code: &Code, longest: Option<usize>, states: &StateSet, at: usize) -> Option<usize>
+    ensures { (Contains states.now.1 (length code.now) × (result ≡ Some at))
+        ⊎ ((Contains states.now.1 (length code.now) → ⊥) × (result ≡ longest)) }
 {
-    if now.contains(end) { Some(at) } else { longest }
+    if has_end(code, states) {
+        Some(at)
+    } else {
+        longest
+    }
 }
 
 // Whether the instruction wants to know what follows the text.
@@ -170,18 +178,18 @@ fn asks(instruction: &Instruction) -> bool
 }
 
 // Whether the state does.
-fn asks_at(code: &[Instruction], state: usize) -> bool
+fn asks_at(code: &Code, state: usize) -> bool
     ensures { IsTrue result ↔ AsksAt code.now state }
 {
     if state < code.len() {
-        asks(&code[state])
+        asks(&code.at(state))
     } else {
         false
     }
 }
 
 /// Whether one of the states wants to know what follows the text.
-pub fn asks_in(code: &[Instruction], set: &StateSet) -> bool
+pub fn asks_in(code: &Code, set: &StateSet) -> bool
     ensures { IsTrue result ↔ AsksIn code.now set.now.1 }
 {
     for index in 0..set.len() {
@@ -207,7 +215,7 @@ pub struct Walked {
 pub fn walk(
     now: &mut StateSet,
     next: &mut StateSet,
-    code: &[Instruction],
+    code: &Code,
     text: &[u8],
     from: usize,
     closed: bool,
@@ -233,12 +241,12 @@ pub fn walk(
             };
         }
         entered = now.counted(entered, at - from);
-        longest = noted(longest, now, code.len(), at);
+        longest = noted(code, longest, now, at);
         advance(code, now, next, text, from, at, closed);
         mem::swap(now, next);
     }
     entered = now.counted(entered, text.len() - from);
-    longest = noted(longest, now, code.len(), text.len());
+    longest = noted(code, longest, now, text.len());
     Walked {
         longest,
         entered,
@@ -258,7 +266,7 @@ fn add_first(set: &mut StateSet, begins: bool)
 
 // The states that are reached one place later, and those of a way that begins there, if that is not past `upto`.
 fn advance_all(
-    code: &[Instruction],
+    code: &Code,
     now: &StateSet,
     next: &mut StateSet,
     text: &[u8],
@@ -269,9 +277,9 @@ fn advance_all(
     requires room { next.old.0 ≡ length code.now + 1 }
     requires within { at < length text.now }
     requires begun { from ≤ at }
-    requires reached { HasReached code.now text.now from upto at now.now.1 }
+    requires reached { HasReached code.now true text.now from upto at now.now.1 }
     ensures room { next.new.0 ≡ next.old.0 }
-    ensures reached { HasReached code.now text.now from upto (at + 1) next.new.1 }
+    ensures reached { HasReached code.now true text.now from upto (at + 1) next.new.1 }
 {
     read(code, now, next, text[at]);
     add_first(next, at < upto);
@@ -282,7 +290,7 @@ fn advance_all(
 pub fn first_end(
     now: &mut StateSet,
     next: &mut StateSet,
-    code: &[Instruction],
+    code: &Code,
     text: &[u8],
     from: usize,
     upto: usize,
@@ -297,7 +305,7 @@ pub fn first_end(
 {
     start(code, now, text, from, true);
     for at in from..text.len() {
-        if now.contains(code.len()) {
+        if has_end(code, now) {
             return Some(at);
         }
         if upto <= at && now.len() == 0 {
@@ -306,9 +314,76 @@ pub fn first_end(
         advance_all(code, now, next, text, from, upto, at);
         mem::swap(now, next);
     }
-    if now.contains(code.len()) {
+    if has_end(code, now) {
         Some(text.len())
     } else {
         None
     }
+}
+
+// The states that ways which began before reach one place later, in a text that may go on.
+fn advance_begun(
+    code: &Code,
+    now: &StateSet,
+    next: &mut StateSet,
+    text: &[u8],
+    from: usize,
+    upto: usize,
+    at: usize,
+)
+    requires room { next.old.0 ≡ length code.now + 1 }
+    requires within { at < length text.now }
+    requires begun { from ≤ at }
+    requires reached { HasReached code.now false text.now from upto at now.now.1 }
+    ensures room { next.new.0 ≡ next.old.0 }
+    ensures reached { HasReached code.now false text.now from (min upto at) (at + 1) next.new.1 }
+{
+    read(code, now, next, text[at]);
+    close(code, next, false, false);
+}
+
+// The same states, and those of a way that begins there, if that is not past `upto`.
+fn begin_next(code: &Code, set: &mut StateSet, text: &[u8], from: usize, upto: usize, at: usize)
+    requires room { set.old.0 ≡ length code.now + 1 }
+    requires within { at < length text.now }
+    requires begun { from ≤ at }
+    requires reached { HasReached code.now false text.now from (min upto at) (at + 1) set.old.1 }
+    ensures room { set.new.0 ≡ set.old.0 }
+    ensures reached { HasReached code.now false text.now from upto (at + 1) set.new.1 }
+{
+    add_first(set, at < upto);
+    close(code, set, false, false);
+}
+
+/// A place by which a way may begin that reads a byte, in the text or in a longer one, of those from `from` to `upto`; found in
+/// one pass over the text.
+pub fn may_begin_by(
+    now: &mut StateSet,
+    next: &mut StateSet,
+    code: &Code,
+    text: &[u8],
+    from: usize,
+    upto: usize,
+) -> Option<usize>
+    requires now { now.old.0 ≡ length code.now + 1 }
+    requires next { next.old.0 ≡ length code.now + 1 }
+    requires from { from ≤ upto }
+    requires upto { upto < length text.now }
+    ensures now { now.new.0 ≡ length code.now + 1 }
+    ensures next { next.new.0 ≡ length code.now + 1 }
+    ensures by { MayBy code.now text.now from upto result }
+{
+    start(code, now, text, from, false);
+    for at in from..text.len() {
+        if upto < at && now.len() == 0 {
+            return None;
+        }
+        advance_begun(code, now, next, text, from, upto, at);
+        if has_end(code, next) {
+            return Some(upto.min(at));
+        }
+        begin_next(code, next, text, from, upto, at);
+        mem::swap(now, next);
+    }
+    if asks_in(code, now) { Some(upto) } else { None }
 }

@@ -1,4 +1,4 @@
-use Rattle.std.proofs.Common.{below_more}
+use Rattle.std.proofs.Common.{◌≤◌, subst, below_more}
 use Rattle.rawk_ere_walk.specs.Sets.{ReadsFrom}
 use Rattle.rawk_ere_walk.proofs.BuildLemmas.{alike_all, alike_here, same_truth}
 use Rattle.rawk_ere_walk.proofs.table.are_alike.Goals as goal
@@ -10,4 +10,4 @@ loop-state-preserved c =
     (alike_here c.reads_from.result c.reads_from-in-loop-state.result (ReadsFrom c.args.code.now q c.args.a) (ReadsFrom c.args.code.now q c.args.b) (same_truth c.reads_from.result c.reads_from-in-loop-state.result c.if-reads_from.false) c.reads_from.ensures c.reads_from-in-loop-state.ensures)
 
 pub returns : goal.returns
-returns c = λ _. alike_all c.args.code.now c.args.a c.args.b c.loop-state.state c.loop-state-test.false c.loop-state.invariant
+returns c = λ _. alike_all c.args.code.now c.args.a c.args.b c.loop-state.state (subst (λ n. n ≤ c.loop-state.state) c.len-state-end.ensures.value c.loop-state-test.false) c.loop-state.invariant

@@ -1,6 +1,7 @@
 use Rattle.std.proofs.Common.{◌≡◌, ℕ, List, false, ap, subst, ◌∙◌}
 use Rattle.std.specs.Prelude.{IsTrue}
-use Rattle.rawk_ere_walk.specs.Sets.{Adds, Closes}
+use Rattle.rawk_ere_code.specs.StateSets.{Adds}
+use Rattle.rawk_ere_walk.specs.Sets.{Closes}
 use Rattle.rawk_ere_walk.proofs.table.begin.Goals as goal
 
 pub returns : goal.returns

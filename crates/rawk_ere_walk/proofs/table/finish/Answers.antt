@@ -1,5 +1,5 @@
 use Rattle.std.proofs.Common.{◌≡◌, length, sym, ap, subst, ◌∙◌}
-use Rattle.rawk_ere_walk.specs.Begins.{AreBegins}
+use Rattle.rawk_ere_code.specs.Begins.{AreBegins}
 use Rattle.rawk_ere_walk.specs.Table.{AreFilled, IsTable}
 use Rattle.rawk_ere_walk.proofs.BuildLemmas.{some_is}
 use Rattle.rawk_ere_walk.proofs.table.finish.Goals as goal
@@ -16,6 +16,8 @@ returns-in-Some c =
       ends_are = c.in_ok-ends.ensures.each;
       last_all = c.in_ok-last_ends.ensures.all;
       last = c.in_ok-last_ends.ensures.each;
+      wants_all = c.in_ok-wants.ensures.all;
+      wants_are = c.in_ok-wants.ensures.each;
       none = c.find_dead-dead.ensures;
       begin_with = subst (λ n. AreBegins n c.in_ok-ends.ends.items c.args.later c.find_dead-dead.result c.find_begins-begins.result) c.deref.ensures.value
           (subst (λ e. AreBegins c.deref.result.now e c.args.later c.find_dead-dead.result c.find_begins-begins.result) c.deref-in-Some.ensures.value c.find_begins-begins.ensures);

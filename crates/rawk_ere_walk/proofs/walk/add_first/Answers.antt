@@ -1,5 +1,5 @@
 use Rattle.std.proofs.Common.{rules}
-use Rattle.rawk_ere_walk.proofs.SetLemmas.{adds_where}
+use Rattle.rawk_ere_code.proofs.SetLemmas.{adds_where}
 use Rattle.rawk_ere_walk.proofs.walk.add_first.Goals as goal
 
 pub returns-then-begins-clause-adds : goal.returns-then-begins-clause-adds

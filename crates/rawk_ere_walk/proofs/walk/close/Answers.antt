@@ -1,6 +1,7 @@
 use Rattle.std.proofs.Common.{◌<◌, ◌≤◌, ◌∙◌, subst}
 use Rattle.std.specs.Prelude.{IsTrue}
-use Rattle.rawk_ere_walk.specs.Sets.{Adds, HopsFrom}
+use Rattle.rawk_ere_code.specs.StateSets.{Adds}
+use Rattle.rawk_ere_walk.specs.Sets.{HopsFrom}
 use Rattle.rawk_ere_walk.proofs.WalkLemmas.{closing_more, closing_end}
 use Rattle.rawk_ere_walk.proofs.walk.close.Goals as goal
 

@@ -2,8 +2,8 @@ use Rattle.std.proofs.Common.{sym, ◌∙◌, subst}
 use Rattle.rawk_ere_code.specs.declared.code.Instruction.{Instruction}
 use Rattle.std.specs.Prelude.{IsTrue}
 use Rattle.rawk_ere_code.specs.Code.{Hops}
-use Rattle.rawk_ere_walk.specs.Sets.{Adds}
-use Rattle.rawk_ere_walk.proofs.SetLemmas.{adds_both, adds_where}
+use Rattle.rawk_ere_code.specs.StateSets.{Adds}
+use Rattle.rawk_ere_code.proofs.SetLemmas.{adds_both, adds_where}
 use Rattle.rawk_ere_walk.proofs.walk.hop.Goals as goal
 
 pub returns-then-first-clause-adds : goal.returns-then-first-clause-adds

@@ -1,5 +1,6 @@
 use Rattle.std.proofs.Common.{◌≡◌, ◌+◌, ◌<◌, ◌≤◌, ◌∙◌, subst}
-use Rattle.rawk_ere_walk.specs.Sets.{Adds, ReadsFrom}
+use Rattle.rawk_ere_code.specs.StateSets.{Adds}
+use Rattle.rawk_ere_walk.specs.Sets.{ReadsFrom}
 use Rattle.rawk_ere_walk.proofs.WalkLemmas.{reading_more, reading_end}
 use Rattle.rawk_ere_walk.proofs.walk.read.Goals as goal
 

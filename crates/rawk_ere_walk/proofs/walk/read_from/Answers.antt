@@ -1,5 +1,5 @@
 use Rattle.std.proofs.Common.{rules}
-use Rattle.rawk_ere_walk.proofs.SetLemmas.{adds_where}
+use Rattle.rawk_ere_code.proofs.SetLemmas.{adds_where}
 use Rattle.rawk_ere_walk.proofs.walk.read_from.Goals as goal
 
 pub returns-then-reads_from-clause-adds : goal.returns-then-reads_from-clause-adds

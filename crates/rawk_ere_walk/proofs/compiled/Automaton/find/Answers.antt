@@ -8,25 +8,25 @@ use Rattle.rawk_ere_walk.proofs.compiled.Automaton.find.Goals as goal
 
 pub first_by-requires-clause-widens : goal.first_by-requires-clause-widens
 first_by-requires-clause-widens c =
-    let is = c.deref-in-Some.ensures.value ∙ c.self.invariant.0 ∙ ap code_of c.self.view_is in
-    widened c.args.text.now c.deref-in-Some.result.now c.args.self.now is (λ k. (c.type_inv.text k).fits)
+    let is = c.self.invariant.0 ∙ ap code_of c.self.view_is in
+    widened c.args.text.now c.self.inside.code c.args.self.now is (λ k. (c.type_inv.text k).fits)
 
 pub returns-in-None-clause-is : goal.returns-in-None-clause-is
 returns-in-None-clause-is c =
-    let is = c.deref.ensures.value ∙ c.self.invariant.0 ∙ ap code_of c.self.view_is in
-    if_ok_where (IsFound c.deref.result.now c.args.text.now c.args.from) (IsMatch c.args.text.now c.args.self.now c.args.from) c.first.result
-    (λ r f. match_from_first c.deref.result.now c.args.text.now c.args.self.now c.args.from r is f.0) c.first.ensures
+    let is = c.self.invariant.0 ∙ ap code_of c.self.view_is in
+    if_ok_where (IsFound c.self.inside.code c.args.text.now c.args.from) (IsMatch c.args.text.now c.args.self.now c.args.from) c.first.result
+    (λ r f. match_from_first c.self.inside.code c.args.text.now c.args.self.now c.args.from r is f.0) c.first.ensures
 
 pub returns-in-None-clause-within : goal.returns-in-None-clause-within
 returns-in-None-clause-within c =
-    if_ok_where (IsFound c.deref.result.now c.args.text.now c.args.from) (AreBetween c.args.from (length c.args.text.now)) c.first.result (λ r f. f.1) c.first.ensures
+    if_ok_where (IsFound c.self.inside.code c.args.text.now c.args.from) (AreBetween c.args.from (length c.args.text.now)) c.first.result (λ r f. f.1) c.first.ensures
 
 pub returns-in-Some-clause-is : goal.returns-in-Some-clause-is
 returns-in-Some-clause-is c =
-    let is = c.deref-in-Some.ensures.value ∙ c.self.invariant.0 ∙ ap code_of c.self.view_is in
-    if_ok_where (IsFound c.deref-in-Some.result.now c.args.text.now c.args.from) (IsMatch c.args.text.now c.args.self.now c.args.from) c.first_by.result
-    (λ r f. match_from_first c.deref-in-Some.result.now c.args.text.now c.args.self.now c.args.from r is f.0) c.first_by.ensures
+    let is = c.self.invariant.0 ∙ ap code_of c.self.view_is in
+    if_ok_where (IsFound c.self.inside.code c.args.text.now c.args.from) (IsMatch c.args.text.now c.args.self.now c.args.from) c.first_by.result
+    (λ r f. match_from_first c.self.inside.code c.args.text.now c.args.self.now c.args.from r is f.0) c.first_by.ensures
 
 pub returns-in-Some-clause-within : goal.returns-in-Some-clause-within
 returns-in-Some-clause-within c =
-    if_ok_where (IsFound c.deref-in-Some.result.now c.args.text.now c.args.from) (AreBetween c.args.from (length c.args.text.now)) c.first_by.result (λ r f. f.1) c.first_by.ensures
+    if_ok_where (IsFound c.self.inside.code c.args.text.now c.args.from) (AreBetween c.args.from (length c.args.text.now)) c.first_by.result (λ r f. f.1) c.first_by.ensures

@@ -7,12 +7,12 @@ use Rattle.rawk_ere_walk.proofs.compiled.Automaton.find_open.Goals as goal
 
 pub returns-clause-is : goal.returns-clause-is
 returns-clause-is c =
-    let is = c.deref.ensures.value ∙ c.self.invariant.0 ∙ ap code_of c.self.view_is in
-    if_ok_where (IsFirstOpen c.deref.result.now c.args.text.now c.args.from) (IsOpenMatch c.args.text.now c.args.self.now c.args.from) c.first_open.result
-    (λ r. open_from_first c.deref.result.now c.args.text.now c.args.self.now c.args.from r is) c.first_open.ensures.is
+    let is = c.self.invariant.0 ∙ ap code_of c.self.view_is in
+    if_ok_where (IsFirstOpen c.self.inside.code c.args.text.now c.args.from) (IsOpenMatch c.args.text.now c.args.self.now c.args.from) c.first_open.result
+    (λ r. open_from_first c.self.inside.code c.args.text.now c.args.self.now c.args.from r is) c.first_open.ensures.is
 
 pub returns-clause-settled : goal.returns-clause-settled
 returns-clause-settled c =
-    let is = c.deref.ensures.value ∙ c.self.invariant.0 ∙ ap code_of c.self.view_is in
-    if_ok_where (IsFirstOpen c.deref.result.now c.args.text.now c.args.from) (λ o. (m : ℕ × ℕ) → o ≡ Some m → IsSettled c.args.text.now c.args.self.now c.args.from m) c.first_open.result
-    (λ r. settled_from_first c.deref.result.now c.args.text.now c.args.self.now c.args.from r is) c.first_open.ensures.is
+    let is = c.self.invariant.0 ∙ ap code_of c.self.view_is in
+    if_ok_where (IsFirstOpen c.self.inside.code c.args.text.now c.args.from) (λ o. (m : ℕ × ℕ) → o ≡ Some m → IsSettled c.args.text.now c.args.self.now c.args.from m) c.first_open.result
+    (λ r. settled_from_first c.self.inside.code c.args.text.now c.args.self.now c.args.from r is) c.first_open.ensures.is

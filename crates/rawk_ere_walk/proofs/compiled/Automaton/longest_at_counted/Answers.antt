@@ -5,10 +5,10 @@ use Rattle.rawk_ere_walk.proofs.compiled.Automaton.longest_at_counted.Goals as g
 
 pub returns-clause-is : goal.returns-clause-is
 returns-clause-is c =
-    let is = c.deref.ensures.value ∙ c.self.invariant.0 ∙ ap code_of c.self.view_is in
-    longest_from_farthest c.deref.result.now c.args.text.now c.args.self.now c.args.from c.in_ok-walked.walked.longest is c.in_ok-walked.ensures.farthest
+    let is = c.self.invariant.0 ∙ ap code_of c.self.view_is in
+    longest_from_farthest c.self.inside.code c.args.text.now c.args.self.now c.args.from c.in_ok-walked.walked.longest is c.in_ok-walked.ensures.farthest
 
 pub returns-clause-entered : goal.returns-clause-entered
 returns-clause-entered c =
-    let is = c.deref.ensures.value ∙ c.self.invariant.0 ∙ ap code_of c.self.view_is in
+    let is = c.self.invariant.0 ∙ ap code_of c.self.view_is in
     subst (λ l. c.in_ok-walked.walked.entered ≤ (length c.args.text.now - c.args.from + 1) * (length l + 1)) is c.in_ok-walked.ensures.entered

@@ -7,6 +7,6 @@ use Rattle.rawk_ere_walk.proofs.compiled.Automaton.open_from.Goals as goal
 
 pub returns : goal.returns
 returns c =
-    let is = c.deref.ensures.value ∙ c.self.invariant.0 ∙ ap code_of c.self.view_is in
-    if_ok_where (IsOpenStart c.deref.result.now c.args.text.now c.args.from) (IsOpenFrom c.args.text.now c.args.self.now c.args.from) c.open_start.result
-    (λ f. open_from_start c.deref.result.now c.args.text.now c.args.self.now c.args.from f is) c.open_start.ensures
+    let is = c.self.invariant.0 ∙ ap code_of c.self.view_is in
+    if_ok_where (IsOpenStart c.self.inside.code c.args.text.now c.args.from) (IsOpenFrom c.args.text.now c.args.self.now c.args.from) c.open_start.result
+    (λ f. open_from_start c.self.inside.code c.args.text.now c.args.self.now c.args.from f is) c.open_start.ensures

@@ -7,6 +7,6 @@ pub returns : goal.returns
 returns c =
     let e = ap length (c.self.invariant.0 ∙ ap code_of c.self.view_is) in
     record {
-      value = omega (arith, e, c.self.inside.code.ok.0);
-      within = omega (arith, e, code_short c.args.self.now, c.self.inside.code.ok.0);
+      value = omega (arith, e, c.len.ensures.value);
+      within = omega (arith, e, code_short c.args.self.now, c.len.ensures.value);
     }
