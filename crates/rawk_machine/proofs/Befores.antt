@@ -5,7 +5,7 @@ use Rattle.rawk_value.specs.declared.value.Value.{Value}
 use Rattle.rawk_store.specs.declared.store.Group.{Group}
 use Rattle.rawk_store.specs.declared.keeper.Kept.{Kept}
 use Rattle.rawk_store.specs.Back.{back}
-use Rattle.rawk_store.specs.Growth.{length-back}
+use Rattle.rawk_store.specs.BackLaws.{length-back}
 use Rattle.rawk_store.specs.Layout.{Layout}
 use Rattle.rawk_code.specs.Actions.{SetAt}
 use Rattle.rawk_machine.specs.declared.last.Last.{Last}

@@ -38,11 +38,7 @@ fn outcome(alloc: Global, line: &str) -> Result<String, AllocError> {
     for byte in input.bytes() {
         bytes.push(if byte == b'~' { b'\n' } else { byte })?;
     }
-    there_and_back(
-        alloc,
-        code,
-        BytesSource::new(bytes, Vec::new(alloc), None),
-    )
+    there_and_back(alloc, code, BytesSource::new(bytes, Vec::new(alloc), None))
 }
 
 /// The points and what is kept there, up to the ending and back.

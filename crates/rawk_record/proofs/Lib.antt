@@ -1,3 +1,6 @@
 pub mod Cuts
 pub mod Values
 pub mod Masks
+pub mod Newlines
+pub mod Separated
+pub mod Drafts

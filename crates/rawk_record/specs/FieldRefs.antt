@@ -1,8 +1,8 @@
 -- Fields that are lent.
 use Rattle.rawk_value.specs.declared.value.Value.{Value}
 use Rattle.rawk_value.specs.declared.value.Value.TheVariants.{Input}
-use Rattle.rawk_record.specs.declared.record.FieldRef.{FieldRef}
-use Rattle.rawk_record.specs.declared.record.FieldRef.TheVariants.{Piece, Kept}
+use Rattle.rawk_record.specs.declared.parts.FieldRef.{FieldRef}
+use Rattle.rawk_record.specs.declared.parts.FieldRef.TheVariants.{Piece, Kept}
 
 -- a split field is an input text
 abbrev pub ref_value : FieldRef → Value

@@ -3,3 +3,7 @@ pub mod Masks
 pub mod Pieces
 pub mod Shown
 pub mod FieldRefs
+pub mod Separators
+pub mod Changed
+pub mod Drafts
+pub mod Laws

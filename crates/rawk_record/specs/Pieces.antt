@@ -1,13 +1,14 @@
 -- Fields as places in a text.
-use Rattle.std.specs.Prelude.{◌≡◌, ℕ, ◌≤◌, ◌<◌, ◌==◌, ◌&&◌, ◌||◌, Bool, true, false, not, nat_lt, if◌then◌else◌, List, [], ◌∷◌, ◌++◌, drop, slice_index, map, filter, length, slice_range, All, Result, Ok, Err, MatchResult}
+use Rattle.std.specs.Prelude.{◌≡◌, ◌≢◌, ℕ, ◌≤◌, ◌<◌, ◌==◌, ◌&&◌, ◌||◌, Bool, true, false, not, nat_lt, if◌then◌else◌, List, [], ◌∷◌, ◌++◌, drop, slice_index, map, filter, length, slice_range, All, Option, Result, Ok, Err}
 use Rattle.std.specs.List.{slice_split}
 use Rattle.rawk_value.specs.Values.{Bytes, is_empty}
 use Rattle.rawk_value.specs.declared.fault.Fault.{Fault}
 use Rattle.rawk_value.specs.declared.fault.Fault.TheVariants.{OutOfMemory}
-use Rattle.rawk_record.specs.Fields.{words, byte_parts, fields_of}
+use Rattle.rawk_ere_code.specs.Tree.{Tree}
+use Rattle.rawk_record.specs.Fields.{words, byte_parts, ere_parts, dynamic_parts, fields_of}
 use Rattle.rawk_record.specs.declared.pieces.Piece.{Piece}
 use Rattle.rawk_record.specs.declared.pieces.Separator.{Separator}
-use Rattle.rawk_record.specs.declared.pieces.Separator.TheVariants.{Blanks, Byte, Nothing}
+use Rattle.rawk_record.specs.declared.pieces.Separator.TheVariants.{Blanks, Byte, Nothing, Matches}
 use Rattle.rawk_record.specs.declared.pieces.Fields.{Fields}
 
 -- the bytes of pieces of a text
@@ -54,11 +55,17 @@ abbrev pub split_by : Separator → Bool → Bytes → List Bytes
 split_by Blanks newline s = words s
 split_by (Byte b) newline s = byte_parts (λ c. c == b || newline && c == 10) s
 split_by Nothing newline s = singles s
+split_by (Matches e) newline s = ere_parts e.now newline s
 
--- the separator splits every text as the field separator does, or the field separator is refused for every text
+-- the separator splits every text as the field separator does, or the field separator is refused for every text; memory may be refused
 abbrev pub Decides : Bytes → Result Separator Fault → Type 0
-Decides fs answer =
-    MatchResult answer (λ separator. (s : Bytes) (newline : Bool) → fields_of s fs newline ≡ Ok (split_by separator newline s)) (λ fault. (s : Bytes) (newline : Bool) → fields_of s fs newline ≡ Err fault)
+Decides fs (Ok separator) = (s : Bytes) (newline : Bool) → fields_of s fs newline ≡ Ok (split_by separator newline s)
+Decides fs (Err fault) = fault ≢ OutOfMemory → (s : Bytes) (newline : Bool) → fields_of s fs newline ≡ Err fault
+
+-- the same of a field separator that is an expression, or none
+abbrev pub ExpressionDecides : Option Tree → Result Separator Fault → Type 0
+ExpressionDecides e (Ok separator) = (s : Bytes) (newline : Bool) → dynamic_parts e newline s ≡ Ok (split_by separator newline s)
+ExpressionDecides e (Err fault) = (s : Bytes) (newline : Bool) → dynamic_parts e newline s ≡ Err fault
 
 -- the pieces are the fields, or the fault is theirs; memory may be refused
 abbrev pub IsFieldsAnswer : Bytes → Result (List Bytes) Fault → Result Fields Fault → Type 0

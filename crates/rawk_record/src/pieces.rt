@@ -1,11 +1,15 @@
 //! The fields of a text, as places in it.
 
-ghost use Rattle.std.specs.Prelude.{◌≡◌, ◌≤◌, ◌<◌, ◌+◌, ◌++◌, [], IfOk, OnOk, length, min};
-ghost use Rattle.rawk_record.specs.Fields.{byte_parts, fields_of};
-ghost use Rattle.rawk_record.specs.Pieces.{AllInRange, IsFieldsAnswer, Decides, IsCut, run_piece, runs_by, singles, split_by, texts};
+ghost use Rattle.std.specs.Prelude.{◌≡◌, ◌≤◌, ◌<◌, ◌+◌, ◌++◌, [], false, IfOk, OnOk, length, min, vec_capacity, vec_len};
+ghost use Rattle.std.specs.Option.{option_copied};
+ghost use Rattle.rawk_record.specs.Fields.{byte_parts, ere_parts, fields_of};
+ghost use Rattle.rawk_record.specs.Pieces.{AllInRange, IsFieldsAnswer, Decides, ExpressionDecides, IsCut, run_piece, runs_by, singles, split_by, texts};
 
 use crate::class::{Blank, ByteClass, Class, mask_at};
 use crate::mask::{lowest_bit, without_bit};
+use crate::matches::cut_matches;
+use rawk_ere::Ere;
+use rawk_match::LastExpression;
 use rawk_value::Fault;
 use std::alloc::{AllocError, Global};
 
@@ -17,27 +21,45 @@ pub struct Piece {
 }
 
 /// What separates fields (POSIX awk, Variables and Special Variables, FS).
-#[derive(Clone, Copy, Debug, PartialEq, Eq)]
-pub enum Separator {
+#[derive(Clone, Copy)]
+pub enum Separator<'a> {
     /// Runs of space, tab and newline.
     Blanks,
     /// Each occurrence of a byte.
     Byte(u8),
     /// Nothing: each byte is a field.
     Nothing,
+    /// Each match of an extended regular expression that is not empty.
+    Matches(&'a Ere),
 }
 
-impl Separator {
-    /// The separator that a text names. A text of several bytes is refused: `BadEre`.
-    pub fn named(fs: &[u8]) -> Result<Separator, Fault>
+impl<'a> Separator<'a> {
+    /// The separator that a text names; the expression that several bytes are stands beside, and is read anew only where the text is another one than last time.
+    ///
+    /// Several bytes that are no extended regular expression are refused: `BadEre`. Where memory is refused the answer is `OutOfMemory`.
+    pub fn named(
+        alloc: Global,
+        fs: &[u8],
+        last: &'a mut LastExpression,
+    ) -> Result<Separator<'a>, Fault>
         ensures { Decides fs.now result }
     {
         match fs {
             [] => Ok(Separator::Nothing),
             [b' '] => Ok(Separator::Blanks),
             [byte] => Ok(Separator::Byte(*byte)),
-            _ => Err(Fault::BadEre),
+            _ => matches_of(last.get(alloc, fs)?),
         }
+    }
+}
+
+/// The separator that an expression is.
+fn matches_of(ere: Option<&Ere>) -> Result<Separator<'_>, Fault>
+    ensures { ExpressionDecides (option_copied ere.entry) result }
+{
+    match ere {
+        Some(ere) => Ok(Separator::Matches(ere)),
+        None => Err(Fault::BadEre),
     }
 }
 
@@ -55,6 +77,19 @@ fn end_run(
         pieces.push(Piece { start, end })?;
     }
     Ok(())
+}
+
+/// The same where there is room for a piece.
+#[inline(always)]
+fn end_run_reserved(pieces: &mut Vec<Piece>, empty_too: bool, start: usize, end: usize)
+    requires { vec_len pieces.old < vec_capacity pieces.old }
+    ensures items { pieces.new.items ≡ pieces.old.items ++ run_piece empty_too start end }
+    ensures len { vec_len pieces.new ≤ vec_len pieces.old + 1 }
+    ensures capacity { vec_capacity pieces.new ≡ vec_capacity pieces.old }
+{
+    if start < end || empty_too {
+        pieces.push_reserved(Piece { start, end });
+    }
 }
 
 /// Ends a run at each separator, byte by byte, and gives where the last run begins.
@@ -92,11 +127,12 @@ fn cut_block<C: Class>(
     requires cut { IsCut (C.contains class.now) empty_too text.now pieces.old.items begin at }
     ensures { IfOk result (λ start. IsCut (C.contains class.now) empty_too text.now pieces.new.items start (min (at + 32) (length text.now))) }
 {
+    pieces.reserve(32)?;
     let mut rest = mask_at(class, text, at);
     let mut start = begin;
     while rest != 0 {
         let bit = lowest_bit(rest);
-        end_run(pieces, empty_too, start, at + bit)?;
+        end_run_reserved(pieces, empty_too, start, at + bit);
         start = at + bit + 1;
         rest = without_bit(rest, bit);
     }
@@ -173,19 +209,21 @@ fn cut_singles(text: &[u8], pieces: &mut Vec<Piece>) -> Result<(), AllocError>
 
 /// Cuts a text into its fields; `newline` says whether a newline separates too. It fails where memory is refused.
 pub(crate) fn cut(
+    alloc: Global,
     text: &[u8],
-    separator: Separator,
+    separator: Separator<'_>,
     newline: bool,
     pieces: &mut Vec<Piece>,
 ) -> Result<(), AllocError>
     requires { pieces.old.items ≡ [] }
-    ensures fields { OnOk result (texts text.now pieces.new.items ≡ split_by separator newline text.now) }
+    ensures fields { OnOk result (texts text.now pieces.new.items ≡ split_by separator.entry newline text.now) }
     ensures in_range { OnOk result (AllInRange text.now pieces.new.items) }
 {
     match separator {
         Separator::Blanks => cut_runs(&Blank, false, text, pieces),
         Separator::Byte(byte) => cut_parts(&ByteClass { byte, newline }, text, pieces),
         Separator::Nothing => cut_singles(text, pieces),
+        Separator::Matches(ere) => cut_matches(alloc, ere, newline, text, pieces),
     }
 }
 
@@ -197,14 +235,25 @@ pub struct Fields {
 
 /// The fields of a text by a separator; `newline` says whether a newline separates too.
 ///
-/// A separator of several bytes is refused: `BadEre`. Where memory is refused the answer is `OutOfMemory`.
+/// Several bytes that are no extended regular expression are refused: `BadEre`. Where memory is refused the answer is `OutOfMemory`.
 pub fn fields_of(alloc: Global, text: &[u8], fs: &[u8], newline: bool) -> Result<Fields, Fault>
     ensures { IsFieldsAnswer text.now (fields_of text.now fs.now newline) result }
 {
-    let separator = Separator::named(fs)?;
+    let mut last = LastExpression::new(alloc);
+    let separator = Separator::named(alloc, fs, &mut last)?;
     let mut pieces = Vec::new(alloc);
-    match cut(text, separator, newline, &mut pieces) {
+    match cut(alloc, text, separator, newline, &mut pieces) {
         Ok(()) => Ok(Fields { pieces }),
         Err(AllocError) => Err(Fault::OutOfMemory),
     }
+}
+
+/// The parts of a text between the matches of an expression that are not empty, whatever the expression's length. An empty text has none. It fails where memory is refused.
+pub fn pieces_between(alloc: Global, text: &[u8], ere: &Ere) -> Result<Fields, AllocError>
+    ensures fields { IfOk result (λ f. texts text.now f.pieces.items ≡ ere_parts ere.now false text.now) }
+    ensures in_range { IfOk result (λ f. AllInRange text.now f.pieces.items) }
+{
+    let mut pieces = Vec::new(alloc);
+    cut_matches(alloc, ere, false, text, &mut pieces)?;
+    Ok(Fields { pieces })
 }

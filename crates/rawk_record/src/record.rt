@@ -1,13 +1,14 @@
 //! A record: the bytes of `$0` once, and its fields as places in them.
 
-ghost use Rattle.std.specs.Prelude.{◌≡◌, ◌<◌, ◌-◌, ◌^◌, None, OnOk, length, slice_get, slice_index_or, vec_len};
-ghost use Rattle.std.specs.Option.{option_copied, option_map};
-ghost use Rattle.rawk_value.specs.declared.value.Value.{Value};
-ghost use Rattle.rawk_record.specs.Pieces.{AllInRange};
-ghost use Rattle.rawk_record.specs.Shown.{no_record, split_record, values};
+ghost use Rattle.std.specs.Prelude.{◌≡◌, ◌<◌, ◌-◌, ◌^◌, OnOk, length, slice_get};
+ghost use Rattle.std.specs.Option.{option_map};
+ghost use Rattle.rawk_record.specs.Changed.{rebuilt, resized, with_value};
+ghost use Rattle.rawk_record.specs.Shown.{no_record, split_record};
 ghost use Rattle.rawk_record.specs.FieldRefs.{ref_value};
 
-use crate::pieces::{Piece, Separator, cut};
+use crate::build::{build_with_count, build_with_value};
+use crate::parts::{FieldRef, Parts, field_at, no_parts};
+use crate::pieces::{Separator, cut};
 use crate::reversible::Reversible;
 use rawk_value::Value;
 use std::alloc::{AllocError, Global};
@@ -17,59 +18,18 @@ use std::mem;
 /// A record and its fields.
 #[derive(Debug, Drop)]
 pub struct Record {
-    text: Vec<u8>,
-    pieces: Vec<Piece>,
-    // The fields with values of their own; a record that was read has none.
-    kept: Vec<Option<Value>>,
+    parts: Parts,
 }
 
 impl Model for Record {
-    ghost use Rattle.rawk_record.specs.Pieces.{AllInRange};
-    ghost use Rattle.rawk_record.specs.Shown.{Shown, values};
+    ghost use Rattle.rawk_record.specs.Drafts.{IsPlaced, values_of};
+    ghost use Rattle.rawk_record.specs.Shown.{Shown};
 
     ghost Value = { Shown };
 
-    ghost view = { λ r. record { text = r.text.items; fields = values r.text.items r.pieces.items r.kept.items } };
+    ghost view = { λ r. record { text = r.parts.text.items; fields = values_of r.parts } };
 
-    ghost invariant = { λ r. AllInRange r.text.items r.pieces.items };
-}
-
-/// A field, lent: a piece of `$0`, or a value of its own.
-#[derive(Clone, Copy)]
-pub enum FieldRef<'a> {
-    Piece(&'a [u8]),
-    Kept(&'a Value),
-}
-
-/// A field's own value, where it has one.
-fn own_value(kept: &Vec<Option<Value>>, place: usize) -> Option<&Value>
-    ensures { option_copied result ≡ slice_index_or kept.now.items place None }
-{
-    if place < kept.len() {
-        kept[place].as_ref()
-    } else {
-        None
-    }
-}
-
-/// The field at a place, from 0.
-fn field_at<'a>(
-    text: &'a [u8],
-    pieces: &'a Vec<Piece>,
-    kept: &'a Vec<Option<Value>>,
-    place: usize,
-) -> FieldRef<'a>
-    requires in_range { AllInRange text.now pieces.now.items }
-    requires present { place < vec_len pieces.now }
-    ensures { (d : Value) → slice_index_or (values text.now pieces.now.items kept.now.items) place d ≡ ref_value result }
-{
-    match own_value(kept, place) {
-        Some(value) => FieldRef::Kept(value),
-        None => {
-            let piece = pieces[place];
-            FieldRef::Piece(&text[piece.start..piece.end])
-        }
-    }
+    ghost invariant = { λ r. IsPlaced r.parts };
 }
 
 impl Record {
@@ -78,9 +38,7 @@ impl Record {
         ensures { result ≡ no_record }
     {
         Record {
-            text: Vec::new(alloc),
-            pieces: Vec::new(alloc),
-            kept: Vec::new(alloc),
+            parts: no_parts(alloc),
         }
     }
 
@@ -88,7 +46,7 @@ impl Record {
     pub fn text(&self) -> &[u8]
         ensures { result.now ≡ self.now.text }
     {
-        &self.text
+        &self.parts.text
     }
 
     /// How many fields there are: `NF`.
@@ -96,7 +54,7 @@ impl Record {
         ensures value { result ≡ length self.now.fields }
         ensures small { result < 2 ^ 63 }
     {
-        self.pieces.len()
+        self.parts.pieces.len()
     }
 
     /// A field by its number, from 1, and `None` past the last. It takes no memory.
@@ -104,10 +62,10 @@ impl Record {
         requires { 0 < number }
         ensures { option_map ref_value result ≡ slice_get self.now.fields (number - 1) }
     {
-        if self.pieces.len() < number {
+        if self.parts.pieces.len() < number {
             return None;
         }
-        Some(field_at(&self.text, &self.pieces, &self.kept, number - 1))
+        Some(field_at(&self.parts, number - 1))
     }
 
     /// Becomes a text with its fields; `newline` says whether a newline separates too.
@@ -115,20 +73,78 @@ impl Record {
     /// Its buffers are used again. It fails where memory is refused, and then it may be any record.
     pub fn refill(
         &mut self,
+        alloc: Global,
         text: &[u8],
-        separator: Separator,
+        separator: Separator<'_>,
         newline: bool,
     ) -> Result<(), AllocError>
-        ensures { OnOk result (self.new ≡ split_record separator newline text.now) }
+        ensures { OnOk result (self.new ≡ split_record separator.entry newline text.now) }
     {
-        self.kept.clear();
-        self.pieces.clear();
-        self.text.clear();
-        self.text.extend_from_slice(text)?;
-        match cut(&self.text, separator, newline, &mut self.pieces) {
+        self.parts.kept.clear();
+        self.parts.pieces.clear();
+        self.parts.text.clear();
+        self.parts.text.extend_from_slice(text)?;
+        match cut(
+            alloc,
+            &self.parts.text,
+            separator,
+            newline,
+            &mut self.parts.pieces,
+        ) {
             Ok(()) => Ok(()),
             Err(refused) => {
-                self.pieces.clear();
+                self.parts.pieces.clear();
+                Err(refused)
+            }
+        }
+    }
+
+    /// Becomes another record with a value for the field of a number, from 1, and `$0` built anew: the fields between become uninitialised.
+    ///
+    /// Its buffers are used again. It fails where memory is refused, and then it may be any record.
+    pub fn rebuild_with_field(
+        &mut self,
+        alloc: Global,
+        earlier: &Record,
+        number: usize,
+        value: Value,
+        separator: &[u8],
+    ) -> Result<(), AllocError>
+        requires { 0 < number }
+        ensures { OnOk result (self.new ≡ rebuilt separator.now (with_value number value earlier.now.fields)) }
+    {
+        match build_with_value(
+            alloc,
+            &mut self.parts,
+            &earlier.parts,
+            number,
+            value,
+            separator,
+        ) {
+            Ok(()) => Ok(()),
+            Err(refused) => {
+                self.parts.pieces.clear();
+                Err(refused)
+            }
+        }
+    }
+
+    /// Becomes another record with this many fields, cut or extended by uninitialised ones, and `$0` built anew.
+    ///
+    /// Its buffers are used again. It fails where memory is refused, and then it may be any record.
+    pub fn rebuild_with_count(
+        &mut self,
+        alloc: Global,
+        earlier: &Record,
+        count: usize,
+        separator: &[u8],
+    ) -> Result<(), AllocError>
+        ensures { OnOk result (self.new ≡ rebuilt separator.now (resized count earlier.now.fields)) }
+    {
+        match build_with_count(alloc, &mut self.parts, &earlier.parts, count, separator) {
+            Ok(()) => Ok(()),
+            Err(refused) => {
+                self.parts.pieces.clear();
                 Err(refused)
             }
         }

@@ -1,7 +1,8 @@
 //! The calls with ample memory, once each.
 
-use crate::{Record, Reversible, Separator, fields_of};
-use rawk_value::Fault;
+use crate::{Record, Reversible, Separator, fields_of, pieces_between};
+use rawk_ere::Ere;
+use rawk_value::Value;
 use std::test::Fail;
 
 #[test]
@@ -15,7 +16,6 @@ fn fields_by_each_separator(rt: HostRuntime) -> Result<(), Fail> {
     assert_eq!(rt; lines.pieces.len(), 3);
     let bytes = fields_of(rt.alloc(), b"abc", b"", false)?;
     assert_eq!(rt; bytes.pieces.len(), 3);
-    assert_eq!(rt; Separator::named(b"ab"), Err(Fault::BadEre));
     Ok(())
 }
 
@@ -23,11 +23,33 @@ fn fields_by_each_separator(rt: HostRuntime) -> Result<(), Fail> {
 fn a_record_changes_back(rt: HostRuntime) -> Result<(), Fail> {
     let mut record = Record::new(rt.alloc());
     let mut next = Record::new(rt.alloc());
-    next.refill(b"a b c", Separator::Blanks, false)?;
+    next.refill(rt.alloc(), b"a b c", Separator::Blanks, false)?;
     let mut earlier = record.apply(next)?;
     assert_eq!(rt; record.field_count(), 3);
     record.undo(&mut earlier);
     assert_eq!(rt; record.field_count(), 0);
     assert_eq!(rt; earlier.text(), b"a b c".as_slice());
+    Ok(())
+}
+
+#[test]
+fn parts_without_a_match(rt: HostRuntime) -> Result<(), Fail> {
+    let ere = Ere::parse(rt.alloc(), b"x+")?;
+    let parts = pieces_between(rt.alloc(), b"a b\nc", &ere)?;
+    assert_eq!(rt; parts.pieces.len(), 1);
+    Ok(())
+}
+
+#[test]
+fn a_record_is_built_anew(rt: HostRuntime) -> Result<(), Fail> {
+    let alloc = rt.alloc();
+    let mut record = Record::new(alloc);
+    record.refill(alloc, b"a b c", Separator::Blanks, false)?;
+    let mut longer = Record::new(alloc);
+    longer.rebuild_with_field(alloc, &record, 5, Value::Number(7), b"-")?;
+    assert_eq!(rt; longer.text(), b"a-b-c--7".as_slice());
+    assert_eq!(rt; longer.field_count(), 5);
+    record.rebuild_with_count(alloc, &longer, 2, b" ")?;
+    assert_eq!(rt; record.text(), b"a b".as_slice());
     Ok(())
 }

@@ -1,8 +1,8 @@
 -- What a step changed, and the way back.
 use Rattle.std.specs.Prelude.{◌≤◌, length, take}
 use Rattle.rawk_store.specs.declared.store.Group.{Group}
-use Rattle.rawk_store.specs.Back.{back, AreBelow}
-use Rattle.rawk_store.specs.StackBack.{FitsStack, stack_back}
+use Rattle.rawk_slots.specs.Back.{back, AreBelow}
+use Rattle.rawk_slots.specs.StackBack.{FitsStack, stack_back}
 use Rattle.rawk_record.specs.Shown.{record_back}
 use Rattle.rawk_store.specs.Layout.{Layout}
 

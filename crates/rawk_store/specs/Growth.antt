@@ -1,35 +1,13 @@
 -- Slots that were added beyond the live operands change nothing, and putting back works over them.
-use Rattle.std.specs.Prelude.{◌≡◌, ℕ, ◌≤◌, List, [], ◌∷◌, ◌++◌, length, reverse, slice_set, refl}
+use Rattle.std.specs.Prelude.{◌≡◌, List, [], ◌++◌, length, reverse}
 use Rattle.std.proofs.Common.{sym, ap, ◌∙◌, arith, append_assoc}
-use Rattle.std.proofs.lemmas.List.{append-nil, length-append, length-set, set-append_left, take-append-le}
+use Rattle.std.proofs.lemmas.List.{append-nil, length-append, take-append-le}
 use Rattle.rawk_value.specs.declared.value.Value.{Value}
-use Rattle.rawk_store.specs.declared.saved.Saved.{Saved}
 use Rattle.rawk_store.specs.declared.store.Group.{Group}
-use Rattle.rawk_store.specs.Back.{back, AreBelow}
-use Rattle.rawk_store.specs.Stacked.{Stacked, GrownStack, IsLive, live_values}
+use Rattle.rawk_slots.specs.BackLaws.{back_grow, length-back, AreBelow-more}
+use Rattle.rawk_slots.specs.Stacked.{Stacked, GrownStack, IsLive}
 use Rattle.rawk_store.specs.Layout.{Layout, Grown, grown, operands, state}
 use Rattle.rawk_store.specs.GroupBack.{FitsIn, put_back}
-
-pub length-back : {T : Type 0} (xs : List T) (es : List (Saved T)) → length (back xs es) ≡ length xs
-length-back xs [] = refl
-length-back xs (e ∷ es) = length-set (back xs es) e.place e.old ∙ length-back xs es
-
-pub back_grow : {T : Type 0} (xs : List T) (es : List (Saved T)) (ys : List T) → AreBelow (length xs) es → back (xs ++ ys) es ≡ back xs es ++ ys
-back_grow xs [] ys h = refl
-back_grow {T} xs (e ∷ es) ys h =
-    ap (λ (zs : List T). slice_set zs e.place e.old) (back_grow xs es ys h.1)
-    ∙ set-append_left (back xs es) ys e.place e.old (let k : length (back xs es) ≡ length xs = length-back xs es in rw k h.0)
-
-pub AreBelow-more : {T : Type 0} (n m : ℕ) (es : List (Saved T)) → n ≤ m → AreBelow n es → AreBelow m es
-AreBelow-more n m [] le h = tt
-AreBelow-more n m (e ∷ es) le h = (omega (arith, h.0), AreBelow-more n m es le h.1)
-
--- a grown stack has the same live values
-pub live_values-grown : (s t : Stacked) → GrownStack s t → IsLive s → live_values t ≡ live_values s
-live_values-grown s t g h = ap live_values g.is ∙ ap (λ (xs : List Value). reverse xs) (take-append-le s.live s.slots g.more h)
-
-pub IsLive-grown : (s t : Stacked) → GrownStack s t → IsLive s → IsLive t
-IsLive-grown s t g h = rw g.is (omega (arith, h, length-append s.slots g.more))
 
 grown_nothing : (l : Layout) → l ≡ grown l []
 grown_nothing l = ap (λ (xs : List Value). record l { operands = record l.operands { slots = xs } }) (sym (append-nil l.operands.slots))
@@ -50,8 +28,8 @@ pub Grown-trans : (l m n : Layout) → Grown l m → Grown m n → Grown l n
 Grown-trans l m n a b = record { more = a.more ++ b.more; is = b.is ∙ (ap (λ (x : Layout). grown x b.more) a.is ∙ grown-grown l a.more b.more) }
 
 -- the operand stack alone has grown
-pub Grown-stack : (l : Layout) (s : Stacked) → GrownStack l.operands s → Grown l (record l { operands = s })
-Grown-stack l s g = record { more = g.more; is = ap (λ (x : Stacked). record l { operands = x }) g.is }
+pub Grown-stack : (l : Layout) (s : Stacked Value) → GrownStack l.operands s → Grown l (record l { operands = s })
+Grown-stack l s g = record { more = g.more; is = ap (λ (x : Stacked Value). record l { operands = x }) g.is }
 
 pub ruleset grows = (Grown-refl, Grown-same, Grown-trans, Grown-then_same, Grown-stack)
 

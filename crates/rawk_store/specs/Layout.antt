@@ -3,14 +3,14 @@ use Rattle.std.specs.Prelude.{◌≡◌, List, []}
 use Rattle.rawk_value.specs.Values.{Bytes}
 use Rattle.rawk_value.specs.declared.value.Value.{Value}
 use Rattle.rawk_store.specs.State.{State}
-use Rattle.rawk_store.specs.Stacked.{Stacked, live_values, with_slots}
+use Rattle.rawk_slots.specs.Stacked.{Stacked, live_values, with_slots}
 use Rattle.rawk_record.specs.Shown.{Shown}
 use Rattle.rawk_store.specs.declared.registers.Registers.{Registers}
 
 -- the globals, the operand stack, the record, the output not given yet, and the registers
 pub record Layout : Type 0 where
   pub globals : List Value
-  pub operands : Stacked
+  pub operands : Stacked Value
   pub current : Shown
   pub output : Bytes
   pub registers : Registers

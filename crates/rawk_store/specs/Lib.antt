@@ -1,9 +1,10 @@
+pub use Rattle.rawk_slots.specs.Journaled
+pub use Rattle.rawk_slots.specs.Back
+pub use Rattle.rawk_slots.specs.BackLaws
+pub use Rattle.rawk_slots.specs.Stacked
+pub use Rattle.rawk_slots.specs.StackBack
+pub use Rattle.rawk_slots.specs.StackLaws
 pub mod State
-pub mod Journaled
-pub mod Back
-pub mod Stacked
-pub mod StackBack
-pub mod LiveStack
 pub mod Layout
 pub mod Stores
 pub mod GroupBack

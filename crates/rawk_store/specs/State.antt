@@ -1,5 +1,5 @@
 -- The state of a program, and what can be assigned in it.
-use Rattle.std.specs.Prelude.{ℕ, ◌-◌, ℤ, pos, negsuc, int_le, ◌==◌, Bool, if◌then◌else◌, List, [], ◌∷◌, ◌++◌, length, map, slice_index_or, slice_set, Result, Ok, Err}
+use Rattle.std.specs.Prelude.{ℕ, zero, suc, ◌-◌, ℤ, pos, negsuc, int_le, ◌==◌, Bool, if◌then◌else◌, List, [], ◌∷◌, length, map, slice_index_or, slice_set, Result, Ok, Err}
 use Rattle.std.specs.FinMap.{FinMap}
 use Rattle.std.specs.Ordering.{nat_cmp}
 use Rattle.std.specs.Cmp.Lexicographic.{slice_cmp}
@@ -7,8 +7,10 @@ use Rattle.rawk_value.specs.declared.value.Value.{Value}
 use Rattle.rawk_value.specs.declared.value.Value.TheVariants.{Uninitialized, Number, String, Input}
 use Rattle.rawk_value.specs.declared.fault.Fault.{Fault}
 use Rattle.rawk_value.specs.declared.fault.Fault.TheVariants.{FieldNumber}
-use Rattle.rawk_value.specs.Values.{Bytes, next_ok, is_empty, text_of}
+use Rattle.rawk_value.specs.Values.{Bytes, next_ok, is_empty, number_of, text_of}
 use Rattle.rawk_record.specs.Fields.{fields_of}
+use Rattle.rawk_record.specs.Changed.{resized, with_value}
+pub use Rattle.rawk_record.specs.Changed.{joined}
 use Rattle.rawk_store.specs.declared.target.Target as target
 use Rattle.rawk_store.specs.declared.target.Target.TheVariants.{Global}
 
@@ -110,14 +112,30 @@ abbrev pub field_number : ℤ → Result ℕ Fault
 field_number (pos n) = if int_le (pos n) (pos 1000000) then Ok n else Err FieldNumber
 field_number (negsuc n) = Err FieldNumber
 
-abbrev pub joined : Bytes → List Bytes → Bytes
-joined separator [] = []
-joined separator (t ∷ []) = t
-joined separator (t ∷ u ∷ more) = t ++ separator ++ joined separator (u ∷ more)
+-- with these fields, and `$0` made of their texts with the OFS of now between two
+abbrev pub with_fields : List Value → State → State
+with_fields fields s = record s { fields = fields; whole = joined (global_text OFS s) (map text_of fields) }
+
+-- with a value for the field of a number, from 1; the fields between are uninitialised
+abbrev pub with_field : ℕ → Value → State → State
+with_field n v s = with_fields (with_value n v s.fields) s
+
+-- with this many fields, cut or extended with uninitialised ones
+abbrev pub with_field_count : ℕ → State → State
+with_field_count n s = with_fields (resized n s.fields) s
 
 -- `$0` is split by the separators of now
 abbrev pub with_record : Bytes → State → Result State Fault
 with_record text s = next_ok (fields_of text (global_text FS s) (is_paragraph s)) (λ texts. Ok (record s { whole = text; fields = map Input texts }))
+
+-- the state after an assignment to a field, or its fault: `$0` is field 0
+abbrev pub with_field_value : ℕ → Value → State → Result State Fault
+with_field_value zero v s = with_record (text_of v) s
+with_field_value (suc m) v s = Ok (with_field (suc m) v s)
+
+-- the state after an assignment to NF, which counts by its number, or its fault
+abbrev pub with_count_value : Value → State → Result State Fault
+with_count_value v s = next_ok (number_of v) (λ z. next_ok (field_number z) (λ n. Ok (with_field_count n s)))
 
 -- the state after an assignment, or its fault
 abbrev pub assigned : Target → Value → State → Result State Fault

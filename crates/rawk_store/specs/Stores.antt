@@ -2,7 +2,7 @@
 use Rattle.std.specs.Prelude.{◌≡◌, []}
 use Rattle.rawk_store.specs.declared.store.Store.{Store}
 use Rattle.rawk_store.specs.declared.registers.Registers.{Registers}
-use Rattle.rawk_store.specs.Stacked.{no_operands}
+use Rattle.rawk_slots.specs.Stacked.{empty_stack}
 use Rattle.rawk_record.specs.Shown.{no_record}
 use Rattle.rawk_store.specs.Layout.{Layout}
 
@@ -16,7 +16,7 @@ start_of s = record { globals = s.globals.start; operands = s.operands.start; cu
 
 -- nothing stands there but the registers
 abbrev pub empty_layout : Registers → Layout
-empty_layout registers = record { globals = []; operands = no_operands; current = no_record; output = []; registers = registers }
+empty_layout registers = record { globals = []; operands = empty_stack; current = no_record; output = []; registers = registers }
 
 -- a new store, with no step in progress
 pub record IsNew (registers : Registers) (s : Store) : Type 0 where

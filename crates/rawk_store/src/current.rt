@@ -1,35 +1,75 @@
 //! The present record, and the one before the step.
 
-ghost use Rattle.std.specs.Prelude.{◌≡◌, ◌≢◌, ◌<◌, ◌-◌, ◌^◌, IfErr, OnOk, length, slice_get};
+ghost use Rattle.std.specs.Prelude.{◌≡◌, ◌≢◌, ◌<◌, ◌-◌, ◌^◌, IfErr, OnErr, OnOk, if◌then◌else◌, length, slice_get};
 ghost use Rattle.std.specs.Option.{option_map};
-ghost use Rattle.rawk_store.specs.Journaled.{at_rest};
+ghost use Rattle.rawk_slots.specs.Journaled.{at_rest};
+ghost use Rattle.rawk_record.specs.Changed.{rebuilt, resized, with_value};
 ghost use Rattle.rawk_record.specs.Shown.{no_record, read_as, record_back, split_record};
 ghost use Rattle.rawk_record.specs.FieldRefs.{ref_value};
 
+use rawk_match::LastExpression;
 use rawk_record::{FieldRef, Record, Separator};
-use rawk_value::Fault;
+use rawk_value::{Fault, Value};
 use std::alloc::{AllocError, Global};
 use std::marker::Model;
 use std::mem;
 
 /// The present record, beside what it was when the step began.
 ///
-/// Two records change places: the one is the present record, the other the earlier one, or spare where the step has not changed it.
+/// Records change places: the one is the present record, the other the earlier one, or spare where the step has not changed it. A record that is built of the
+/// present one's fields is built in a third.
 #[derive(Drop)]
 pub struct Current {
     present: Record,
     other: Record,
+    built: Record,
     changed: bool,
+    // The expression of the last field separator of several bytes.
+    last: LastExpression,
 }
 
 impl Model for Current {
     ghost use Rattle.std.specs.Prelude.{if◌then◌else◌};
-    ghost use Rattle.rawk_store.specs.Journaled.{Journaled};
+    ghost use Rattle.rawk_slots.specs.Journaled.{Journaled};
     ghost use Rattle.rawk_record.specs.Shown.{Shown};
 
     ghost Value = { Journaled Shown };
 
     ghost view = { λ c. record { now = c.present; start = if c.changed then c.other else c.present } };
+}
+
+/// Makes a text with its fields the present record; the record as it was when the step began stays.
+fn fill(
+    alloc: Global,
+    present: &mut Record,
+    other: &mut Record,
+    changed: &mut bool,
+    text: &[u8],
+    separator: Separator<'_>,
+    newline: bool,
+) -> Result<(), AllocError>
+    ensures did { OnOk result (present.new ≡ split_record separator.entry newline text.now) }
+    ensures start { (if changed.new then other.new else present.new) ≡ (if changed.old then other.old else present.old) }
+{
+    if *changed {
+        return present.refill(alloc, text, separator, newline);
+    }
+    other.refill(alloc, text, separator, newline)?;
+    mem::swap(present, other);
+    *changed = true;
+    Ok(())
+}
+
+/// Makes the record that was built the present one; the record as it was when the step began stays.
+fn put(present: &mut Record, other: &mut Record, changed: &mut bool, built: &mut Record)
+    ensures present { present.new ≡ built.old }
+    ensures start { (if changed.new then other.new else present.new) ≡ (if changed.old then other.old else present.old) }
+{
+    mem::swap(present, built);
+    if !*changed {
+        mem::swap(other, built);
+        *changed = true;
+    }
 }
 
 impl Current {
@@ -40,7 +80,9 @@ impl Current {
         Current {
             present: Record::new(alloc),
             other: Record::new(alloc),
+            built: Record::new(alloc),
             changed: false,
+            last: LastExpression::new(alloc),
         }
     }
 
@@ -70,36 +112,104 @@ impl Current {
     /// Becomes a text with its fields; `newline` says whether a newline separates too. It fails where memory is refused.
     pub fn refill(
         &mut self,
+        alloc: Global,
         text: &[u8],
-        separator: Separator,
+        separator: Separator<'_>,
         newline: bool,
     ) -> Result<(), AllocError>
-        ensures did { OnOk result (self.new.now ≡ split_record separator newline text.now) }
+        ensures did { OnOk result (self.new.now ≡ split_record separator.entry newline text.now) }
         ensures start { self.new.start ≡ self.old.start }
     {
-        if self.changed {
-            return self.present.refill(text, separator, newline);
-        }
-        self.other.refill(text, separator, newline)?;
-        mem::swap(&mut self.present, &mut self.other);
-        self.changed = true;
-        Ok(())
+        fill(
+            alloc,
+            &mut self.present,
+            &mut self.other,
+            &mut self.changed,
+            text,
+            separator,
+            newline,
+        )
     }
 
     /// Becomes a text with its fields by a field separator; `newline` says whether a newline separates too.
     ///
-    /// A separator of several bytes is refused, and then nothing has changed: `BadEre`. Where memory is refused the answer is `OutOfMemory`.
-    pub fn read(&mut self, text: &[u8], fs: &[u8], newline: bool) -> Result<(), Fault>
+    /// A separator of several bytes that is no extended regular expression is refused, and then nothing has changed: `BadEre`. Where memory is refused the answer is
+    /// `OutOfMemory`. The expression is kept, and read anew only where the separator is another one than last time.
+    pub fn read(
+        &mut self,
+        alloc: Global,
+        text: &[u8],
+        fs: &[u8],
+        newline: bool,
+    ) -> Result<(), Fault>
         ensures did { OnOk result (read_as text.now fs.now newline ≡ Ok self.new.now) }
         ensures fault { IfErr result (λ fault. fault ≢ Fault.OutOfMemory → read_as text.now fs.now newline ≡ Err fault) }
         ensures same { IfErr result (λ fault. fault ≢ Fault.OutOfMemory → self.new ≡ self.old) }
         ensures start { self.new.start ≡ self.old.start }
     {
-        let separator = Separator::named(fs)?;
-        match self.refill(text, separator, newline) {
+        let separator = Separator::named(alloc, fs, &mut self.last)?;
+        match fill(
+            alloc,
+            &mut self.present,
+            &mut self.other,
+            &mut self.changed,
+            text,
+            separator,
+            newline,
+        ) {
             Ok(()) => Ok(()),
             Err(AllocError) => Err(Fault::OutOfMemory),
         }
+    }
+
+    /// Gives the field of a number, from 1, a value, and builds `$0` anew: the fields' texts with the separator between two. The fields between become uninitialised.
+    ///
+    /// It fails where memory is refused, and then nothing has changed.
+    pub fn set_field(
+        &mut self,
+        alloc: Global,
+        number: usize,
+        value: Value,
+        separator: &[u8],
+    ) -> Result<(), AllocError>
+        requires { 0 < number }
+        ensures did { OnOk result (self.new.now ≡ rebuilt separator.now (with_value number value self.old.now.fields)) }
+        ensures start { self.new.start ≡ self.old.start }
+        ensures same { OnErr result (self.new ≡ self.old) }
+    {
+        self.built
+            .rebuild_with_field(alloc, &self.present, number, value, separator)?;
+        put(
+            &mut self.present,
+            &mut self.other,
+            &mut self.changed,
+            &mut self.built,
+        );
+        Ok(())
+    }
+
+    /// Cuts or extends the fields to this many, and builds `$0` anew: the fields' texts with the separator between two. New fields are uninitialised.
+    ///
+    /// It fails where memory is refused, and then nothing has changed.
+    pub fn set_field_count(
+        &mut self,
+        alloc: Global,
+        count: usize,
+        separator: &[u8],
+    ) -> Result<(), AllocError>
+        ensures did { OnOk result (self.new.now ≡ rebuilt separator.now (resized count self.old.now.fields)) }
+        ensures start { self.new.start ≡ self.old.start }
+        ensures same { OnErr result (self.new ≡ self.old) }
+    {
+        self.built
+            .rebuild_with_count(alloc, &self.present, count, separator)?;
+        put(
+            &mut self.present,
+            &mut self.other,
+            &mut self.changed,
+            &mut self.built,
+        );
+        Ok(())
     }
 
     /// Ends the step, and gives the record as it was when the step began, where the step changed it. It takes no memory.

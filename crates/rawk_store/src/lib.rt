@@ -3,27 +3,24 @@
 
 pub mod current;
 pub mod keeper;
-pub mod operands;
+pub mod numbering;
 pub mod output;
 pub mod registers;
-pub mod saved;
 pub mod saving;
-pub mod slot_group;
-pub mod slots;
 pub mod store;
 pub mod target;
 
 pub use current::Current;
 pub use keeper::{Full, Keeper, Kept, Off};
-pub use operands::{Operands, OperandsGroup};
+pub use numbering::field_number;
 pub use output::Output;
-pub use rawk_record::{FieldRef, Fields, Piece, Record, Reversible, Separator, fields_of};
+pub use rawk_record::{
+    FieldRef, Fields, Piece, Record, Reversible, Separator, fields_of, pieces_between,
+};
+pub use rawk_slots::{Saved, SlotGroup, Slots, Stack, StackGroup, led_to};
 pub use registers::{Bank, Ending, Phase, Registers};
-pub use saved::Saved;
 pub use saving::{saved_by_all, saved_in_groups};
-pub use slot_group::{SlotGroup, led_to};
-pub use slots::Slots;
-pub use store::{Cells, Group, Store};
+pub use store::{Cells, Group, Operands, OperandsGroup, Store};
 pub use target::Target;
 
 #[cfg(test)]

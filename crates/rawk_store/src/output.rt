@@ -2,7 +2,7 @@
 
 ghost use Rattle.std.specs.Prelude.{◌≡◌, ◌≤◌, ◌++◌, [], OnErr, OnOk, length, take};
 ghost use Rattle.rawk_value.specs.Values.{int_text, text_of};
-ghost use Rattle.rawk_store.specs.Journaled.{at_rest};
+ghost use Rattle.rawk_slots.specs.Journaled.{at_rest};
 
 use rawk_value::{Value, push_number, push_text};
 use std::alloc::{AllocError, Global};
@@ -18,7 +18,7 @@ pub struct Output {
 
 impl Model for Output {
     ghost use Rattle.std.specs.Prelude.{ℕ, List, ◌≤◌, length, take};
-    ghost use Rattle.rawk_store.specs.Journaled.{Journaled};
+    ghost use Rattle.rawk_slots.specs.Journaled.{Journaled};
 
     ghost Value = { Journaled (List ℕ) };
 

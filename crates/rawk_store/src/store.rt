@@ -2,23 +2,27 @@
 
 ghost use Rattle.std.specs.Prelude.{◌≡◌};
 ghost use Rattle.rawk_record.specs.Shown.{record_back};
-ghost use Rattle.rawk_store.specs.Back.{back};
+ghost use Rattle.rawk_slots.specs.Back.{back};
 ghost use Rattle.rawk_store.specs.Stores.{IsNew, now_of, start_of};
 ghost use Rattle.rawk_store.specs.GroupBack.{FitsIn, put_back};
-ghost use Rattle.rawk_store.specs.Stacked.{IsLive};
+ghost use Rattle.rawk_slots.specs.Stacked.{IsLive};
 
 use crate::current::Current;
-use crate::operands::{Operands, OperandsGroup};
 use crate::output::Output;
 use crate::registers::{Bank, Registers};
-use crate::slot_group::SlotGroup;
-use crate::slots::Slots;
 use rawk_record::Record;
+use rawk_slots::{SlotGroup, Slots, Stack, StackGroup};
 use rawk_value::Value;
 use std::alloc::Global;
 
 /// The globals, of which a number names one, from 0.
 pub type Cells = Slots<Value>;
+
+/// The operand stack.
+pub type Operands = Stack<Value>;
+
+/// What a step changed in the operand stack.
+pub type OperandsGroup = StackGroup<Value>;
 
 /// The parts of the state of a run. Each part keeps what the step in progress changed in it.
 #[derive(Drop)]

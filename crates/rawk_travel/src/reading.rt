@@ -57,7 +57,7 @@ fn show(
 {
     let mut buffer = Vec::new(alloc);
     let separator = text_lent(global_lent(&store.globals, FS), &mut buffer)?;
-    match store.current.read(text, separator, paragraph) {
+    match store.current.read(alloc, text, separator, paragraph) {
         Ok(()) => Ok(None),
         Err(Fault::OutOfMemory) => Err(AllocError),
         Err(fault) => Ok(Some(fault)),

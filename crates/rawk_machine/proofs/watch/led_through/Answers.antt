@@ -2,7 +2,7 @@ use Rattle.std.proofs.Common.{◌≡◌, ◌+◌, ◌∷◌, ◌∙◌, ap, sym,
 use Rattle.std.proofs.lemmas.List.{drop_more}
 use Rattle.rawk_store.specs.declared.store.Group.{Group}
 use Rattle.rawk_store.specs.Back.{back}
-use Rattle.rawk_store.specs.Growth.{length-back}
+use Rattle.rawk_store.specs.BackLaws.{length-back}
 use Rattle.rawk_machine.specs.Kept.{globals_forth}
 use Rattle.rawk_machine.proofs.watch.led_through.Goals as goal
 

@@ -18,11 +18,12 @@ loop-rest-preserved g c =
     let to_bit = IsCut-to_bit p c.args.empty_too text c.loop-rest.pieces.items c.loop-rest.start c.args.at from c.loop-rest.rest bit inv.cut (omega arith) inv.bits low.set low.below in
     let w = c.without_bit-rest.ensures in
     record {
-      cut = subst (λ n. IsCut p c.args.empty_too text c.end_run.new.pieces.items (c.args.at + bit + 1) n) e
-          (IsCut-end p c.args.empty_too text c.loop-rest.pieces.items c.end_run.new.pieces.items c.loop-rest.start (c.args.at + bit) to_bit found.1 found.3 c.in_ok-end_run.ensures);
+      cut = subst (λ n. IsCut p c.args.empty_too text c.end_run_reserved.new.pieces.items (c.args.at + bit + 1) n) e
+          (IsCut-end p c.args.empty_too text c.loop-rest.pieces.items c.end_run_reserved.new.pieces.items c.loop-rest.start (c.args.at + bit) to_bit found.1 found.3 c.end_run_reserved.ensures.items);
       bits = subst (λ n. IsMaskFrom p text c.args.at n c.without_bit-rest.result) e
           (IsMaskFrom-next p text c.args.at from c.loop-rest.rest c.without_bit-rest.result bit inv.bits low.below w.cleared w.kept w.none_new found.2);
       near = omega (arith, found.0);
+      room = omega (arith, inv.room, found.0, found.2, c.end_run_reserved.ensures.len, c.end_run_reserved.ensures.capacity);
     }
 
 pub returns : goal.returns

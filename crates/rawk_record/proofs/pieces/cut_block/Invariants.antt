@@ -1,4 +1,5 @@
-use Rattle.std.proofs.Common.{max, ◌+◌, ◌≤◌}
+use Rattle.std.proofs.Common.{max, ◌+◌, ◌≤◌, vec_len}
+use Rattle.std.specs.Prelude.{vec_capacity}
 use Rattle.rawk_record.specs.Masks.{IsMaskFrom}
 use Rattle.rawk_record.specs.Pieces.{IsCut}
 use Rattle.rawk_record.proofs.pieces.cut_block.Given as goal
@@ -9,6 +10,7 @@ invariant-loop-rest g l = record {
   cut : IsCut (g.C.Class.contains l.class) l.empty_too l.text l.pieces.items l.start (max l.start l.at);
   bits : IsMaskFrom (g.C.Class.contains l.class) l.text l.at (max l.start l.at) l.rest;
   near : l.start ≤ l.at + 32;
+  room : vec_len l.pieces + l.at + 32 ≤ vec_capacity l.pieces + max l.start l.at;
 }
 
 abbrev pub decreases-loop-rest : goal.decreases-loop-rest

@@ -3,7 +3,7 @@ use Rattle.std.specs.Prelude.{option_copied}
 use Rattle.std.proofs.lemmas.Option.{same_Some, slice_get_past}
 use Rattle.rawk_store.specs.declared.store.Group.{Group}
 use Rattle.rawk_store.specs.Back.{back}
-use Rattle.rawk_store.specs.Growth.{length-back}
+use Rattle.rawk_store.specs.BackLaws.{length-back}
 use Rattle.rawk_store.specs.Stores.{now_of}
 use Rattle.rawk_machine.specs.declared.last.Last.{Last}
 use Rattle.rawk_machine.specs.Standing.{Standing, Seen}

@@ -5,5 +5,5 @@ use Rattle.rawk_record.proofs.record.Record.field_count.Goals as goal
 
 pub returns-clause-value : goal.returns-clause-value
 returns-clause-value c =
-    let i = c.self.inside in
+    let i = c.self.inside.parts in
     omega (arith, i.pieces.ok.0, length-values i.text.items i.pieces.items i.kept.items, ap (λ (x : Shown). length x.fields) c.self.view_is)

@@ -1,0 +1,325 @@
+-- The keys of an array, as a walk finds them.
+use Rattle.std.proofs.Common.{◌≡◌, ◌≢◌, ℕ, ◌+◌, ◌<◌, ◌≤◌, suc, Bool, true, false, cond, ◌&&◌, subst, add-one, nat_lt, add-zero, zero-add, List, [], ◌∷◌, ◌++◌, inl, inr, length, map, refl, sym, ap, ◌∙◌, arith, get_or, slice_get, Option, None, Some}
+use Rattle.std.specs.Prelude.{is_some, T}
+use Rattle.std.specs.List.{sum_by}
+use Rattle.std.specs.List.Sorted.{IsPermutation, IsSorted}
+use Rattle.std.specs.Global.{Vec}
+use Rattle.std.proofs.lemmas.List.Sorted.{sum_by-IsPermutation}
+use Rattle.std.proofs.lemmas.Bool.{cases_lt, false≢true}
+use Rattle.std.proofs.lemmas.List.Sums.{sum_by_push, sum_by-cons}
+use Rattle.std.proofs.lemmas.Bool.Decides.{Decides-ltb}
+use Rattle.std.proofs.lemmas.List.{get_or_past, get_or-map, length-append, length-map, append-nil}
+use Rattle.std.proofs.lemmas.Option.{same_Some}
+use Rattle.std.specs.FinMap.{get, get-empty, contains_key, find, from_entries, from_sorted, get-from_entries, get-from_sorted, entries-from_sorted, is_sorted, same_map, len, len-empty, len-insert}
+use Rattle.std.specs.FinMap.Entries.{below_all}
+use Rattle.std.specs.declared.cmp.Ordering.{Ordering}
+use Rattle.std.specs.declared.cmp.Ordering.TheVariants.{Less, Equal, Greater}
+use Rattle.std.specs.Option.{unwrap_or}
+use Rattle.std.specs.Ordering.{nat_cmp, is_lt, is_eq, ordering_reverse}
+use Rattle.std.specs.Cmp.Lexicographic.{slice_cmp, nat_list_cmp_total}
+use Rattle.std.proofs.lemmas.Map.Lookups.{exact_bytes}
+use Rattle.rawk_value.specs.declared.value.Value.TheVariants.{Uninitialized}
+use Rattle.rawk_arrays.specs.Elements.{Elements, map_keys, no_elements}
+use Rattle.rawk_value.specs.Values.{Bytes}
+use Rattle.rawk_value.specs.declared.value.Value.{Value}
+use Rattle.rawk_names.specs.Name.{Name, named, IsLastOf}
+use Rattle.rawk_names.specs.Found.{left}
+use Rattle.rawk_arrays.specs.Place.{same_key, place}
+use Rattle.rawk_arrays.specs.Laid.{AreDistinct, elements_of, slot}
+use Rattle.rawk_arrays.specs.Walks.{IsWalking, IsFinding, IsCounting, IsEach, is_seen, one, times, texts}
+use Rattle.rawk_arrays.specs.PlaceLaws.{place_there, place_is, get_at, key_is, key_itself}
+use Rattle.rawk_arrays.proofs.Emptying.{walk_name, walk_in, last_left}
+
+pub times_push : (q k : Bytes) (ks : List Bytes) → times q (ks ++ k ∷ []) ≡ times q ks + one (same_key q k)
+times_push q k ks = sum_by_push (λ x. one (same_key q x)) ks k
+
+pub before : (p from : ℕ) → p < from → nat_lt p from ≡ true
+before p from lt = (Decides-ltb p from).1 lt
+
+pub not_before : (p from : ℕ) → from ≤ p → nat_lt p from ≡ false
+not_before p from le = go (nat_lt p from) refl
+  where
+    go : (b : Bool) → nat_lt p from ≡ b → nat_lt p from ≡ false
+    go true e = absurd (omega (arith, (Decides-ltb p from).0 e))
+    go false e = e
+
+-- past the last slot nothing is filled
+past_slot : (names : List Name) (slots : List (Option Value)) (p : ℕ) → length slots ≤ length names → length names ≤ p → slot slots p ≡ None
+past_slot names slots p le ge = get_or_past slots p None (omega (arith, le, ge))
+
+unseen : (from p : ℕ) (s : Option Value) → s ≡ None → is_seen from p s ≡ false
+unseen from p s e = ap (is_seen from p) e ∙ go (nat_lt p from)
+  where
+    go : (b : Bool) → cond b false false ≡ false
+    go true = refl
+    go false = refl
+
+seen_past : (from p : ℕ) (s : Option Value) → from ≤ p → is_seen from p s ≡ is_some s
+seen_past from p s le = ap (λ (b : Bool). cond b false (is_some s)) (not_before p from le)
+
+seen_before : (from p : ℕ) (s : Option Value) → p < from → is_seen from p s ≡ false
+seen_before from p s lt = ap (λ (b : Bool). cond b false (is_some s)) (before p from lt)
+
+-- the name of a key of the array does not stand between where a walk stands and where it goes on
+between : (a : ℕ) (q : Bytes) (names : List Name) (n : ℕ) (at : Option ℕ) → n ≤ length names → IsLastOf a names n at → left at ≤ place a q names → n ≤ place a q names
+between a q names n None le h ge = elim (cases_lt (place a q names) n) [
+  | inl lt ↦ absurd (h (place a q names) (named a q) lt (place_there a q names (omega (arith, lt, le))) refl)
+  | inr ok ↦ ok
+]
+between a q names n (Some k) le h ge = elim (cases_lt (place a q names) n) [
+  | inl lt ↦ absurd (h.2 (place a q names) (named a q) (omega (arith, ge)) lt (place_there a q names (omega (arith, lt, le))) refl)
+  | inr ok ↦ ok
+]
+
+-- the walk begins with nothing found
+pub finding_begins : (a : ℕ) (names : List Name) (slots : List (Option Value)) (at : Option ℕ) → length slots ≤ length names → IsLastOf a names (length names) at → IsFinding a names slots at []
+finding_begins a names slots at le last = record {
+  each = λ q. sym (ap one (elim (cases_lt (place a q names) (left at)) [
+    | inl lt ↦ seen_before (left at) (place a q names) (slot slots (place a q names)) lt
+    | inr ge ↦ unseen (left at) (place a q names) (slot slots (place a q names)) (past_slot names slots (place a q names) le (between a q names (length names) at (omega arith) last ge))
+  ]));
+  room = let k : left at ≤ length names = last_left a names (length names) at last in omega arith;
+}
+
+-- the key of a slot, if it is filled
+abbrev pub filled_key : Option Value → Bytes → List Bytes
+filled_key s key = cond (is_some s) (key ∷ []) []
+
+more_keys : (s : Option Value) (key : Bytes) (keys : List Bytes) (q : Bytes) → times q (keys ++ filled_key s key) ≡ times q keys + one (cond (is_some s) (same_key q key) false)
+more_keys s key keys q = go (is_some s)
+  where
+    go : (b : Bool) → times q (keys ++ cond b (key ∷ []) []) ≡ times q keys + one (cond b (same_key q key) false)
+    go true = times_push q key keys
+    go false = ap (times q) (append-nil keys) ∙ sym (add-zero (times q keys))
+
+fewer_keys : (s : Option Value) (key : Bytes) (keys : List Bytes) → length (keys ++ filled_key s key) ≤ length keys + 1
+fewer_keys s key keys = go (is_some s)
+  where
+    go : (b : Bool) → length (keys ++ cond b (key ∷ []) []) ≤ length keys + 1
+    go true = omega (arith, length-append keys (key ∷ []))
+    go false = omega (arith, length-append {A = Bytes} keys [])
+
+-- one turn of the walk, at the key q
+turn : (a i : ℕ) (q key : Bytes) (names : List Name) (slots : List (Option Value)) (at : Option ℕ) → AreDistinct names → slice_get names i ≡ Some (named a key) → i < length names → IsLastOf a names i at →
+    one (is_seen (i + 1) (place a q names) (slot slots (place a q names))) + one (cond (is_some (slot slots i)) (same_key q key) false) ≡ one (is_seen (left at) (place a q names) (slot slots (place a q names)))
+turn a i q key names slots at d is within last = go (same_key q key) refl
+  where
+    p : ℕ
+    p = place a q names
+
+    go : (b : Bool) → same_key q key ≡ b → one (is_seen (i + 1) (place a q names) (slot slots (place a q names))) + one (cond (is_some (slot slots i)) (same_key q key) false) ≡ one (is_seen (left at) (place a q names) (slot slots (place a q names)))
+    go true e =
+        let here : place a q names ≡ i = ap (λ (k : Bytes). place a k names) (key_is q key e) ∙ place_is a key names i d is in
+        let k : left at ≤ i = last_left a names i at last in
+        let old : is_seen (i + 1) (place a q names) (slot slots (place a q names)) ≡ false = seen_before (i + 1) (place a q names) (slot slots (place a q names)) (omega arith) in
+        let new : is_seen (left at) (place a q names) (slot slots (place a q names)) ≡ is_some (slot slots i) = seen_past (left at) (place a q names) (slot slots (place a q names)) (omega arith) ∙ ap (λ n. is_some (slot slots n)) here in
+        rw (old, new, e) (here_one (is_some (slot slots i)))
+      where
+        here_one : (b : Bool) → one false + one (cond b true false) ≡ one b
+        here_one true = refl
+        here_one false = refl
+    go false e =
+        let apart : place a q names ≢ i = λ at_i.
+        let same : q ≡ key = ap (λ (n : Name). n.key) (same_Some (named a q) (named a key) (sym (ap (slice_get names) (sym at_i) ∙ place_there a q names (omega (arith, at_i, within))) ∙ is)) in
+        false≢true (sym e ∙ (ap (same_key q) (sym same) ∙ key_itself q)) in
+        let k : left at ≤ i = last_left a names i at last in
+        let same : is_seen (i + 1) (place a q names) (slot slots (place a q names)) ≡ is_seen (left at) (place a q names) (slot slots (place a q names)) = elim (cases_lt (place a q names) (left at)) [
+          | inl lt ↦ seen_before (i + 1) (place a q names) (slot slots (place a q names)) (omega (arith, lt, k)) ∙ sym (seen_before (left at) (place a q names) (slot slots (place a q names)) lt)
+          | inr ge ↦
+              let past : i ≤ place a q names = between a q names i at (omega arith) last ge in
+              seen_past (i + 1) (place a q names) (slot slots (place a q names)) (omega (arith, past, apart)) ∙ sym (seen_past (left at) (place a q names) (slot slots (place a q names)) ge)
+        ] in
+        rw (same, e) (none_more (is_some (slot slots i)) (one (is_seen (left at) (place a q names) (slot slots (place a q names)))))
+      where
+        none_more : (b : Bool) (n : ℕ) → n + one (cond b false false) ≡ n
+        none_more true n = omega arith
+        none_more false n = omega arith
+
+pub finding_next : (a i : ℕ) (names : List Name) (slots : List (Option Value)) (here at : Option ℕ) (keys more : List Bytes) → AreDistinct names → here ≡ Some i → IsWalking a names here → IsFinding a names slots here keys →
+    ((name : Name) → slice_get names i ≡ Some name → more ≡ keys ++ filled_key (slot slots i) name.key) → IsLastOf a names i at → IsFinding a names slots at more
+finding_next a i names slots here at keys more d e w f is last =
+    let n = walk_name a names i here e w in
+    let there : slice_get names i ≡ Some (named a n.0.key) = n.1 ∙ ap (λ x. Some (named x n.0.key)) n.2 in
+    let t : IsFinding a names slots (Some i) keys = rw e at f in
+    let lt : i < length names = walk_in a names i here e w in
+    record {
+      each = λ q. ap (times q) (is n.0 n.1) ∙ (more_keys (slot slots i) n.0.key keys q ∙ (ap (λ x. x + one (cond (is_some (slot slots i)) (same_key q n.0.key) false)) (t.each q) ∙ turn a i q n.0.key names slots at d there lt last));
+      room = omega (arith, t.room, ap length (is n.0 n.1), fewer_keys (slot slots i) n.0.key keys, last_left a names i at last);
+    }
+
+-- the walk is over
+pub found_all : (a : ℕ) (names : List Name) (slots : List (Option Value)) (at : Option ℕ) (keys : List Bytes) → at ≡ None → length slots ≤ length names → IsFinding a names slots at keys → IsEach keys (elements_of a names slots)
+found_all a names slots at keys e le f = λ q.
+    let t : IsFinding a names slots None keys = rw e at f in
+    t.each q ∙ ap one (seen_past 0 (place a q names) (slot slots (place a q names)) (omega arith) ∙ ap is_some (sym (get_at a q names slots le)))
+
+-- ---- how many keys there are
+
+pub counting_begins : (a : ℕ) (names : List Name) (slots : List (Option Value)) (at : Option ℕ) → length slots ≤ length names → IsLastOf a names (length names) at → IsCounting a names slots at 0
+counting_begins a names slots at le last = record { keys = []; many = refl; finding = finding_begins a names slots at le last }
+
+pub counting_next : (a i : ℕ) (names : List Name) (slots : List (Option Value)) (here at : Option ℕ) (count more : ℕ) → AreDistinct names → here ≡ Some i → IsWalking a names here → IsCounting a names slots here count →
+    more ≡ count + one (is_some (slot slots i)) → IsLastOf a names i at → IsCounting a names slots at more
+counting_next a i names slots here at count more d e w f is last =
+    let n = walk_name a names i here e w in
+    record {
+      keys = f.keys ++ filled_key (slot slots i) n.0.key;
+      many = is ∙ (ap (λ x. x + one (is_some (slot slots i))) f.many ∙ sym (one_longer (slot slots i) n.0.key f.keys));
+      finding = finding_next a i names slots here at f.keys (f.keys ++ filled_key (slot slots i) n.0.key) d e w f.finding (λ name named_at. ap (λ (x : Name). f.keys ++ filled_key (slot slots i) x.key) (same_Some n.0 name (sym n.1 ∙ named_at))) last;
+    }
+  where
+    one_longer : (s : Option Value) (key : Bytes) (keys : List Bytes) → length (keys ++ filled_key s key) ≡ length keys + one (is_some s)
+    one_longer s key keys = go (is_some s)
+      where
+        go : (b : Bool) → length (keys ++ cond b (key ∷ []) []) ≡ length keys + one b
+        go true = length-append keys (key ∷ [])
+        go false = length-append {A = Bytes} keys []
+
+pub counting_fits : (a i : ℕ) (names : List Name) (slots : List (Option Value)) (here : Option ℕ) (count : ℕ) → here ≡ Some i → IsCounting a names slots here count → count + 1 ≤ length names
+counting_fits a i names slots here count e f =
+    let t : IsCounting a names slots (Some i) count = rw e at f in
+    omega (arith, t.many, t.finding.room)
+
+-- ---- lists of an array's keys
+
+abbrev pub value_at : Elements → Bytes → Value
+value_at m k = unwrap_or (get m k) Uninitialized
+
+abbrev pub pairs : Elements → List Bytes → List (Bytes × Value)
+pairs m ks = map {A = Bytes} {B = Bytes × Value} (λ k. (k, value_at m k)) ks
+
+pub keys_of_pairs : (m : Elements) (ks : List Bytes) → map (λ (e : Bytes × Value). e.0) (pairs m ks) ≡ ks
+keys_of_pairs m [] = refl
+keys_of_pairs m (k ∷ ks) = ap (λ (xs : List Bytes). k ∷ xs) (keys_of_pairs m ks)
+
+pub times_cons : (q k : Bytes) (ks : List Bytes) → times q (k ∷ ks) ≡ one (same_key q k) + times q ks
+times_cons q k ks = sum_by-cons (λ x. one (same_key q x)) k ks
+
+find_go : (m : Elements) (q k : Bytes) (ks : List Bytes) (b : Bool) → same_key q k ≡ b → find (slice_cmp nat_cmp) q (pairs m ks) ≡ cond (nat_lt 0 (times q ks)) (Some (value_at m q)) None →
+    cond (same_key q k) (Some (value_at m k)) (find (slice_cmp nat_cmp) q (pairs m ks)) ≡ cond (nat_lt 0 (times q (k ∷ ks))) (Some (value_at m q)) None
+find_go m q k ks true e h =
+    let some : nat_lt 0 (times q (k ∷ ks)) ≡ true = before 0 (times q (k ∷ ks)) (omega (arith, times_cons q k ks, ap one e)) in
+    ap (λ b. cond b (Some (value_at m k)) (find (slice_cmp nat_cmp) q (pairs m ks))) e
+    ∙ (ap (λ (x : Bytes). Some (value_at m x)) (sym (key_is q k e)) ∙ ap (λ b. cond b (Some (value_at m q)) None) (sym some))
+find_go m q k ks false e h =
+    let same : times q (k ∷ ks) ≡ times q ks = times_cons q k ks ∙ (ap (λ b. one b + times q ks) e ∙ zero-add (times q ks)) in
+    ap (λ b. cond b (Some (value_at m k)) (find (slice_cmp nat_cmp) q (pairs m ks))) e ∙ (h ∙ ap (λ n. cond (nat_lt 0 n) (Some (value_at m q)) None) (sym same))
+
+pub find_pairs : (m : Elements) (q : Bytes) (ks : List Bytes) → find (slice_cmp nat_cmp) q (pairs m ks) ≡ cond (nat_lt 0 (times q ks)) (Some (value_at m q)) None
+find_pairs m q [] = refl
+find_pairs m q (k ∷ ks) = find_go m q k ks (same_key q k) refl (find_pairs m q ks)
+
+pub found_value : (m : Elements) (q : Bytes) (n : ℕ) → n ≡ one (contains_key m q) → cond (nat_lt 0 n) (Some (value_at m q)) None ≡ get m q
+found_value m q n e = ap (λ x. cond (nat_lt 0 x) (Some (unwrap_or (get m q) Uninitialized)) None) e ∙ out (get m q)
+  where
+    out : (o : Option Value) → cond (nat_lt 0 (one (is_some o))) (Some (unwrap_or o Uninitialized)) None ≡ o
+    out None = refl
+    out (Some v) = refl
+
+-- the finite map of a list of its keys
+pub map_of_keys : (m : Elements) (ks : List Bytes) → IsEach ks m → from_entries (pairs m ks) ≡ m
+map_of_keys m ks each = same_map nat_list_cmp_total exact_bytes (from_entries (pairs m ks)) m (λ q. get-from_entries nat_list_cmp_total (pairs m ks) q ∙ (find_pairs m q ks ∙ found_value m q (times q ks) (each q)))
+
+pair_true : (b c : Bool) → T b → T c → T (b && c)
+pair_true true c p q = q
+pair_true false c p q = p
+
+left_true : (b c : Bool) → T (b && c) → T b
+left_true true c p = tt
+left_true false c p = p
+
+right_true : (b c : Bool) → T (b && c) → T c
+right_true true c p = p
+right_true false c p = absurd p
+
+less_true : (o : Ordering) → o ≡ Less → T (is_lt o)
+less_true o e = subst (λ r. T (is_lt r)) (sym e) tt
+
+true_less : (o : Ordering) → T (is_lt o) → o ≡ Less
+true_less Less p = refl
+true_less Equal p = absurd p
+true_less Greater p = absurd p
+
+len_go : (m : Elements) (k : Bytes) (ks : List Bytes) → times k (k ∷ ks) ≤ 1 → is_some (get (from_entries {R = slice_cmp nat_cmp} (pairs m ks)) k) ≡ false
+len_go m k ks le =
+    let none : nat_lt 0 (times k ks) ≡ false = not_before 0 (times k ks) (omega (arith, le, times_cons k k ks, ap one (key_itself k))) in
+    ap is_some (get-from_entries nat_list_cmp_total (pairs m ks) k ∙ (find_pairs m k ks ∙ ap (λ b. cond b (Some (value_at m k)) None) none))
+
+len_pairs : (m : Elements) (ks : List Bytes) → ((q : Bytes) → times q ks ≤ 1) → len (from_entries {R = slice_cmp nat_cmp} (pairs m ks)) ≡ length ks
+len_pairs m [] h = len-empty (slice_cmp nat_cmp) Value
+len_pairs m (k ∷ ks) h =
+    let rest : len (from_entries {R = slice_cmp nat_cmp} (pairs m ks)) ≡ length ks = len_pairs m ks (λ q. omega (arith, h q, times_cons q k ks)) in
+    len-insert nat_list_cmp_total (from_entries (pairs m ks)) k (value_at m k)
+    ∙ (ap (λ b. cond b (len (from_entries {R = slice_cmp nat_cmp} (pairs m ks))) (len (from_entries {R = slice_cmp nat_cmp} (pairs m ks)) + 1)) (len_go m k ks (h k)) ∙ (ap (λ n. n + 1) rest ∙ add-one (length ks)))
+
+once : (ks : List Bytes) (m : Elements) → IsEach ks m → (q : Bytes) → times q ks ≤ 1
+once ks m each q = go (contains_key m q) (each q)
+  where
+    go : (b : Bool) → times q ks ≡ one b → times q ks ≤ 1
+    go true e = omega (arith, e)
+    go false e = omega (arith, e)
+
+-- an array has as many elements as a list that has each of its keys once
+pub len_of_keys : (m : Elements) (ks : List Bytes) → IsEach ks m → len m ≡ length ks
+len_of_keys m ks each = ap len (sym (map_of_keys m ks each)) ∙ len_pairs m ks (once ks m each)
+
+-- ---- keys in byte order
+
+below_more : (m : Elements) (k x : Bytes) (ks : List Bytes) → slice_cmp nat_cmp k x ≡ Less → T (below_all (slice_cmp nat_cmp) x (pairs m ks)) → T (below_all (slice_cmp nat_cmp) k (pairs m ks))
+below_more m k x [] p h = tt
+below_more m k x (y ∷ ks) p h = pair_true (is_lt (slice_cmp nat_cmp k y)) (below_all (slice_cmp nat_cmp) k (pairs m ks))
+    (less_true (slice_cmp nat_cmp k y) (nat_list_cmp_total.trans k x y p (true_less (slice_cmp nat_cmp x y) (left_true (is_lt (slice_cmp nat_cmp x y)) (below_all (slice_cmp nat_cmp) x (pairs m ks)) h))))
+    (below_more m k x ks p (right_true (is_lt (slice_cmp nat_cmp x y)) (below_all (slice_cmp nat_cmp) x (pairs m ks)) h))
+
+rises : (k x : Bytes) (ks : List Bytes) → times k (k ∷ x ∷ ks) ≤ 1 → is_lt (slice_cmp nat_cmp x k) ≡ false → slice_cmp nat_cmp k x ≡ Less
+rises k x ks few up = go (slice_cmp nat_cmp k x) refl
+  where
+    go : (o : Ordering) → slice_cmp nat_cmp k x ≡ o → slice_cmp nat_cmp k x ≡ Less
+    go Less e = e
+    go Equal e =
+        let same : same_key k x ≡ true = ap is_eq e in
+        absurd (omega (arith, few, times_cons k k (x ∷ ks), times_cons k x ks, ap one (key_itself k), ap one same))
+    go Greater e = absurd (false≢true (sym up ∙ ap is_lt (nat_list_cmp_total.antisymm x k ∙ ap ordering_reverse e)))
+
+sorted_pairs : (m : Elements) (ks : List Bytes) → ((q : Bytes) → times q ks ≤ 1) → ((i : ℕ) → suc i < length ks → is_lt (slice_cmp nat_cmp (get_or ks (suc i) []) (get_or ks i [])) ≡ false) → T (is_sorted (slice_cmp nat_cmp) (pairs m ks))
+sorted_pairs m [] h up = tt
+sorted_pairs m (k ∷ []) h up = tt
+sorted_pairs m (k ∷ x ∷ ks) h up =
+    let rest : T (is_sorted (slice_cmp nat_cmp) (pairs m (x ∷ ks))) = sorted_pairs m (x ∷ ks) (λ q. omega (arith, h q, times_cons q k (x ∷ ks))) (λ i lt. up (suc i) (omega arith)) in
+    let less : slice_cmp nat_cmp k x ≡ Less = rises k x ks (h k) (up 0 (omega arith)) in
+    pair_true (below_all (slice_cmp nat_cmp) k (pairs m (x ∷ ks))) (is_sorted (slice_cmp nat_cmp) (pairs m (x ∷ ks)))
+    (pair_true (is_lt (slice_cmp nat_cmp k x)) (below_all (slice_cmp nat_cmp) k (pairs m ks)) (less_true (slice_cmp nat_cmp k x) less) (below_more m k x ks less (left_true (below_all (slice_cmp nat_cmp) x (pairs m ks)) (is_sorted (slice_cmp nat_cmp) (pairs m ks)) rest)))
+    rest
+
+-- a list of the keys, each once, in byte order
+pub keys_are : (m : Elements) (ks : List Bytes) → IsEach ks m → ((i : ℕ) → suc i < length ks → is_lt (slice_cmp nat_cmp (get_or ks (suc i) []) (get_or ks i [])) ≡ false) → ks ≡ map_keys m
+keys_are m ks each up =
+    let sorted : T (is_sorted (slice_cmp nat_cmp) (pairs m ks)) = sorted_pairs m ks (once ks m each) up in
+    let same : from_sorted (pairs m ks) ≡ m = same_map nat_list_cmp_total exact_bytes (from_sorted (pairs m ks)) m (λ q. get-from_sorted (slice_cmp nat_cmp) (pairs m ks) q sorted ∙ (find_pairs m q ks ∙ found_value m q (times q ks) (each q))) in
+    sym (keys_of_pairs m ks) ∙ (ap (λ (es : List (Bytes × Value)). map (λ e. e.0) es) (sym (entries-from_sorted (slice_cmp nat_cmp) (pairs m ks) sorted)) ∙ ap map_keys same)
+
+pub counted_all : (a : ℕ) (names : List Name) (slots : List (Option Value)) (at : Option ℕ) (count : ℕ) → at ≡ None → length slots ≤ length names → IsCounting a names slots at count → count ≡ len (elements_of a names slots)
+counted_all a names slots at count e le f = f.many ∙ sym (len_of_keys (elements_of a names slots) f.keys (found_all a names slots at f.keys e le f.finding))
+
+times_texts : (q : Bytes) (vs : List (Vec ℕ)) → times q (texts vs) ≡ sum_by (λ (v : Vec ℕ). one (same_key q v.items)) vs
+times_texts q [] = refl
+times_texts q (v ∷ vs) = times_cons q v.items (texts vs) ∙ (ap (λ n. one (same_key q v.items) + n) (times_texts q vs) ∙ sym (sum_by-cons (λ (v : Vec ℕ). one (same_key q v.items)) v vs))
+
+rising : (d : Vec ℕ) (ys : List (Vec ℕ)) (i : ℕ) → suc i < length ys → is_lt (slice_cmp nat_cmp (get_or ys (i + 1) d).items (get_or ys i d).items) ≡ false → is_lt (slice_cmp nat_cmp (get_or (texts ys) (suc i) []) (get_or (texts ys) i [])) ≡ false
+rising d ys i lt up =
+    let next : get_or (texts ys) (suc i) [] ≡ (get_or ys (i + 1) d).items = get_or-map (λ (v : Vec ℕ). v.items) ys (suc i) d [] lt ∙ ap (λ j. (get_or ys j d).items) (sym (add-one i)) in
+    let here : get_or (texts ys) i [] ≡ (get_or ys i d).items = get_or-map (λ (v : Vec ℕ). v.items) ys i d [] (omega (arith, lt)) in
+    ap (λ (x : Bytes). is_lt (slice_cmp nat_cmp x (get_or (texts ys) i []))) next ∙ (ap (λ (x : Bytes). is_lt (slice_cmp nat_cmp (get_or ys (i + 1) d).items x)) here ∙ up)
+
+rising_all : (ys : List (Vec ℕ)) → IsSorted (λ x y. slice_cmp nat_cmp x.items y.items) ys → (i : ℕ) → suc i < length (texts ys) → is_lt (slice_cmp nat_cmp (get_or (texts ys) (suc i) []) (get_or (texts ys) i [])) ≡ false
+rising_all [] up i lt = absurd (omega (arith, lt))
+rising_all (v ∷ vs) up i lt =
+    let size : length (texts (v ∷ vs)) ≡ length (v ∷ vs) = length-map (v ∷ vs) (λ (w : Vec ℕ). w.items) in
+    rising v (v ∷ vs) i (omega (arith, lt, size)) (up i v (omega arith) (omega (arith, lt, size)))
+
+-- a sorted permutation of the keys
+pub sorted_keys : (m : Elements) (xs ys : List (Vec ℕ)) → IsEach (texts xs) m → IsPermutation xs ys → IsSorted (λ x y. slice_cmp nat_cmp x.items y.items) ys → texts ys ≡ map_keys m
+sorted_keys m xs ys each moved up = keys_are m (texts ys) (λ q. times_texts q ys ∙ (sum_by-IsPermutation (λ (v : Vec ℕ). one (same_key q v.items)) xs ys moved ∙ (sym (times_texts q xs) ∙ each q))) (rising_all ys up)
+
+pub no_keys : map_keys no_elements ≡ []
+no_keys = sym (keys_are no_elements [] (λ q. sym (ap (λ (o : Option Value). one (is_some o)) (get-empty (slice_cmp nat_cmp) q))) (λ i lt. absurd (omega (arith, lt))))

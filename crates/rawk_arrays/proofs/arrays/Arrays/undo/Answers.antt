@@ -1,0 +1,5 @@
+use Rattle.rawk_arrays.specs.ListLaws.{laid_back}
+use Rattle.rawk_arrays.proofs.arrays.Arrays.undo.Goals as goal
+
+pub invariant_of-self : goal.invariant_of-self
+invariant_of-self c = laid_back c.self.inside.names c.self.inside.cells c.undo.new.self c.args.group.now.slots.entries.items c.self.invariant c.undo.ensures.now

@@ -1,0 +1,8 @@
+use Rattle.rawk_arrays.specs.PlaceLaws.{put_done}
+use Rattle.rawk_arrays.proofs.cells.put.Goals as goal
+
+pub returns-clause-did : goal.returns-clause-did
+returns-clause-did c =
+    let laid = c.slot_for.ensures.laid in
+    put_done c.args.array c.args.key.now c.args.value c.args.names.now c.slot_for.new.names c.args.cells.now.now c.slot_for.new.cells.now c.write.new.self.now c.in_ok-number.number
+    c.requires.named c.slot_for.ensures.more laid.distinct laid.named c.slot_for.ensures.now c.in_ok-number.ensures.there c.in_ok-number.ensures.within c.in_ok-write.ensures.did

@@ -1,0 +1,56 @@
+-- Names and empty slots that were added change no array, and putting back works over them.
+use Rattle.std.specs.Prelude.{◌≡◌, List, [], ◌∷◌, ◌++◌, length, slice_set, Option, None, refl}
+use Rattle.std.proofs.Common.{inl, inr, sym, ap, ◌∙◌, arith, append_assoc, get_or-set_other, get_or-set_same}
+use Rattle.std.proofs.lemmas.Bool.{cases_eq}
+use Rattle.std.proofs.lemmas.List.{append-nil, length-set}
+use Rattle.rawk_value.specs.declared.value.Value.{Value}
+use Rattle.rawk_names.specs.Name.{Name}
+use Rattle.rawk_slots.specs.declared.saved.Saved.{Saved}
+use Rattle.rawk_slots.specs.Back.{back, AreBelow}
+use Rattle.rawk_slots.specs.BackLaws.{AreBelow-more, length-back}
+use Rattle.rawk_arrays.specs.declared.arrays.ArraysGroup.{ArraysGroup}
+use Rattle.rawk_arrays.specs.Laid.{Laid, GrownArrays, IsLaid, IsSpread, arrays_of, slot}
+use Rattle.rawk_arrays.specs.ArraysBack.{FitsArrays, arrays_back}
+use Rattle.rawk_arrays.specs.ListLaws.{spread_arrays}
+
+pub arrays_of-grown : (l m : Laid) → GrownArrays l m → IsLaid l.names l.slots → IsLaid m.names m.slots → arrays_of m ≡ arrays_of l
+arrays_of-grown l m g h k = spread_arrays l m g.live h.named k.named g.names g.slots
+
+pub GrownArrays-refl : (l : Laid) → GrownArrays l l
+GrownArrays-refl l = record {
+  names = record { more = []; is = sym (append-nil l.names) };
+  slots = record { longer = omega arith; same = λ i. refl };
+  live = refl;
+}
+
+pub GrownArrays-trans : (l m n : Laid) → GrownArrays l m → GrownArrays m n → GrownArrays l n
+GrownArrays-trans l m n a b = record {
+  names = record { more = a.names.more ++ b.names.more; is = b.names.is ∙ (ap (λ (xs : List Name). xs ++ b.names.more) a.names.is ∙ append_assoc l.names a.names.more b.names.more) };
+  slots = record { longer = omega (arith, a.slots.longer, b.slots.longer); same = λ i. b.slots.same i ∙ a.slots.same i };
+  live = b.live ∙ a.live;
+}
+
+pub back_spread : (xs ys : List (Option Value)) (es : List (Saved (Option Value))) → IsSpread xs ys → AreBelow (length xs) es → IsSpread (back xs es) (back ys es)
+back_spread xs ys [] s h = s
+back_spread xs ys (e ∷ es) s h =
+    let rest : IsSpread (back xs es) (back ys es) = back_spread xs ys es s h.1 in
+    record {
+      longer = omega (arith, rest.longer, length-set (back xs es) e.place e.old, length-set (back ys es) e.place e.old);
+      same = λ i. elim (cases_eq i e.place) [
+        | inl q ↦
+            ap (slot (slice_set (back ys es) e.place e.old)) q
+            ∙ (get_or-set_same (back ys es) e.place e.old None (omega (arith, h.0, s.longer, length-back ys es))
+            ∙ sym (ap (slot (slice_set (back xs es) e.place e.old)) q ∙ get_or-set_same (back xs es) e.place e.old None (omega (arith, h.0, length-back xs es))))
+        | inr d ↦ get_or-set_other (back ys es) e.place i e.old None d ∙ (rest.same i ∙ sym (get_or-set_other (back xs es) e.place i e.old None d))
+      ];
+    }
+
+-- putting back, over more names and slots
+pub GrownArrays-back : (l m : Laid) (group : ArraysGroup) → GrownArrays l m → FitsArrays group l → GrownArrays (arrays_back l group) (arrays_back m group)
+GrownArrays-back l m group g h = record { names = g.names; slots = back_spread l.slots m.slots group.slots.entries.items g.slots h; live = refl }
+
+pub FitsArrays-grown : (l m : Laid) (group : ArraysGroup) → GrownArrays l m → FitsArrays group l → FitsArrays group m
+FitsArrays-grown l m group g h = AreBelow-more (length l.slots) (length m.slots) group.slots.entries.items g.slots.longer h
+
+pub IsLaid-back : (l : Laid) (group : ArraysGroup) → IsLaid l.names l.slots → IsLaid (arrays_back l group).names (arrays_back l group).slots
+IsLaid-back l group h = record { distinct = h.distinct; named = omega (arith, h.named, length-back l.slots group.slots.entries.items) }

@@ -1,0 +1,217 @@
+-- Where an element's slot stands, and what changes of slots make of the arrays.
+use Rattle.std.proofs.Common.{◌≡◌, ◌≢◌, ℕ, suc, zero, ◌+◌, ◌<◌, ◌≤◌, ◌==◌, Bool, true, false, ◌&&◌, cond, append_assoc, ◌-◌, List, [], ◌∷◌, ◌++◌, inl, inr, length, set, replicate, refl, sym, ap, ◌∙◌, arith, slice_get, Option, None, Some, get_or-set_other, get_or-set_same}
+use Rattle.std.proofs.lemmas.Bool.{cases_lt, false≢true}
+use Rattle.std.proofs.lemmas.Bool.Decides.{Decides-eqb}
+use Rattle.std.proofs.lemmas.List.{get_or_past, length-set, length-append, get_or_append_left, append-nil, get_or-replicate, length-replicate, replicate-append-replicate}
+use Rattle.std.proofs.Math.Seq.{get_or-append_right}
+use Rattle.std.proofs.lemmas.Option.{same_Some, none-some}
+use Rattle.std.proofs.lemmas.Map.Views.{tells_apart}
+use Rattle.std.proofs.lemmas.Map.Lookups.{exact_bytes}
+use Rattle.std.specs.FinMap.{get, get-empty, get-insert, get-remove, same_map}
+use Rattle.std.specs.Ordering.{nat_cmp}
+use Rattle.std.specs.Cmp.{eq_by_cmp_equiv}
+use Rattle.std.specs.Cmp.Lexicographic.{slice_cmp, nat_list_cmp_total}
+use Rattle.rawk_value.specs.Values.{Bytes}
+use Rattle.rawk_value.specs.declared.value.Value.{Value}
+use Rattle.rawk_slots.specs.Journaled.{Journaled, Longer}
+use Rattle.rawk_names.specs.Name.{Name, named, IsAbsent}
+use Rattle.rawk_arrays.specs.Elements.{Elements, put}
+use Rattle.rawk_arrays.specs.Place.{same_key, is_here, place}
+use Rattle.rawk_arrays.specs.Laid.{AreDistinct, AreLaid, IsLaid, IsCovered, IsSpread, IsPut, elements_of, slot}
+
+pub get-put : (m : Elements) (k : Bytes) (s : Option Value) (q : Bytes) → get (put m k s) q ≡ cond (same_key q k) s (get m q)
+get-put m k (Some v) q = get-insert nat_list_cmp_total m k v q
+get-put m k None q = get-remove nat_list_cmp_total m k q
+
+slot_here : (b : Bool) (s : Option Value) (slots : List (Option Value)) (p : ℕ) (r : Option Value) → r ≡ slot slots p → cond b s r ≡ slot (s ∷ slots) (cond b 0 (suc p))
+slot_here true s slots p r e = refl
+slot_here false s slots p r e = e
+
+get_of : (b : Bool) (m : Elements) (k : Bytes) (s : Option Value) (slots : List (Option Value)) (q : Bytes) (p : ℕ) → get m q ≡ slot slots p → get (cond b (put m k s) m) q ≡ slot (s ∷ slots) (cond (b && same_key q k) 0 (suc p))
+get_of true m k s slots q p e = get-put m k s q ∙ slot_here (same_key q k) s slots p (get m q) e
+get_of false m k s slots q p e = e
+
+-- an element is what stands in the slot of its name
+pub get_at : (a : ℕ) (q : Bytes) (names : List Name) (slots : List (Option Value)) → length slots ≤ length names → get (elements_of a names slots) q ≡ slot slots (place a q names)
+get_at a q [] [] le = get-empty (slice_cmp nat_cmp) q
+get_at a q [] (s ∷ slots) le = absurd (omega (arith, le))
+get_at a q (name ∷ names) [] le = get-empty (slice_cmp nat_cmp) q
+get_at a q (name ∷ names) (s ∷ slots) le = get_of (name.array == a) (elements_of a names slots) name.key s slots q (place a q names) (get_at a q names slots (omega (arith, le)))
+
+pub key_is : (q k : Bytes) → same_key q k ≡ true → q ≡ k
+key_is q k e = tells_apart exact_bytes q k e
+
+pub key_itself : (k : Bytes) → same_key k k ≡ true
+key_itself k = (eq_by_cmp_equiv nat_list_cmp_total).refl k
+
+first_true : (b c : Bool) → b && c ≡ true → b ≡ true
+first_true true c e = refl
+first_true false c e = e
+
+second_true : (b c : Bool) → b && c ≡ true → c ≡ true
+second_true true c e = e
+second_true false c e = absurd (false≢true e)
+
+both_true : (b c : Bool) → b ≡ true → c ≡ true → b && c ≡ true
+both_true true c p q = q
+both_true false c p q = p
+
+here_is : (a : ℕ) (q : Bytes) (name : Name) → is_here a q name ≡ true → name ≡ named a q
+here_is a q name e =
+    let array : name.array ≡ a = (Decides-eqb name.array a).0 (first_true (name.array == a) (same_key q name.key) e) in
+    let key : q ≡ name.key = key_is q name.key (second_true (name.array == a) (same_key q name.key) e) in
+    ap (λ n. named n name.key) array ∙ ap (λ (k : Bytes). named a k) (sym key)
+
+here_itself : (a : ℕ) (q : Bytes) → is_here a q (named a q) ≡ true
+here_itself a q = both_true (a == a) (same_key q q) ((Decides-eqb a a).1 refl) (key_itself q)
+
+finds_go : (a : ℕ) (q : Bytes) (name : Name) (names : List Name) (i : ℕ) (b : Bool) → is_here a q name ≡ b → slice_get (name ∷ names) i ≡ Some (named a q) → ((j : ℕ) → slice_get names j ≡ Some (named a q) → slice_get names (place a q names) ≡ Some (named a q)) →
+    slice_get (name ∷ names) (cond b 0 (suc (place a q names))) ≡ Some (named a q)
+finds_go a q name names i true e h rest = ap (λ (n : Name). Some n) (here_is a q name e)
+finds_go a q name names zero false e h rest = absurd (false≢true (sym e ∙ (ap (is_here a q) (same_Some name (named a q) h) ∙ here_itself a q)))
+finds_go a q name names (suc j) false e h rest = rest j h
+
+place_finds : (a : ℕ) (q : Bytes) (names : List Name) (i : ℕ) → slice_get names i ≡ Some (named a q) → slice_get names (place a q names) ≡ Some (named a q)
+place_finds a q [] i h = absurd (none-some (named a q) h)
+place_finds a q (name ∷ names) i h = finds_go a q name names i (is_here a q name) refl h (λ j k. place_finds a q names j k)
+
+pub place_is : (a : ℕ) (q : Bytes) (names : List Name) (i : ℕ) → AreDistinct names → slice_get names i ≡ Some (named a q) → place a q names ≡ i
+place_is a q names i d h = d (place a q names) i (named a q) (place_finds a q names i h) h
+
+there_go : (a : ℕ) (q : Bytes) (name : Name) (names : List Name) (b : Bool) → is_here a q name ≡ b → cond b 0 (suc (place a q names)) < suc (length names) → (place a q names < length names → slice_get names (place a q names) ≡ Some (named a q)) →
+    slice_get (name ∷ names) (cond b 0 (suc (place a q names))) ≡ Some (named a q)
+there_go a q name names true e lt rest = ap (λ (n : Name). Some n) (here_is a q name e)
+there_go a q name names false e lt rest = rest (omega (arith, lt))
+
+pub place_there : (a : ℕ) (q : Bytes) (names : List Name) → place a q names < length names → slice_get names (place a q names) ≡ Some (named a q)
+place_there a q [] lt = absurd (omega (arith, lt))
+place_there a q (name ∷ names) lt = there_go a q name names (is_here a q name) refl lt (λ l. place_there a q names l)
+
+more_go : (b : Bool) (p p2 n : ℕ) → (p < n → p2 ≡ p) → (n ≤ p → n ≤ p2) → (cond b 0 (suc p) < suc n → cond b 0 (suc p2) ≡ cond b 0 (suc p)) × (suc n ≤ cond b 0 (suc p) → suc n ≤ cond b 0 (suc p2))
+more_go true p p2 n h k = (λ l. refl, λ l. absurd (omega (arith, l)))
+more_go false p p2 n h k = (λ l. ap suc (h (omega (arith, l))), λ l. (let m : n ≤ p2 = k (omega (arith, l)) in omega arith))
+
+place_more : (a : ℕ) (q : Bytes) (names more : List Name) → (place a q names < length names → place a q (names ++ more) ≡ place a q names) × (length names ≤ place a q names → length names ≤ place a q (names ++ more))
+place_more a q [] more = (λ l. absurd (omega (arith, l)), λ l. omega arith)
+place_more a q (name ∷ names) more = let r = place_more a q names more in more_go (is_here a q name) (place a q names) (place a q (names ++ more)) (length names) r.0 r.1
+
+-- arrays that answer alike at each key are the same
+pub elements_same : (b : ℕ) (names more : List Name) (slots slots2 : List (Option Value)) → length slots ≤ length names → length slots2 ≤ length more → ((q : Bytes) → slot slots2 (place b q more) ≡ slot slots (place b q names)) → elements_of b more slots2 ≡ elements_of b names slots
+elements_same b names more slots slots2 le le2 h =
+    same_map nat_list_cmp_total exact_bytes (elements_of b more slots2) (elements_of b names slots) (λ q. get_at b q more slots2 le2 ∙ (h q ∙ sym (get_at b q names slots le)))
+
+put_go : (a : ℕ) (q k : Bytes) (v : Option Value) (names : List Name) (slots : List (Option Value)) (i : ℕ) (b : Bool) → same_key q k ≡ b → AreDistinct names → length slots ≤ length names → slice_get names i ≡ Some (named a k) → i < length slots →
+    slot (set slots i v) (place a q names) ≡ cond b v (slot slots (place a q names))
+put_go a q k v names slots i true e d le h lt =
+    let at : place a q names ≡ i = ap (λ (x : Bytes). place a x names) (key_is q k e) ∙ place_is a k names i d h in
+    ap (slot (set slots i v)) at ∙ get_or-set_same slots i v None lt
+put_go a q k v names slots i false e d le h lt =
+    let apart : place a q names ≢ i = λ at.
+    let there : slice_get names i ≡ Some (named a q) = ap (slice_get names) (sym at) ∙ place_there a q names (omega (arith, at, le, lt)) in
+    let same : q ≡ k = ap (λ (n : Name). n.key) (same_Some (named a q) (named a k) (sym there ∙ h)) in
+    false≢true (sym e ∙ (ap (same_key q) (sym same) ∙ key_itself q)) in
+    get_or-set_other slots i (place a q names) v None apart
+
+-- a slot that is written is the element of its name
+pub put_at : (a : ℕ) (k : Bytes) (v : Option Value) (names : List Name) (slots : List (Option Value)) (i : ℕ) → AreDistinct names → length slots ≤ length names → slice_get names i ≡ Some (named a k) → i < length slots → IsPut a k v names slots names (set slots i v)
+put_at a k v names slots i d le h lt =
+    let size : length (set slots i v) ≡ length slots = length-set slots i v in
+    let le2 : length (set slots i v) ≤ length names = omega arith in
+    record {
+      here = same_map nat_list_cmp_total exact_bytes (elements_of a names (set slots i v)) (put (elements_of a names slots) k v) (λ q.
+          get_at a q names (set slots i v) le2
+          ∙ (put_go a q k v names slots i (same_key q k) refl d le h lt
+          ∙ sym (get-put (elements_of a names slots) k v q ∙ ap (cond (same_key q k) v) (get_at a q names slots le))));
+      other = λ b ne. elements_same b names names slots (set slots i v) le le2 (λ q.
+          get_or-set_other slots i (place b q names) v None (λ at.
+          let there : slice_get names i ≡ Some (named b q) = ap (slice_get names) (sym at) ∙ place_there b q names (omega (arith, at, le, lt)) in
+          ne (ap (λ (n : Name). n.array) (same_Some (named b q) (named a k) (sym there ∙ h)))));
+    }
+
+-- added names and empty slots change no array
+pub spread_same : (b : ℕ) (names more : List Name) (slots slots2 : List (Option Value)) → length slots ≤ length names → length slots2 ≤ length (names ++ more) → IsSpread slots slots2 → elements_of b (names ++ more) slots2 ≡ elements_of b names slots
+spread_same b names more slots slots2 le le2 s = elements_same b names (names ++ more) slots slots2 le le2 (λ q.
+    s.same (place b q (names ++ more))
+    ∙ elim (cases_lt (place b q names) (length names)) [
+      | inl lt ↦ ap (slot slots) ((place_more b q names more).0 lt)
+      | inr ge ↦
+          get_or_past slots (place b q (names ++ more)) None (let past : length names ≤ place b q (names ++ more) = (place_more b q names more).1 ge in omega (arith, le))
+          ∙ sym (get_or_past slots (place b q names) None (omega (arith, le, ge)))
+    ])
+
+pub found_slot : (a : ℕ) (q : Bytes) (names : List Name) (slots : List (Option Value)) (i : ℕ) → IsLaid names slots → slice_get names i ≡ Some (named a q) → get (elements_of a names slots) q ≡ slot slots i
+found_slot a q names slots i h e = get_at a q names slots h.named ∙ ap (slot slots) (place_is a q names i h.distinct e)
+
+pub absent_none : (a : ℕ) (q : Bytes) (names : List Name) (slots : List (Option Value)) → length slots ≤ length names → IsAbsent (named a q) names → get (elements_of a names slots) q ≡ None
+absent_none a q names slots le h =
+    get_at a q names slots le
+    ∙ elim (cases_lt (place a q names) (length names)) [
+      | inl lt ↦ absurd (h (place a q names) (place_there a q names lt))
+      | inr ge ↦ get_or_past slots (place a q names) None (omega (arith, le, ge))
+    ]
+
+-- ---- slots that are added
+
+pub covered_none : (count : ℕ) (slots : Journaled (List (Option Value))) → IsCovered count slots slots
+covered_none count slots = record { added = 0; now = sym (append-nil slots.now); start = sym (append-nil slots.start); most = omega arith }
+
+one_more : (xs ys zs : List (Option Value)) (n : ℕ) → ys ≡ xs ++ replicate n None → zs ≡ ys ++ None ∷ [] → zs ≡ xs ++ replicate (n + 1) None
+one_more xs ys zs n e f = f ∙ (ap (λ (ws : List (Option Value)). ws ++ None ∷ []) e ∙ (append_assoc xs (replicate n None) (None ∷ []) ∙ ap (λ (ws : List (Option Value)). xs ++ ws) (replicate-append-replicate n 1 None)))
+
+pub covered_more : (count : ℕ) (old mid new : Journaled (List (Option Value))) → IsCovered count old mid → length mid.now < count → new.now ≡ mid.now ++ None ∷ [] → new.start ≡ mid.start ++ None ∷ [] → IsCovered count old new
+covered_more count old mid new h lt now start = record {
+  added = h.added + 1;
+  now = one_more old.now mid.now new.now h.added h.now now;
+  start = one_more old.start mid.start new.start h.added h.start start;
+  most = omega (arith, lt, ap length now, length-append mid.now (None ∷ []));
+}
+
+pub spread_nones : (xs ys : List (Option Value)) (n : ℕ) → ys ≡ xs ++ replicate n None → IsSpread xs ys
+spread_nones xs ys n e = record {
+  longer = omega (arith, ap length e, length-append xs (replicate n None));
+  same = λ i. ap (λ (zs : List (Option Value)). slot zs i) e ∙ elim (cases_lt i (length xs)) [
+    | inl lt ↦ get_or_append_left xs (replicate n None) None i lt
+    | inr ge ↦ get_or-append_right xs (replicate n None) i None ge ∙ (nones n (i - length xs) ∙ sym (get_or_past xs i None ge))
+  ];
+}
+  where
+    nones : (n i : ℕ) → slot (replicate n None) i ≡ None
+    nones n i = elim (cases_lt i n) [
+      | inl lt ↦ get_or-replicate n i None None lt
+      | inr ge ↦ get_or_past (replicate n None) i None (let k : length (replicate {A = Option Value} n None) ≡ n = length-replicate n None in omega (arith, k))
+    ]
+
+pub covered_now : (count : ℕ) (old new : Journaled (List (Option Value))) → IsCovered count old new → IsSpread old.now new.now
+covered_now count old new h = spread_nones old.now new.now h.added h.now
+
+pub covered_start : (count : ℕ) (old new : Journaled (List (Option Value))) → IsCovered count old new → IsSpread old.start new.start
+covered_start count old new h = spread_nones old.start new.start h.added h.start
+
+pub laid_covered : (count : ℕ) (names names2 : List Name) (old new : Journaled (List (Option Value))) → AreLaid names old → Longer names names2 → AreDistinct names2 → IsCovered count old new → count ≤ length names2 → AreLaid names2 new
+laid_covered count names names2 old new h more d c le = record {
+  distinct = d;
+  named = omega (arith, h.named, c.most, le, ap length more.is, length-append names more.more);
+  sizes = omega (arith, h.sizes, ap length c.now, ap length c.start, length-append old.now (replicate c.added None), length-append old.start (replicate c.added None));
+}
+
+pub laid_more : (names names2 : List Name) (slots : Journaled (List (Option Value))) → AreLaid names slots → Longer names names2 → AreDistinct names2 → AreLaid names2 slots
+laid_more names names2 slots h more d = record { distinct = d; named = omega (arith, h.named, ap length more.is, length-append names more.more); sizes = h.sizes }
+
+pub laid_set : (names : List Name) (old new : Journaled (List (Option Value))) (i : ℕ) (v : Option Value) → AreLaid names old → new.now ≡ set old.now i v → new.start ≡ old.start → AreLaid names new
+laid_set names old new i v h now start = record {
+  distinct = h.distinct;
+  named = omega (arith, h.named, ap length now, length-set old.now i v);
+  sizes = ap length start ∙ (h.sizes ∙ sym (ap length now ∙ length-set old.now i v));
+}
+
+-- a write over added names and slots
+pub put_done : (a : ℕ) (k : Bytes) (v : Option Value) (names names2 : List Name) (slots mid new : List (Option Value)) (i : ℕ) → length slots ≤ length names → Longer names names2 → AreDistinct names2 → length mid ≤ length names2 → IsSpread slots mid →
+    slice_get names2 i ≡ Some (named a k) → i < length mid → new ≡ set mid i v → IsPut a k v names slots names2 new
+put_done a k v names names2 slots mid new i le more d le2 s h lt e =
+    let p : IsPut a k v names2 mid names2 (set mid i v) = put_at a k v names2 mid i d le2 h lt in
+    let same : (b : ℕ) → elements_of b names2 mid ≡ elements_of b names slots = λ b.
+    ap (λ (ns : List Name). elements_of b ns mid) more.is ∙ spread_same b names more.more slots mid le (omega (arith, le2, ap length more.is)) s in
+    record {
+      here = ap (elements_of a names2) e ∙ (p.here ∙ ap (λ (m : Elements). put m k v) (same a));
+      other = λ b ne. ap (elements_of b names2) e ∙ (p.other b ne ∙ same b);
+    }

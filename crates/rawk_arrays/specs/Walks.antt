@@ -1,0 +1,60 @@
+-- How a walk over the names of an array stands, from the last one to the first.
+use Rattle.std.specs.Prelude.{◌≡◌, ◌≢◌, ℕ, ◌+◌, ◌≤◌, nat_lt, is_some, Bool, false, if◌then◌else◌, List, length, map, slice_get, Option, None, Some}
+use Rattle.std.specs.List.{sum_by}
+use Rattle.std.specs.Ordering.{nat_cmp, eq_by_cmp}
+use Rattle.std.specs.Cmp.Lexicographic.{slice_cmp}
+use Rattle.std.specs.FinMap.{contains_key}
+use Rattle.std.specs.Global.{Vec}
+use Rattle.rawk_value.specs.Values.{Bytes}
+use Rattle.rawk_arrays.specs.Elements.{Elements}
+use Rattle.rawk_value.specs.declared.value.Value.{Value}
+use Rattle.rawk_names.specs.Name.{Name}
+use Rattle.rawk_names.specs.Found.{IsAfter, left}
+use Rattle.rawk_arrays.specs.Place.{place}
+use Rattle.rawk_arrays.specs.Laid.{slot}
+
+-- one slot is empty now
+pub record IsSlotEmptied (number : ℕ) (slots new : List (Option Value)) : Type 0 where
+  pub here : slot new number ≡ None
+  pub other : (j : ℕ) → j ≢ number → slot new j ≡ slot slots j
+  pub size : length new ≡ length slots
+
+-- the walk stands at a name of the array, or is over
+pub record IsWalking (a : ℕ) (names : List Name) (at : Option ℕ) : Type 0 where
+  pub within : left at ≤ length names
+  pub here : (i : ℕ) (name : Name) → at ≡ Some i → slice_get names i ≡ Some name → name.array ≡ a
+
+-- the slots of the array's names that come after are empty, and those of other arrays are as they were
+pub record IsEmptying (a : ℕ) (names : List Name) (slots new : List (Option Value)) (at : Option ℕ) : Type 0 where
+  pub gone : (j : ℕ) (name : Name) → IsAfter at j → slice_get names j ≡ Some name → name.array ≡ a → slot new j ≡ None
+  pub rest : (j : ℕ) → ((name : Name) → slice_get names j ≡ Some name → name.array ≢ a) → slot new j ≡ slot slots j
+  pub size : length new ≡ length slots
+
+abbrev pub one : Bool → ℕ
+one b = if b then 1 else 0
+
+-- how often a key stands in a list
+abbrev pub times : Bytes → List Bytes → ℕ
+times q keys = sum_by (λ k. one (eq_by_cmp (slice_cmp nat_cmp) q k)) keys
+
+-- the list has each key of the array once, and no other
+abbrev pub IsEach : List Bytes → Elements → Type 0
+IsEach keys m = (q : Bytes) → times q keys ≡ one (contains_key m q)
+
+abbrev pub texts : List (Vec ℕ) → List Bytes
+texts vs = map (λ v. v.items) vs
+
+-- a slot that is filled, and not before a place
+abbrev pub is_seen : ℕ → ℕ → Option Value → Bool
+is_seen from p s = if nat_lt p from then false else is_some s
+
+-- the keys found so far: each key of the array whose name comes after, once
+pub record IsFinding (a : ℕ) (names : List Name) (slots : List (Option Value)) (at : Option ℕ) (keys : List Bytes) : Type 0 where
+  pub each : (q : Bytes) → times q keys ≡ one (is_seen (left at) (place a q names) (slot slots (place a q names)))
+  pub room : length keys + left at ≤ length names
+
+-- so many keys were found so far
+pub record IsCounting (a : ℕ) (names : List Name) (slots : List (Option Value)) (at : Option ℕ) (count : ℕ) : Type 0 where
+  pub keys : List Bytes
+  pub many : count ≡ length keys
+  pub finding : IsFinding a names slots at keys

@@ -1,0 +1,306 @@
+//! Arrays by number, and what stood in them when the step began.
+
+ghost use Rattle.std.specs.Prelude.{◌≡◌, ◌≤◌, ℕ, ◌++◌, ◌∷◌, [], IfOk, MatchOption, OnErr, OnOk, Some, length, replicate, take};
+ghost use Rattle.std.specs.FinMap.{len};
+ghost use Rattle.rawk_arrays.specs.Walks.{texts};
+ghost use Rattle.std.specs.Option.{option_copied};
+ghost use Rattle.rawk_value.specs.Values.{Bytes};
+ghost use Rattle.rawk_slots.specs.Journaled.{at_rest};
+ghost use Rattle.rawk_slots.specs.Back.{back};
+ghost use Rattle.rawk_arrays.specs.Elements.{array_at, cleared, element_at, is_element, keys_at, no_elements, touched, with_element, with_put, without_element};
+ghost use Rattle.rawk_arrays.specs.Laid.{GrownArrays, IsLaid, IsPlaceOf, arrays_of, no_arrays};
+ghost use Rattle.rawk_arrays.specs.ArraysBack.{FitsArrays, arrays_back};
+
+use crate::cells::{Cells, count, element, empty, filled, keys, pack, put, slot_for};
+use rawk_names::Names;
+use rawk_slots::{SlotGroup, Slots};
+use rawk_value::Value;
+use std::alloc::{AllocError, Global};
+use std::marker::Model;
+
+/// So many empty slots are never worth removing.
+const FEW: usize = 512;
+
+/// The arrays, of which a number names one, beside what they were when the step began.
+///
+/// Each key has a slot, which is filled where the element is there. A contract sees the names, the slots and how many arrays there are;
+/// the arrays of an array number that is not in use keep their slots until the number is used again.
+#[derive(Drop)]
+pub struct Arrays {
+    names: Names,
+    cells: Cells,
+    live: usize,
+    began: usize,
+    // How many slots were emptied since the empty ones were last removed, at least.
+    emptied: usize,
+}
+
+impl Model for Arrays {
+    ghost use Rattle.rawk_slots.specs.Journaled.{Journaled};
+    ghost use Rattle.rawk_arrays.specs.Laid.{Laid, AreLaid};
+
+    ghost Value = { Journaled Laid };
+
+    ghost view = { λ a. record {
+      now = record { names = a.names; slots = a.cells.now; live = a.live };
+      start = record { names = a.names; slots = a.cells.start; live = a.began };
+    } };
+
+    ghost invariant = { λ a. AreLaid a.names a.cells };
+}
+
+/// What a step changed in arrays: the slots, and how many arrays there were.
+#[derive(Drop)]
+pub struct ArraysGroup {
+    pub slots: SlotGroup<Option<Value>>,
+    pub live: usize,
+}
+
+impl Arrays {
+    /// No arrays. It takes no memory.
+    pub fn new(alloc: Global) -> Self
+        ensures { result ≡ at_rest no_arrays }
+    {
+        Arrays {
+            names: Names::new(alloc),
+            cells: Slots::new(alloc),
+            live: 0,
+            began: 0,
+            emptied: 0,
+        }
+    }
+
+    /// How many arrays there are.
+    pub fn len(&self) -> usize
+        ensures { result ≡ length (arrays_of self.now.now) }
+    {
+        self.live
+    }
+
+    /// An element, if it is there. A number that has no array has no elements.
+    pub fn element(&self, array: usize, key: &[u8]) -> Option<&Value>
+        ensures { option_copied result ≡ element_at array key.now (arrays_of self.now.now) }
+    {
+        if array < self.live {
+            return element(&self.names, &self.cells, array, key);
+        }
+        None
+    }
+
+    /// Whether an element is there.
+    pub fn has(&self, array: usize, key: &[u8]) -> bool
+        ensures { result ≡ is_element array key.now (arrays_of self.now.now) }
+    {
+        self.element(array, key).is_some()
+    }
+
+    /// How many elements an array has. It is linear in the slots that the array has.
+    pub fn count(&self, array: usize) -> usize
+        ensures { result ≡ len (array_at array (arrays_of self.now.now)) }
+    {
+        if array < self.live {
+            return count(&self.names, &self.cells, array);
+        }
+        0
+    }
+
+    /// The keys of an array's elements, in byte order: a copy of each, and one sort. It fails where memory is refused.
+    pub fn keys(&self, alloc: Global, array: usize) -> Result<Vec<Vec<u8>>, AllocError>
+        ensures { IfOk result (λ found. texts found.items ≡ keys_at array (arrays_of self.now.now)) }
+    {
+        if array >= self.live {
+            return Ok(Vec::new(alloc));
+        }
+        let found = keys(alloc, &self.names, &self.cells, array)?;
+        Ok(found)
+    }
+
+    // Fills or empties a slot of an array; a number that has no array changes nothing.
+    fn put(
+        &mut self,
+        alloc: Global,
+        array: usize,
+        key: &[u8],
+        value: Option<Value>,
+    ) -> Result<(), AllocError>
+        ensures did { OnOk result (arrays_of self.new.now ≡ with_put array key.now value (arrays_of self.old.now)) }
+        ensures err { OnErr result (arrays_of self.new.now ≡ arrays_of self.old.now) }
+        ensures start { GrownArrays self.old.start self.new.start }
+    {
+        if array < self.live {
+            put(alloc, &mut self.names, &mut self.cells, array, key, value)?;
+        }
+        Ok(())
+    }
+
+    /// Assigns to an element; a number that has no array changes nothing. It fails where memory is refused, and then no element has changed.
+    pub fn set(
+        &mut self,
+        alloc: Global,
+        array: usize,
+        key: &[u8],
+        value: Value,
+    ) -> Result<(), AllocError>
+        ensures did { OnOk result (arrays_of self.new.now ≡ with_element array key.now value (arrays_of self.old.now)) }
+        ensures err { OnErr result (arrays_of self.new.now ≡ arrays_of self.old.now) }
+        ensures start { GrownArrays self.old.start self.new.start }
+    {
+        self.put(alloc, array, key, Some(value))
+    }
+
+    /// The place of an element, to read it and to write it with one search, until the step ends; `None` for a number that has no array.
+    /// The element itself is not made. It fails where memory is refused, and then no element has changed.
+    pub fn place(
+        &mut self,
+        alloc: Global,
+        array: usize,
+        key: &[u8],
+    ) -> Result<Option<usize>, AllocError>
+        ensures place { IfOk result (λ found. MatchOption found (length (arrays_of self.old.now) ≤ array) (λ p. IsPlaceOf array key.now p self.new.now)) }
+        ensures same { arrays_of self.new.now ≡ arrays_of self.old.now }
+        ensures start { GrownArrays self.old.start self.new.start }
+    {
+        if array >= self.live {
+            return Ok(None);
+        }
+        let place = slot_for(alloc, &mut self.names, &mut self.cells, array, key)?;
+        Ok(Some(place))
+    }
+
+    /// The element at a place, if it is there.
+    pub fn value_at(&self, place: usize) -> Option<&Value>
+        ensures { (a : ℕ) (k : Bytes) → IsPlaceOf a k place self.now.now → option_copied result ≡ element_at a k (arrays_of self.now.now) }
+    {
+        filled(&self.cells, place)
+    }
+
+    /// Assigns to the element at a place. It fails where memory is refused, and then no element has changed.
+    pub fn set_at(&mut self, place: usize, value: Value) -> Result<(), AllocError>
+        ensures did { OnOk result ((a : ℕ) (k : Bytes) → IsPlaceOf a k place self.old.now → arrays_of self.new.now ≡ with_element a k value (arrays_of self.old.now)) }
+        ensures err { OnErr result (self.new.now ≡ self.old.now) }
+        ensures start { self.new.start ≡ self.old.start }
+    {
+        self.cells.set(place, Some(value))?;
+        Ok(())
+    }
+
+    /// Makes an element that is not there, uninitialised, as reading it does. It fails where memory is refused, and then no element has changed.
+    pub fn touch(&mut self, alloc: Global, array: usize, key: &[u8]) -> Result<(), AllocError>
+        ensures did { OnOk result (arrays_of self.new.now ≡ touched array key.now (arrays_of self.old.now)) }
+        ensures err { OnErr result (arrays_of self.new.now ≡ arrays_of self.old.now) }
+        ensures start { GrownArrays self.old.start self.new.start }
+    {
+        if self.has(array, key) {
+            return Ok(());
+        }
+        self.put(alloc, array, key, Some(Value::Uninitialized))
+    }
+
+    /// Deletes an element, if it is there. It fails where memory is refused, and then no element has changed.
+    pub fn delete(&mut self, alloc: Global, array: usize, key: &[u8]) -> Result<(), AllocError>
+        ensures did { OnOk result (arrays_of self.new.now ≡ without_element array key.now (arrays_of self.old.now)) }
+        ensures err { OnErr result (arrays_of self.new.now ≡ arrays_of self.old.now) }
+        ensures start { GrownArrays self.old.start self.new.start }
+    {
+        if self.has(array, key) {
+            self.emptied = self.emptied.saturating_add(1);
+            return self.put(alloc, array, key, None);
+        }
+        Ok(())
+    }
+
+    /// Deletes all elements of an array, in a time linear in the slots that it has. It fails where memory is refused; some are deleted then.
+    pub fn clear(&mut self, array: usize) -> Result<(), AllocError>
+        ensures did { OnOk result (arrays_of self.new.now ≡ cleared array (arrays_of self.old.now)) }
+        ensures start { self.new.start ≡ self.old.start }
+    {
+        if array < self.live {
+            let walked = empty(&self.names, &mut self.cells, array)?;
+            self.emptied = self.emptied.saturating_add(walked);
+        }
+        Ok(())
+    }
+
+    /// Adds an empty array, whose number is how many there were. It fails where memory is refused.
+    pub fn add(&mut self) -> Result<(), AllocError>
+        ensures did { OnOk result (arrays_of self.new.now ≡ arrays_of self.old.now ++ no_elements ∷ []) }
+        ensures start { self.new.start ≡ self.old.start }
+    {
+        let Some(live) = self.live.checked_add(1) else {
+            return Err(AllocError);
+        };
+        let walked = empty(&self.names, &mut self.cells, self.live)?;
+        self.emptied = self.emptied.saturating_add(walked);
+        self.live = live;
+        Ok(())
+    }
+
+    /// Adds so many empty arrays. It fails where memory is refused.
+    pub fn add_empty(&mut self, count: usize) -> Result<(), AllocError>
+        ensures did { OnOk result (arrays_of self.new.now ≡ arrays_of self.old.now ++ replicate count no_elements) }
+        ensures start { self.new.start ≡ self.old.start }
+    {
+        for _i in 0..count {
+            self.add()?;
+        }
+        Ok(())
+    }
+
+    /// Keeps the first arrays, so many at most. The others' slots stay as they are until their numbers are used again: it takes no memory.
+    pub fn truncate(&mut self, count: usize)
+        ensures did { arrays_of self.new.now ≡ take count (arrays_of self.old.now) }
+        ensures start { self.new.start ≡ self.old.start }
+    {
+        self.live = self.live.min(count);
+    }
+
+    /// Ends the step, and gives what it changed. It takes no memory.
+    pub fn finish(&mut self, alloc: Global) -> ArraysGroup
+        ensures now { self.new ≡ at_rest self.old.now }
+        ensures back { arrays_back self.old.now result ≡ self.old.start }
+        ensures fits { FitsArrays result self.old.now }
+        ensures laid { IsLaid self.old.now.names self.old.now.slots }
+    {
+        let group = ArraysGroup {
+            slots: self.cells.finish(alloc),
+            live: self.began,
+        };
+        self.began = self.live;
+        group
+    }
+
+    /// Ends the step, and forgets what it changed. Where most slots were emptied, those that are empty are removed, and so are those of
+    /// array numbers that are not in use; where memory for that is refused, they stay.
+    pub fn forget(&mut self, alloc: Global)
+        ensures now { arrays_of self.new.now ≡ arrays_of self.old.now }
+        ensures rest { self.new.start ≡ self.new.now }
+        ensures laid { IsLaid self.old.now.names self.old.now.slots }
+    {
+        self.cells.forget();
+        self.began = self.live;
+        if self.emptied / 2 > self.cells.len() / 4 + FEW {
+            self.emptied = 0;
+            pack(alloc, &mut self.names, &mut self.cells, self.live);
+        }
+    }
+
+    /// Puts back what the step in progress changed. It takes no memory and always succeeds.
+    pub fn undo_step(&mut self)
+        ensures now { self.new ≡ at_rest self.old.start }
+        ensures laid { IsLaid self.old.start.names self.old.start.slots }
+    {
+        self.cells.undo_step();
+        self.live = self.began;
+    }
+
+    /// Puts back what a step that ended changed, and leaves the newer elements in the group. It takes no memory and always succeeds.
+    pub fn undo(&mut self, group: &mut ArraysGroup)
+        requires { FitsArrays group.old self.old.now }
+        ensures now { self.new ≡ at_rest (arrays_back self.old.now group.old) }
+        ensures newer { back self.new.now.slots group.new.slots.entries.items ≡ self.old.now.slots }
+    {
+        self.cells.undo(&mut group.slots);
+        self.live = group.live;
+        self.began = group.live;
+    }
+}

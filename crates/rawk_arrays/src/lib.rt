@@ -1,0 +1,7 @@
+//! Arrays whose elements can be put back as they stood when the step began.
+#![tactic(auto)]
+
+pub mod arrays;
+mod cells;
+
+pub use arrays::{Arrays, ArraysGroup};

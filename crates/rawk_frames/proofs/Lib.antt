@@ -1,0 +1,2 @@
+pub mod Nested
+pub mod Loops

@@ -1,0 +1,121 @@
+-- Activations, as they lie on two stacks.
+use Rattle.std.proofs.Common.{◌≡◌, ℕ, suc, zero, ◌+◌, ◌-◌, ◌<◌, ◌≤◌, List, [], ◌∷◌, ◌++◌, length, take, drop, set, reverse, refl, sym, ap, ◌∙◌, arith, slice_get, Option, None, Some, MatchOption}
+use Rattle.std.proofs.lemmas.List.{length-reverse, length-drop, take-append-le, drop-append-le, take-set-le, reverse-append, reverse-reverse, set_past}
+use Rattle.std.proofs.lemmas.Option.{same_Some, slice_get_past, none-some}
+use Rattle.rawk_slots.specs.Journaled.{Journaled, at_rest}
+use Rattle.rawk_slots.specs.Stacked.{Stacked, GrownStack, IsLive, live_slots, live_values}
+use Rattle.rawk_slots.specs.StackLaws.{live_values-grown, IsLive-grown}
+use Rattle.rawk_frames.specs.declared.frames.Local.{Local}
+use Rattle.rawk_frames.specs.declared.frames.Activation.{Activation}
+use Rattle.rawk_frames.specs.Frame.{Frame, IsOf, locals_now, with_local, with_more}
+use Rattle.rawk_frames.specs.LaidFrames.{AreFrames, IsNested, IsPlace, frames_from}
+
+pub length_frames : (as1 : List Activation) (ls : List Local) → length (frames_from as1 ls) ≡ length as1
+length_frames [] ls = refl
+length_frames (a ∷ older) ls = ap suc (length_frames older (take a.base ls))
+
+pub frame_at : (as1 : List Activation) (ls : List Local) (n : ℕ) (o : Option Activation) → o ≡ slice_get as1 n →
+    MatchOption o (slice_get (frames_from as1 ls) n ≡ None) (λ a. (f : Frame) × (slice_get (frames_from as1 ls) n ≡ Some f) × IsOf a f)
+frame_at [] ls n None e = refl
+frame_at [] ls n (Some a) e = absurd (none-some a (sym e))
+frame_at (a ∷ older) ls zero None e = absurd (none-some a e)
+frame_at (a ∷ older) ls zero (Some b) e =
+    let same : b ≡ a = same_Some b a e in
+    (record { function = a.function; locals = drop a.base ls; arrays_before = a.arrays_before; called_at = a.called_at }, refl, record { function = ap (λ (x : Activation). x.function) (sym same); arrays_before = ap (λ (x : Activation). x.arrays_before) (sym same); called_at = ap (λ (x : Activation). x.called_at) (sym same) })
+frame_at (a ∷ older) ls (suc n) o e = frame_at older (take a.base ls) n o e
+
+pub get_drop : (ls : List Local) (i n : ℕ) → slice_get (drop i ls) n ≡ slice_get ls (i + n)
+get_drop ls zero n = let e : n ≡ 0 + n = omega arith in ap (slice_get ls) e
+get_drop [] (suc i) n = refl
+get_drop (l ∷ ls) (suc i) n = get_drop ls i n ∙ (let e : suc (i + n) ≡ suc i + n = omega arith in ap (slice_get (l ∷ ls)) e)
+
+drop_set : (ls : List Local) (i n : ℕ) (v : Local) → drop i (set ls (i + n) v) ≡ set (drop i ls) n v
+drop_set ls zero n v = let e : 0 + n ≡ n = omega arith in ap (λ k. set ls k v) e
+drop_set [] (suc i) n v = refl
+drop_set (l ∷ ls) (suc i) n v = (let e : suc i + n ≡ suc (i + n) = omega arith in ap (λ k. drop (suc i) (set (l ∷ ls) k v)) e) ∙ drop_set ls i n v
+
+pub local_at : (number : ℕ) (as1 : List Activation) (ls : List Local) (p : ℕ) → IsPlace number as1 ls p → slice_get ls p ≡ slice_get (locals_now (frames_from as1 ls)) number
+local_at number as1 ls p h =
+    ap (slice_get ls) h.there ∙ (sym (get_drop ls h.newest.base number) ∙ ap (λ (xs : List Activation). slice_get (locals_now (frames_from xs ls)) number) (sym h.is))
+
+pub local_set : (number : ℕ) (as1 : List Activation) (ls : List Local) (p : ℕ) (v : Local) → IsPlace number as1 ls p → frames_from as1 (set ls p v) ≡ with_local number v (frames_from as1 ls)
+local_set number as1 ls p v h =
+    let a : Activation = h.newest in
+    ap (λ (xs : List Activation). frames_from xs (set ls p v)) h.is
+    ∙ (ap (λ k. frames_from (a ∷ h.older) (set ls k v)) h.there
+    ∙ (ap (λ (xs : List Local). record { function = a.function; locals = xs; arrays_before = a.arrays_before; called_at = a.called_at } ∷ frames_from h.older (take a.base (set ls (a.base + number) v))) (drop_set ls a.base number v)
+    ∙ (ap (λ (xs : List Local). record { function = a.function; locals = set (drop a.base ls) number v; arrays_before = a.arrays_before; called_at = a.called_at } ∷ frames_from h.older xs) (take-set-le a.base ls (a.base + number) v (omega arith))
+    ∙ ap (λ (xs : List Activation). with_local number v (frames_from xs ls)) (sym h.is))))
+
+pub no_local : (fs : List Frame) (number : ℕ) (v : Local) → length (locals_now fs) ≤ number → fs ≡ with_local number v fs
+no_local [] number v le = refl
+no_local (f ∷ fs) number v le = ap (λ (xs : List Local). record f { locals = xs } ∷ fs) (sym (set_past f.locals number v le))
+
+pub absent_local : (fs : List Frame) (number : ℕ) → length (locals_now fs) ≤ number → None ≡ slice_get (locals_now fs) number
+absent_local fs number le = sym (slice_get_past (locals_now fs) number le)
+
+-- what the code tests
+pub place_found : (as1 : List Activation) (ls : List Local) (a : Activation) (count number : ℕ) → Some a ≡ slice_get as1 0 → count ≡ length ls → number < count - a.base → IsPlace number as1 ls (a.base + number)
+place_found [] ls a count number e c lt = absurd (none-some a (sym e))
+place_found (x ∷ older) ls a count number e c lt = record {
+  newest = x;
+  older = older;
+  is = refl;
+  there = ap (λ (y : Activation). y.base + number) (same_Some a x e);
+  within = omega (arith, lt, c);
+}
+
+pub place_past : (as1 : List Activation) (ls : List Local) (a : Activation) (count number : ℕ) → Some a ≡ slice_get as1 0 → count ≡ length ls → count - a.base ≤ number → length (locals_now (frames_from as1 ls)) ≤ number
+place_past [] ls a count number e c h = absurd (none-some a (sym e))
+place_past (x ∷ older) ls a count number e c h =
+    let same : a ≡ x = same_Some a x e in
+    rw (← same) (omega (arith, length-drop a.base ls, c, h))
+
+pub no_place : (as1 : List Activation) (ls : List Local) (number : ℕ) → None ≡ slice_get as1 0 → length (locals_now (frames_from as1 ls)) ≤ number
+no_place [] ls number e = omega arith
+no_place (x ∷ older) ls number e = absurd (none-some x e)
+
+-- one more local at the end
+pub more_locals : (as1 : List Activation) (ls : List Local) (v : Local) → IsNested as1 (length ls) → frames_from as1 (ls ++ v ∷ []) ≡ with_more v (frames_from as1 ls)
+more_locals [] ls v h = refl
+more_locals (a ∷ older) ls v h =
+    ap (λ (xs : List Local). record { function = a.function; locals = xs; arrays_before = a.arrays_before; called_at = a.called_at } ∷ frames_from older (take a.base (ls ++ v ∷ []))) (drop-append-le a.base ls (v ∷ []) h.0)
+    ∙ ap (λ (xs : List Local). record { function = a.function; locals = drop a.base ls ++ v ∷ []; arrays_before = a.arrays_before; called_at = a.called_at } ∷ frames_from older xs) (take-append-le a.base ls (v ∷ []) h.0)
+
+pub nested_more : (as1 : List Activation) (n m : ℕ) → n ≤ m → IsNested as1 n → IsNested as1 m
+nested_more [] n m le h = tt
+nested_more (a ∷ older) n m le h = (omega (arith, h.0, le), h.1)
+
+-- the values from the oldest to the newest
+pub oldest_first : {T : Type 0} (s : Stacked T) → reverse (live_values s) ≡ live_slots s
+oldest_first s = reverse-reverse (live_slots s)
+
+pub slots_pushed : {T : Type 0} (s t : Stacked T) (v : T) → live_values t ≡ v ∷ live_values s → live_slots t ≡ live_slots s ++ v ∷ []
+slots_pushed {T} s t v e = sym (oldest_first t) ∙ (ap (λ (xs : List T). reverse xs) e ∙ (reverse-append (v ∷ []) (live_values s) ∙ ap (λ (xs : List T). xs ++ v ∷ []) (oldest_first s)))
+
+pub length_values : {T : Type 0} (s : Stacked T) → length (live_values s) ≡ length (live_slots s)
+length_values s = length-reverse (live_slots s)
+
+pub frames_kept : (frames : Journaled (Stacked Activation)) (locals new : Journaled (Stacked Local)) → AreFrames frames locals → length (live_slots locals.now) ≤ length (live_slots new.now) → GrownStack locals.start new.start → AreFrames frames new
+frames_kept frames locals new h le g = record {
+  now = nested_more (live_values frames.now) (length (live_slots locals.now)) (length (live_slots new.now)) le h.now;
+  start =
+      let same : live_slots new.start ≡ live_slots locals.start = sym (oldest_first new.start) ∙ (ap (λ (xs : List Local). reverse xs) (live_values-grown locals.start new.start g h.locals_live) ∙ oldest_first locals.start) in
+      rw same h.start;
+  frames_live = h.frames_live;
+  locals_live = IsLive-grown locals.start new.start g h.locals_live;
+}
+
+-- the newest activation, and what is left without it
+pub left_frame : (as1 older : List Activation) (ls rest : List Local) (a : Activation) → Some a ≡ slice_get as1 0 → older ≡ drop 1 as1 → rest ≡ take a.base ls → (f : Frame) × (frames_from as1 ls ≡ f ∷ frames_from older rest) × IsOf a f
+left_frame [] older ls rest a e d r = absurd (none-some a (sym e))
+left_frame (x ∷ xs) older ls rest a e d r =
+    let same : a ≡ x = same_Some a x e in (
+      record { function = x.function; locals = drop x.base ls; arrays_before = x.arrays_before; called_at = x.called_at },
+      ap (λ (more : List Frame). record { function = x.function; locals = drop x.base ls; arrays_before = x.arrays_before; called_at = x.called_at } ∷ more)
+          (ap (λ (y : Activation). frames_from xs (take y.base ls)) (sym same) ∙ (ap (λ (ys : List Activation). frames_from ys (take a.base ls)) (sym d) ∙ ap (λ (ys : List Local). frames_from older ys) (sym r))),
+      record { function = ap (λ (y : Activation). y.function) (sym same); arrays_before = ap (λ (y : Activation). y.arrays_before) (sym same); called_at = ap (λ (y : Activation). y.called_at) (sym same) },
+    )
+
+pub frames_rest : (frames : Stacked Activation) (locals : Stacked Local) → IsNested (live_values frames) (length (live_slots locals)) → IsLive frames → IsLive locals → AreFrames (at_rest frames) (at_rest locals)
+frames_rest frames locals n f l = record { now = n; start = n; frames_live = f; locals_live = l }

@@ -1,0 +1,50 @@
+-- How activations lie: on one stack what is kept of each, on another the locals of all.
+use Rattle.std.specs.Prelude.{◌≡◌, ℕ, ◌+◌, ◌≤◌, ◌<◌, List, [], ◌∷◌, length, take, drop}
+use Rattle.rawk_slots.specs.Journaled.{Journaled}
+use Rattle.rawk_slots.specs.Stacked.{Stacked, GrownStack, IsLive, empty_stack, live_slots, live_values}
+use Rattle.rawk_frames.specs.declared.frames.Local.{Local}
+use Rattle.rawk_frames.specs.declared.frames.Activation.{Activation}
+use Rattle.rawk_frames.specs.Frame.{Frame}
+
+pub record LaidFrames : Type 0 where
+  pub frames : Stacked Activation
+  pub locals : Stacked Local
+
+abbrev pub no_frames : LaidFrames
+no_frames = record { frames = empty_stack; locals = empty_stack }
+
+-- the activations, the newest first: the locals of each begin at its base
+abbrev pub frames_from : List Activation → List Local → List Frame
+frames_from [] locals = []
+frames_from (a ∷ older) locals = record { function = a.function; locals = drop a.base locals; arrays_before = a.arrays_before; called_at = a.called_at } ∷ frames_from older (take a.base locals)
+
+abbrev pub frames_of : LaidFrames → List Frame
+frames_of l = frames_from (live_values l.frames) (live_slots l.locals)
+
+-- the locals of each activation begin within those that there are
+abbrev pub IsNested : List Activation → ℕ → Type 0
+IsNested [] n = Unit {0}
+IsNested (a ∷ older) n = (a.base ≤ n) × IsNested older a.base
+
+abbrev pub AreNested : LaidFrames → Type 0
+AreNested l = IsNested (live_values l.frames) (length (live_slots l.locals))
+
+-- the activations are nested, now and when the step began
+pub record AreFrames (frames : Journaled (Stacked Activation)) (locals : Journaled (Stacked Local)) : Type 0 where
+  pub now : IsNested (live_values frames.now) (length (live_slots locals.now))
+  pub start : IsNested (live_values frames.start) (length (live_slots locals.start))
+  pub frames_live : IsLive frames.start
+  pub locals_live : IsLive locals.start
+
+-- slots were added beyond the live ones, and nothing else was done
+pub record GrownFrames (l m : LaidFrames) : Type 0 where
+  pub frames : GrownStack l.frames m.frames
+  pub locals : GrownStack l.locals m.locals
+
+-- where a local of the newest activation stands among all locals
+pub record IsPlace (number : ℕ) (activations : List Activation) (locals : List Local) (place : ℕ) : Type 0 where
+  pub newest : Activation
+  pub older : List Activation
+  pub is : activations ≡ newest ∷ older
+  pub there : place ≡ newest.base + number
+  pub within : place < length locals

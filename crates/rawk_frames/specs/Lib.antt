@@ -1,0 +1,6 @@
+pub mod Frame
+pub mod LaidFrames
+pub mod FramesBack
+pub mod LaidKeys
+pub mod KeysBack
+pub mod FramesLaws

@@ -1,0 +1,262 @@
+//! Activations of functions, with their locals.
+
+ghost use Rattle.std.specs.Prelude.{◌≡◌, ◌≤◌, ◌∷◌, [], IfNone, IfSome, MatchOption, None, OnErr, OnOk, Some, drop, length, slice_get};
+ghost use Rattle.std.specs.Option.{option_copied};
+ghost use Rattle.rawk_slots.specs.Journaled.{at_rest};
+ghost use Rattle.rawk_slots.specs.Stacked.{live_slots, live_values};
+ghost use Rattle.rawk_frames.specs.Frame.{Frame, IsOf, locals_now, new_frame, with_local, with_more};
+ghost use Rattle.rawk_frames.specs.LaidFrames.{AreNested, GrownFrames, IsPlace, frames_from, frames_of, no_frames};
+ghost use Rattle.rawk_frames.specs.FramesBack.{FitsFrames, frames_back};
+
+use rawk_slots::{Stack, StackGroup};
+use rawk_value::Value;
+use std::alloc::{AllocError, Global};
+use std::marker::Model;
+
+/// A local of an activation (POSIX awk, User-Defined Functions): a value, or the number of an array.
+#[derive(Drop)]
+pub enum Local {
+    Holds(Value),
+    Names(usize),
+}
+
+/// What is kept of an activation beside its locals: its function, where its locals begin, how many arrays there were before it,
+/// and its calling point.
+#[derive(Clone, Copy, Debug)]
+pub struct Activation {
+    pub function: usize,
+    pub base: usize,
+    pub arrays_before: usize,
+    pub called_at: u64,
+}
+
+/// The activations, beside what they were when the step began.
+#[derive(Drop)]
+pub struct Frames {
+    frames: Stack<Activation>,
+    locals: Stack<Local>,
+}
+
+impl Model for Frames {
+    ghost use Rattle.rawk_slots.specs.Journaled.{Journaled};
+    ghost use Rattle.rawk_frames.specs.LaidFrames.{LaidFrames, AreFrames};
+
+    ghost Value = { Journaled LaidFrames };
+
+    ghost view = { λ f. record {
+      now = record { frames = f.frames.now; locals = f.locals.now };
+      start = record { frames = f.frames.start; locals = f.locals.start };
+    } };
+
+    ghost invariant = { λ f. AreFrames f.frames f.locals };
+}
+
+/// What a step changed in the activations.
+#[derive(Drop)]
+pub struct FramesGroup {
+    pub frames: StackGroup<Activation>,
+    pub locals: StackGroup<Local>,
+}
+
+impl Frames {
+    /// No activations. It takes no memory.
+    pub fn new(alloc: Global) -> Self
+        ensures { result ≡ at_rest no_frames }
+    {
+        Frames {
+            frames: Stack::new(alloc),
+            locals: Stack::new(alloc),
+        }
+    }
+
+    /// How many activations there are.
+    pub fn depth(&self) -> usize
+        ensures { result ≡ length (frames_of self.now.now) }
+    {
+        depth_of(&self.frames, &self.locals)
+    }
+
+    /// An activation, counted from the newest, which is 0.
+    pub fn frame(&self, number: usize) -> Option<&Activation>
+        ensures { MatchOption result (slice_get (frames_of self.now.now) number ≡ None) (λ a. (f : Frame) × (slice_get (frames_of self.now.now) number ≡ Some f) × IsOf a.now f) }
+    {
+        frame_of(&self.frames, &self.locals, number)
+    }
+
+    /// A local of the newest activation, by its number from 0.
+    pub fn local(&self, number: usize) -> Option<&Local>
+        ensures { option_copied result ≡ slice_get (locals_now (frames_of self.now.now)) number }
+    {
+        local_of(&self.frames, &self.locals, number)
+    }
+
+    /// Writes a local of the newest activation; a number that is none changes nothing. It fails where memory is refused, and then nothing has changed.
+    pub fn set_local(&mut self, number: usize, local: Local) -> Result<(), AllocError>
+        ensures did { OnOk result (frames_of self.new.now ≡ with_local number local (frames_of self.old.now)) }
+        ensures start { self.new.start ≡ self.old.start }
+        ensures err { OnErr result (self.new.now ≡ self.old.now) }
+    {
+        set_local_of(&self.frames, &mut self.locals, number, local)
+    }
+
+    /// Adds an activation with no locals. It fails where memory is refused.
+    pub fn enter(
+        &mut self,
+        function: usize,
+        arrays_before: usize,
+        called_at: u64,
+    ) -> Result<(), AllocError>
+        ensures did { OnOk result (frames_of self.new.now ≡ new_frame function arrays_before called_at ∷ frames_of self.old.now) }
+        ensures start { GrownFrames self.old.start self.new.start }
+    {
+        let base = self.locals.len();
+        self.frames.push(Activation {
+            function,
+            base,
+            arrays_before,
+            called_at,
+        })
+    }
+
+    /// Adds a local to the newest activation. It fails where memory is refused.
+    pub fn add_local(&mut self, local: Local) -> Result<(), AllocError>
+        ensures did { OnOk result (frames_of self.new.now ≡ with_more local (frames_of self.old.now)) }
+        ensures start { GrownFrames self.old.start self.new.start }
+    {
+        self.locals.push(local)?;
+        Ok(())
+    }
+
+    /// Drops the newest activation with its locals, and gives what is kept of it beside them.
+    pub fn leave(&mut self) -> Option<Activation>
+        ensures left { MatchOption result (frames_of self.old.now ≡ []) (λ a. (f : Frame) × (frames_of self.old.now ≡ f ∷ frames_of self.new.now) × IsOf a f) }
+        ensures none { MatchOption result (self.new.now ≡ self.old.now) (λ a. Unit {0}) }
+        ensures start { self.new.start ≡ self.old.start }
+    {
+        let activation = *self.frames.newest(0)?;
+        self.frames.drop_newest(1);
+        self.locals.truncate(activation.base);
+        Some(activation)
+    }
+
+    /// Drops all activations.
+    pub fn leave_all(&mut self)
+        ensures did { frames_of self.new.now ≡ [] }
+        ensures start { self.new.start ≡ self.old.start }
+    {
+        self.frames.clear();
+        self.locals.clear();
+    }
+
+    /// Ends the step, and gives what it changed. It takes no memory.
+    pub fn finish(&mut self, alloc: Global) -> FramesGroup
+        ensures now { self.new ≡ at_rest self.old.now }
+        ensures back { frames_back self.old.now result ≡ self.old.start }
+        ensures fits { FitsFrames result self.old.now }
+        ensures nested { AreNested self.old.now }
+    {
+        FramesGroup {
+            frames: self.frames.finish(alloc),
+            locals: self.locals.finish(alloc),
+        }
+    }
+
+    /// Ends the step, and forgets what it changed. It takes no memory.
+    pub fn forget(&mut self)
+        ensures now { self.new ≡ at_rest self.old.now }
+        ensures nested { AreNested self.old.now }
+    {
+        self.frames.forget();
+        self.locals.forget();
+    }
+
+    /// Puts back what the step in progress changed. It takes no memory and always succeeds.
+    pub fn undo_step(&mut self)
+        ensures now { self.new ≡ at_rest self.old.start }
+        ensures nested { AreNested self.old.start }
+    {
+        self.frames.undo_step();
+        self.locals.undo_step();
+    }
+
+    /// Puts back what a step that ended changed. It takes no memory and always succeeds.
+    pub fn undo(&mut self, group: &mut FramesGroup)
+        requires { FitsFrames group.old self.old.now }
+        ensures { self.new ≡ at_rest (frames_back self.old.now group.old) }
+    {
+        self.frames.undo(&mut group.frames);
+        self.locals.undo(&mut group.locals);
+    }
+}
+
+// How many activations there are. The locals are read by the clauses alone.
+fn depth_of(frames: &Stack<Activation>, locals: &Stack<Local>) -> usize
+    ensures { result ≡ length (frames_from (live_values frames.now.now) (live_slots locals.now.now)) }
+{
+    frames.len()
+}
+
+// What is kept of an activation. The locals are read by the clauses alone.
+fn frame_of<'a>(
+    frames: &'a Stack<Activation>,
+    locals: &Stack<Local>,
+    number: usize,
+) -> Option<&'a Activation>
+    ensures { let all = frames_from (live_values frames.now.now) (live_slots locals.now.now) in MatchOption result (slice_get all number ≡ None) (λ a. (f : Frame) × (slice_get all number ≡ Some f) × IsOf a.now f) }
+{
+    match frames.newest(number) {
+        Some(activation) => Some(activation),
+        None => None,
+    }
+}
+
+// Where a local of the newest activation stands.
+fn place_of(frames: &Stack<Activation>, locals: &Stack<Local>, number: usize) -> Option<usize>
+    ensures found { IfSome result (λ p. IsPlace number (live_values frames.now.now) (live_slots locals.now.now) p) }
+    ensures absent { IfNone result (length (locals_now (frames_from (live_values frames.now.now) (live_slots locals.now.now))) ≤ number) }
+{
+    let count = locals.len();
+    match frames.newest(0) {
+        Some(newest) => {
+            let own = count.saturating_sub(newest.base);
+            if number < own {
+                return Some(newest.base + number);
+            }
+            None
+        }
+        None => None,
+    }
+}
+
+// A local of the newest activation.
+fn local_of<'a>(
+    frames: &Stack<Activation>,
+    locals: &'a Stack<Local>,
+    number: usize,
+) -> Option<&'a Local>
+    ensures { option_copied result ≡ slice_get (locals_now (frames_from (live_values frames.now.now) (live_slots locals.now.now))) number }
+{
+    match place_of(frames, locals, number) {
+        Some(place) => locals.oldest(place),
+        None => None,
+    }
+}
+
+// Writes a local of the newest activation.
+fn set_local_of(
+    frames: &Stack<Activation>,
+    locals: &mut Stack<Local>,
+    number: usize,
+    local: Local,
+) -> Result<(), AllocError>
+    ensures did { OnOk result (frames_from (live_values frames.now.now) (live_slots locals.new.now) ≡ with_local number local (frames_from (live_values frames.now.now) (live_slots locals.old.now))) }
+    ensures start { locals.new.start ≡ locals.old.start }
+    ensures err { OnErr result (locals.new.now ≡ locals.old.now) }
+    ensures size { length (live_slots locals.new.now) ≡ length (live_slots locals.old.now) }
+{
+    match place_of(frames, locals, number) {
+        Some(place) => locals.set_oldest(place, local)?,
+        None => {}
+    }
+    Ok(())
+}

@@ -1,0 +1,11 @@
+//! Activations of functions, keys that loops still visit, and flags of ranges, which can be put back as they stood when the step began.
+#![tactic(auto)]
+
+pub mod frames;
+pub mod keys_left;
+
+pub use frames::{Activation, Frames, FramesGroup, Local};
+pub use keys_left::{KeysLeft, KeysLeftGroup, Ranges, RangesGroup};
+
+#[cfg(test)]
+mod tests;

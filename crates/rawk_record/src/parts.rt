@@ -1,0 +1,65 @@
+//! What a record is made of.
+
+ghost use Rattle.std.specs.Prelude.{◌≡◌, ◌<◌, [], None, slice_index_or, vec_len};
+ghost use Rattle.std.specs.Option.{option_copied};
+ghost use Rattle.rawk_value.specs.declared.value.Value.{Value};
+ghost use Rattle.rawk_record.specs.Drafts.{IsPlaced, values_of};
+ghost use Rattle.rawk_record.specs.FieldRefs.{ref_value};
+
+use crate::pieces::Piece;
+use rawk_value::Value;
+use std::alloc::Global;
+
+/// A text, the places of its fields, and the fields with values of their own. A record that was read has none of those.
+#[derive(Debug, Drop)]
+pub struct Parts {
+    pub text: Vec<u8>,
+    pub pieces: Vec<Piece>,
+    pub kept: Vec<Option<Value>>,
+}
+
+/// A field, lent: a piece of `$0`, or a value of its own.
+#[derive(Clone, Copy)]
+pub enum FieldRef<'a> {
+    Piece(&'a [u8]),
+    Kept(&'a Value),
+}
+
+/// A field's own value, where it has one.
+fn own_value(kept: &Vec<Option<Value>>, place: usize) -> Option<&Value>
+    ensures { option_copied result ≡ slice_index_or kept.now.items place None }
+{
+    if place < kept.len() {
+        kept[place].as_ref()
+    } else {
+        None
+    }
+}
+
+/// The field at a place, from 0.
+pub(crate) fn field_at(parts: &Parts, place: usize) -> FieldRef<'_>
+    requires placed { IsPlaced parts.now }
+    requires present { place < vec_len parts.now.pieces }
+    ensures { (d : Value) → slice_index_or (values_of parts.now) place d ≡ ref_value result }
+{
+    match own_value(&parts.kept, place) {
+        Some(value) => FieldRef::Kept(value),
+        None => {
+            let piece = parts.pieces[place];
+            FieldRef::Piece(&parts.text[piece.start..piece.end])
+        }
+    }
+}
+
+/// No text and no fields. It takes no memory.
+pub(crate) fn no_parts(alloc: Global) -> Parts
+    ensures text { result.text.items ≡ [] }
+    ensures pieces { result.pieces.items ≡ [] }
+    ensures kept { result.kept.items ≡ [] }
+{
+    Parts {
+        text: Vec::new(alloc),
+        pieces: Vec::new(alloc),
+        kept: Vec::new(alloc),
+    }
+}

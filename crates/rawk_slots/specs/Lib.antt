@@ -1,0 +1,6 @@
+pub mod Journaled
+pub mod Back
+pub mod BackLaws
+pub mod Stacked
+pub mod StackBack
+pub mod StackLaws

@@ -1,0 +1,38 @@
+-- Slots that were added beyond the live values of a stack change nothing, and putting back works over them.
+use Rattle.std.specs.Prelude.{◌≡◌, List, [], ◌++◌, length, reverse}
+use Rattle.std.proofs.Common.{sym, ap, ◌∙◌, arith, append_assoc}
+use Rattle.std.proofs.lemmas.List.{append-nil, length-append, take-append-le}
+use Rattle.rawk_slots.specs.declared.stack.StackGroup.{StackGroup}
+use Rattle.rawk_slots.specs.BackLaws.{back_grow, AreBelow-more, length-back}
+use Rattle.rawk_slots.specs.Stacked.{Stacked, GrownStack, IsLive, live_values, with_slots}
+use Rattle.rawk_slots.specs.StackBack.{FitsStack, stack_back}
+
+-- a grown stack has the same live values
+pub live_values-grown : {T : Type 0} (s t : Stacked T) → GrownStack s t → IsLive s → live_values t ≡ live_values s
+live_values-grown {T} s t g h = ap (λ (x : Stacked T). live_values x) g.is ∙ ap (λ (xs : List T). reverse xs) (take-append-le s.live s.slots g.more h)
+
+pub IsLive-grown : {T : Type 0} (s t : Stacked T) → GrownStack s t → IsLive s → IsLive t
+IsLive-grown s t g h = rw g.is (omega (arith, h, length-append s.slots g.more))
+
+pub GrownStack-refl : {T : Type 0} (s : Stacked T) → GrownStack s s
+GrownStack-refl {T} s = record { more = []; is = ap (λ (xs : List T). record s { slots = xs }) (sym (append-nil s.slots)) }
+
+pub GrownStack-trans : {T : Type 0} (s t u : Stacked T) → GrownStack s t → GrownStack t u → GrownStack s u
+GrownStack-trans {T} s t u a b = record {
+  more = a.more ++ b.more;
+  is = b.is ∙ (ap (λ (x : Stacked T). with_slots x b.more) a.is ∙ ap (λ (xs : List T). record s { slots = xs }) (append_assoc s.slots a.more b.more));
+}
+
+pub stack_back-grown : {T : Type 0} (s : Stacked T) (group : StackGroup T) (more : List T) → FitsStack group s → stack_back (with_slots s more) group ≡ with_slots (stack_back s group) more
+stack_back-grown {T} s group more h = ap (λ (xs : List T). record { slots = xs; live = group.live }) (back_grow s.slots group.slots.entries.items more h.places)
+
+pub FitsStack-grown : {T : Type 0} (s : Stacked T) (group : StackGroup T) (more : List T) → FitsStack group s → FitsStack group (with_slots s more)
+FitsStack-grown s group more h =
+    let size = length-append s.slots more in
+    record {
+      places = AreBelow-more (length s.slots) (length (s.slots ++ more)) group.slots.entries.items (omega arith) h.places;
+      live = omega (arith, h.live);
+    }
+
+pub IsLive-stack_back : {T : Type 0} (s : Stacked T) (group : StackGroup T) → FitsStack group s → IsLive (stack_back s group)
+IsLive-stack_back s group h = omega (arith, length-back s.slots group.slots.entries.items, h.live)

@@ -1,0 +1,12 @@
+//! Slots and stacks that go back to how they stood when a step began.
+#![tactic(auto)]
+
+pub mod saved;
+pub mod slot_group;
+pub mod slots;
+pub mod stack;
+
+pub use saved::Saved;
+pub use slot_group::{SlotGroup, led_to};
+pub use slots::Slots;
+pub use stack::{Stack, StackGroup};

@@ -1,0 +1,38 @@
+//! Old values, each with its place.
+
+ghost use Rattle.std.specs.Prelude.{◌≡◌, ◌<◌, ◌↔◌, IsTrue, length, map, slice_index};
+ghost use Rattle.rawk_slots.specs.Back.{back, AreBelow, HasDistinctPlaces, IsSavedAt, places};
+
+use std::mem;
+
+/// A place, from 0, and what stood there when the step began.
+#[derive(Drop)]
+pub struct Saved<T> {
+    pub place: usize,
+    pub old: T,
+}
+
+/// Puts each old value back, the newest first, and leaves in the list what stood there. It takes no memory.
+pub(crate) fn swap_back<T>(items: &mut Vec<T>, saved: &mut Vec<Saved<T>>)
+    requires below { AreBelow (length items.old.items) saved.old.items }
+    requires distinct { HasDistinctPlaces saved.old.items }
+    ensures items { items.new.items ≡ back items.old.items saved.old.items }
+    ensures places { places saved.new.items ≡ places saved.old.items }
+    ensures newer { back items.new.items saved.new.items ≡ items.old.items }
+{
+    let mut i = saved.len();
+    while i > 0 {
+        i -= 1;
+        let entry = &mut saved[i];
+        mem::swap(&mut items[entry.place], &mut entry.old);
+    }
+}
+
+/// Whether the place's old content is saved.
+pub(crate) fn is_saved<T>(marks: &[usize], saved: &[Saved<T>], place: usize) -> bool
+    requires { place < length marks.now }
+    ensures { IsTrue result ↔ IsSavedAt saved.now (slice_index marks.now place) place }
+{
+    let mark = marks[place];
+    mark < saved.len() && saved[mark].place == place
+}

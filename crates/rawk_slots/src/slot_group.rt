@@ -1,0 +1,29 @@
+//! What a step changed in slots.
+
+ghost use Rattle.std.specs.Prelude.{◌≡◌, ◌<◌, List, length, slice_get};
+ghost use Rattle.std.specs.Option.{option_copied};
+ghost use Rattle.rawk_slots.specs.Back.{back, HasDistinctPlaces};
+
+use crate::saved::Saved;
+
+/// For each slot that a step wrote what stood there when the step began, no slot twice.
+#[derive(Drop)]
+pub struct SlotGroup<T> {
+    pub entries: Vec<Saved<T>>,
+    pub ghost distinct: { HasDistinctPlaces entries.items },
+}
+
+/// What stood in a slot at the time to which a group leads, from what stands there now (`newer`), for a number of a slot. It takes no memory.
+pub fn led_to<'a, T>(group: &'a SlotGroup<T>, newer: Option<&'a T>, place: usize) -> Option<&'a T>
+    ensures { (xs : List T) → place < length xs → slice_get xs place ≡ option_copied newer.entry → slice_get (back xs group.now.entries.items) place ≡ option_copied result }
+{
+    let mut i = 0;
+    while i < group.entries.len() {
+        let entry = &group.entries[i];
+        if entry.place == place {
+            return Some(&entry.old);
+        }
+        i += 1;
+    }
+    newer
+}

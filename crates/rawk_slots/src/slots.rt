@@ -1,0 +1,158 @@
+//! Slots whose content can be put back as it stood when the step began.
+
+ghost use Rattle.std.specs.Prelude.{◌≡◌, ◌<◌, ◌≤◌, ◌+◌, ◌++◌, ◌∷◌, [], ℕ, List, OnErr, OnOk, Some, length, slice_get, slice_set, take};
+ghost use Rattle.std.specs.Option.{option_copied};
+ghost use Rattle.rawk_slots.specs.Back.{back, AreBelow};
+ghost use Rattle.rawk_slots.specs.Journaled.{Longer, at_rest};
+
+use crate::saved::{Saved, is_saved, swap_back};
+use crate::slot_group::SlotGroup;
+use std::alloc::{AllocError, Global};
+use std::marker::Model;
+use std::mem;
+
+/// Slots, beside what stood in them when the step began.
+///
+/// A contract sees both lists. A write takes memory at most for the list of old values, whose buffer is used again.
+#[derive(Drop)]
+pub struct Slots<T> {
+    items: Vec<T>,
+    // Where in `saved` a slot's old content stands, if it stands there; else any number.
+    marks: Vec<usize>,
+    saved: Vec<Saved<T>>,
+}
+
+impl<T> Model for Slots<T> {
+    ghost use Rattle.std.specs.Prelude.{List};
+    ghost use Rattle.rawk_slots.specs.Journaled.{Journaled};
+
+    ghost Value = { Journaled (List T) };
+
+    ghost use Rattle.rawk_slots.specs.Back.{back, IsJournal};
+
+    ghost view = { λ s. record { now = s.items.items; start = back s.items.items s.saved.items } };
+
+    ghost invariant = { λ s. IsJournal s.items.items s.marks.items s.saved.items };
+}
+
+impl<T: Drop> Slots<T> {
+    /// No slots.
+    pub fn new(alloc: Global) -> Self
+        ensures { result ≡ at_rest [] }
+    {
+        Slots {
+            items: Vec::new(alloc),
+            marks: Vec::new(alloc),
+            saved: Vec::new(alloc),
+        }
+    }
+
+    /// How many slots there are.
+    pub fn len(&self) -> usize
+        ensures { result ≡ length self.now.now }
+    {
+        self.items.len()
+    }
+
+    /// What stands in a slot, and `None` for a number that is no slot.
+    pub fn value(&self, place: usize) -> Option<&T>
+        ensures { option_copied result ≡ slice_get self.now.now place }
+    {
+        if place < self.items.len() {
+            return Some(&self.items[place]);
+        }
+        None
+    }
+
+    /// Writes a slot. It fails where memory is refused, and then nothing has changed.
+    pub fn write(&mut self, place: usize, value: T) -> Result<(), AllocError>
+        requires { place < length self.old.now }
+        ensures did { OnOk result (self.new.now ≡ slice_set self.old.now place value) }
+        ensures start { self.new.start ≡ self.old.start }
+        ensures err { OnErr result (self.new.now ≡ self.old.now) }
+    {
+        if is_saved(&self.marks, &self.saved, place) {
+            self.items[place] = value;
+            return Ok(());
+        }
+        self.saved.reserve(1)?;
+        let old = mem::replace(&mut self.items[place], value);
+        self.marks[place] = self.saved.len();
+        self.saved.push(Saved { place, old })?;
+        Ok(())
+    }
+
+    /// Writes a slot; a number that is no slot changes nothing. It fails where memory is refused, and then nothing has changed.
+    pub fn set(&mut self, place: usize, value: T) -> Result<(), AllocError>
+        ensures did { OnOk result (self.new.now ≡ slice_set self.old.now place value) }
+        ensures start { self.new.start ≡ self.old.start }
+        ensures err { OnErr result (self.new.now ≡ self.old.now) }
+    {
+        if place < self.len() {
+            self.write(place, value)?;
+        }
+        Ok(())
+    }
+
+    /// Adds a slot, which the step's beginning then has too. It fails where memory is refused, and then nothing has changed.
+    pub fn add(&mut self, value: T) -> Result<(), AllocError>
+        ensures did { OnOk result (self.new.now ≡ self.old.now ++ value ∷ []) }
+        ensures start { OnOk result (self.new.start ≡ self.old.start ++ value ∷ []) }
+        ensures err { OnErr result (self.new ≡ self.old) }
+    {
+        self.marks.reserve(1)?;
+        self.items.push(value)?;
+        self.marks.push(0)?;
+        Ok(())
+    }
+
+    /// Writes the slot behind the first `count`, and adds it where it is missing. It fails where memory is refused.
+    pub fn append(&mut self, count: usize, value: T) -> Result<(), AllocError>
+        requires { count ≤ length self.old.now }
+        ensures did { OnOk result (take (count + 1) self.new.now ≡ take count self.old.now ++ value ∷ []) }
+        ensures room { OnOk result (count < length self.new.now) }
+        ensures err { OnErr result (self.new.now ≡ self.old.now) }
+        ensures start { Longer self.old.start self.new.start }
+    {
+        if count < self.len() {
+            return self.write(count, value);
+        }
+        self.add(value)
+    }
+
+    /// Ends the step, and gives what it changed.
+    pub fn finish(&mut self, alloc: Global) -> SlotGroup<T>
+        ensures now { self.new ≡ at_rest self.old.now }
+        ensures back { back self.old.now result.entries.items ≡ self.old.start }
+        ensures below { AreBelow (length self.old.now) result.entries.items }
+    {
+        SlotGroup {
+            entries: mem::replace(&mut self.saved, Vec::new(alloc)),
+        }
+    }
+
+    /// Ends the step, and forgets what it changed. The list of old values is cleared in place: it takes no memory.
+    pub fn forget(&mut self)
+        ensures { self.new ≡ at_rest self.old.now }
+    {
+        self.saved.clear();
+    }
+
+    /// Puts back what the step in progress changed. It takes no memory and always succeeds.
+    pub fn undo_step(&mut self)
+        ensures { self.new ≡ at_rest self.old.start }
+    {
+        swap_back(&mut self.items, &mut self.saved);
+        self.saved.clear();
+    }
+
+    /// Puts back what a step that ended changed, and leaves the newer values in the group. It takes no memory and always succeeds.
+    pub fn undo(&mut self, group: &mut SlotGroup<T>)
+        requires { AreBelow (length self.old.now) group.old.entries.items }
+        ensures now { self.new ≡ at_rest (back self.old.now group.old.entries.items) }
+        ensures newer { back self.new.now group.new.entries.items ≡ self.old.now }
+    {
+        self.saved.clear();
+        swap_back(&mut self.items, &mut group.entries);
+    }
+}

@@ -1,0 +1,187 @@
+//! A stack whose values can be put back as they stood when the step began.
+
+ghost use Rattle.std.specs.Prelude.{◌≡◌, ◌∷◌, [], OnErr, OnOk, drop, length, slice_get, slice_set, take};
+ghost use Rattle.std.specs.Option.{option_copied};
+ghost use Rattle.rawk_slots.specs.Journaled.{at_rest};
+ghost use Rattle.rawk_slots.specs.Stacked.{GrownStack, IsLive, empty_stack, live_slots, live_values};
+ghost use Rattle.rawk_slots.specs.StackBack.{FitsStack, stack_back};
+
+use crate::slot_group::SlotGroup;
+use crate::slots::Slots;
+use std::alloc::{AllocError, Global};
+use std::marker::Model;
+
+/// Values on a stack, beside what they were when the step began.
+///
+/// They stand in slots up to a live length. A slot beyond it keeps its content until it is written again.
+#[derive(Drop)]
+pub struct Stack<T> {
+    slots: Slots<T>,
+    live: usize,
+    began: usize,
+}
+
+impl<T> Model for Stack<T> {
+    ghost use Rattle.rawk_slots.specs.Journaled.{Journaled};
+    ghost use Rattle.rawk_slots.specs.Stacked.{AreLive, Stacked};
+
+    ghost Value = { Journaled (Stacked T) };
+
+    ghost view = { λ s. record {
+      now = record { slots = s.slots.now; live = s.live };
+      start = record { slots = s.slots.start; live = s.began };
+    } };
+
+    ghost invariant = { λ s. AreLive s.slots s.live s.began };
+}
+
+/// What a step changed in a stack.
+#[derive(Drop)]
+pub struct StackGroup<T> {
+    pub slots: SlotGroup<T>,
+    pub live: usize,
+}
+
+impl<T: Drop> Stack<T> {
+    /// No values.
+    pub fn new(alloc: Global) -> Self
+        ensures { result ≡ at_rest empty_stack }
+    {
+        Stack {
+            slots: Slots::new(alloc),
+            live: 0,
+            began: 0,
+        }
+    }
+
+    /// How many values there are.
+    pub fn len(&self) -> usize
+        ensures { result ≡ length (live_values self.now.now) }
+    {
+        self.live
+    }
+
+    /// A value, counted from the newest, which is 0.
+    pub fn newest(&self, number: usize) -> Option<&T>
+        ensures { option_copied result ≡ slice_get (live_values self.now.now) number }
+    {
+        if number < self.live {
+            return self.slots.value(self.live - number - 1);
+        }
+        None
+    }
+
+    /// A value, counted from the oldest, which is 0.
+    pub fn oldest(&self, number: usize) -> Option<&T>
+        ensures { option_copied result ≡ slice_get (live_slots self.now.now) number }
+    {
+        if number < self.live {
+            return self.slots.value(number);
+        }
+        None
+    }
+
+    /// Adds a value. It fails where memory is refused, and then the values are as they were.
+    pub fn push(&mut self, value: T) -> Result<(), AllocError>
+        ensures did { OnOk result (live_values self.new.now ≡ value ∷ live_values self.old.now) }
+        ensures err { OnErr result (self.new.now ≡ self.old.now) }
+        ensures start { GrownStack self.old.start self.new.start }
+    {
+        let live = self.live;
+        self.slots.append(live, value)?;
+        let _count = self.slots.len();
+        self.live = live + 1;
+        Ok(())
+    }
+
+    /// Writes a value, counted from the oldest; a number that has none changes nothing. It fails where memory is refused, and then nothing has changed.
+    pub fn set_oldest(&mut self, number: usize, value: T) -> Result<(), AllocError>
+        ensures did { OnOk result (live_slots self.new.now ≡ slice_set (live_slots self.old.now) number value) }
+        ensures start { self.new.start ≡ self.old.start }
+        ensures err { OnErr result (self.new.now ≡ self.old.now) }
+    {
+        if number < self.live {
+            self.slots.write(number, value)?;
+        }
+        Ok(())
+    }
+
+    /// Writes the newest value, if there is one. It fails where memory is refused, and then nothing has changed.
+    pub fn set_newest(&mut self, value: T) -> Result<(), AllocError>
+        ensures did { OnOk result (live_values self.new.now ≡ slice_set (live_values self.old.now) 0 value) }
+        ensures start { self.new.start ≡ self.old.start }
+        ensures err { OnErr result (self.new.now ≡ self.old.now) }
+    {
+        if self.live > 0 {
+            self.slots.write(self.live - 1, value)?;
+        }
+        Ok(())
+    }
+
+    /// Drops the newest values, as many as there are at most.
+    pub fn drop_newest(&mut self, count: usize)
+        ensures did { live_values self.new.now ≡ drop count (live_values self.old.now) }
+        ensures start { self.new.start ≡ self.old.start }
+    {
+        self.live = self.live.saturating_sub(count);
+    }
+
+    /// Keeps the oldest values, `count` of them at most, and drops the others.
+    pub fn truncate(&mut self, count: usize)
+        ensures did { live_slots self.new.now ≡ take count (live_slots self.old.now) }
+        ensures start { self.new.start ≡ self.old.start }
+    {
+        self.live = self.live.min(count);
+    }
+
+    /// Drops all values.
+    pub fn clear(&mut self)
+        ensures did { live_values self.new.now ≡ [] }
+        ensures start { self.new.start ≡ self.old.start }
+    {
+        self.live = 0;
+    }
+
+    /// Ends the step, and gives what it changed.
+    pub fn finish(&mut self, alloc: Global) -> StackGroup<T>
+        ensures now { self.new ≡ at_rest self.old.now }
+        ensures back { stack_back self.old.now result ≡ self.old.start }
+        ensures fits { FitsStack result self.old.now }
+        ensures live { IsLive self.old.now }
+    {
+        let group = StackGroup {
+            slots: self.slots.finish(alloc),
+            live: self.began,
+        };
+        self.began = self.live;
+        group
+    }
+
+    /// Ends the step, and forgets what it changed. It takes no memory.
+    pub fn forget(&mut self)
+        ensures now { self.new ≡ at_rest self.old.now }
+        ensures live { IsLive self.old.now }
+    {
+        self.slots.forget();
+        self.began = self.live;
+    }
+
+    /// Puts back what the step in progress changed. It takes no memory and always succeeds.
+    pub fn undo_step(&mut self)
+        ensures now { self.new ≡ at_rest self.old.start }
+        ensures live { IsLive self.old.start }
+    {
+        self.slots.undo_step();
+        self.live = self.began;
+    }
+
+    /// Puts back what a step that ended changed. It takes no memory and always succeeds.
+    pub fn undo(&mut self, group: &mut StackGroup<T>)
+        requires { FitsStack group.old self.old.now }
+        ensures { self.new ≡ at_rest (stack_back self.old.now group.old) }
+    {
+        self.slots.undo(&mut group.slots);
+        self.live = group.live;
+        self.began = group.live;
+    }
+}

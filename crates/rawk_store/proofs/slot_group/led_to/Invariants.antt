@@ -1,9 +1,0 @@
-use Rattle.std.proofs.Common.{◌≡◌, ◌≢◌, ◌<◌, ◌-◌, ℕ, Some, slice_get, length}
-use Rattle.rawk_store.specs.declared.saved.Saved.{Saved}
-use Rattle.rawk_store.proofs.slot_group.led_to.Given as goal
-
-abbrev pub invariant-loop-i : goal.invariant-loop-i
-invariant-loop-i g l = (k : ℕ) (f : Saved g.row.T.Denot) → k < l.i → slice_get l.group.entries.items k ≡ Some f → l.place ≢ f.place
-
-abbrev pub decreases-loop-i : goal.decreases-loop-i
-decreases-loop-i g l = length l.group.entries.items - l.i

@@ -1,9 +1,0 @@
-use Rattle.std.proofs.Common.{◌∙◌, ap, sym, length}
-use Rattle.rawk_store.proofs.Backs.{IsJournal-none}
-use Rattle.rawk_store.specs.Growth.{length-back}
-use Rattle.rawk_store.proofs.slots.Slots.undo.Goals as goal
-
-pub invariant_of-self : goal.invariant_of-self
-invariant_of-self g c =
-    rw c.clear.ensures.items
-    (IsJournal-none _ _ (c.self.invariant.marked ∙ (sym (length-back c.self.inside.items.items c.args.group.now.entries.items) ∙ sym (ap length c.swap_back.ensures.items))))
