@@ -1,5 +1,5 @@
 -- What was seen before the last move.
-use Rattle.std.proofs.Common.{◌≡◌, ℕ, List, [], ◌∷◌, length, Option, None, Some, refl, sym, ap, ◌∙◌, subst}
+use Rattle.std.proofs.Common.{◌≡◌, ℕ, List, [], ◌∷◌, length, Some, refl, sym, ap, ◌∙◌}
 use Rattle.std.proofs.lemmas.Option.{same_Some}
 use Rattle.rawk_value.specs.declared.value.Value.{Value}
 use Rattle.rawk_store.specs.declared.store.Group.{Group}

@@ -1,13 +1,13 @@
 -- The groups that are kept lead back from point to point.
-use Rattle.std.proofs.Common.{◌≡◌, ℕ, suc, ◌+◌, ◌-◌, ◌<◌, ◌≤◌, List, [], ◌∷◌, ◌++◌, length, reverse, refl, sym, ap, ◌∙◌, subst, arith}
+use Rattle.std.proofs.Common.{◌≡◌, ℕ, suc, ◌+◌, ◌-◌, ◌≤◌, List, [], ◌∷◌, ◌++◌, length, refl, sym, ap, ◌∙◌, subst, arith}
 use Rattle.rawk_value.specs.declared.value.Value.{Value}
 use Rattle.rawk_store.specs.declared.store.Group.{Group}
 use Rattle.rawk_store.specs.declared.keeper.Kept.{Kept}
-use Rattle.rawk_store.specs.Layout.{Layout, Grown, grown, operands}
+use Rattle.rawk_store.specs.Layout.{Layout, Grown, grown}
 use Rattle.rawk_store.specs.Stacked.{IsLive}
 use Rattle.rawk_store.specs.Saving.{saved_in}
 use Rattle.rawk_store.specs.GroupBack.{FitsIn, put_back}
-use Rattle.rawk_store.specs.Growth.{operands-grown, put_back-grown, FitsIn-grown, IsLive-put_back, Grown-refl}
+use Rattle.rawk_store.specs.Growth.{operands-grown, put_back-grown, FitsIn-grown, IsLive-put_back}
 use Rattle.rawk_store.specs.Keeping.{IsFront}
 use Rattle.std.proofs.lemmas.List.{append-nil}
 use Rattle.rawk_code.specs.Actions.{SetAt, sets_at}

@@ -1,15 +1,15 @@
 -- What is given and dropped, where there is no way back.
-use Rattle.std.proofs.Common.{◌≡◌, ℕ, ◌-◌, List, [], ◌∷◌, Option, Result, Ok, Err, refl, sym, ap, ◌∙◌, subst}
+use Rattle.std.proofs.Common.{◌≡◌, ℕ, List, [], ◌∷◌, Option, Result, Ok, Err, refl, sym, subst}
 use Rattle.std.specs.Result.{OnErr}
 use Rattle.rawk_tape.specs.Tapes.{Held}
 use Rattle.rawk_store.specs.declared.store.Group.{Group}
-use Rattle.rawk_store.specs.Layout.{Layout, state}
+use Rattle.rawk_store.specs.Layout.{Layout}
 use Rattle.rawk_code.specs.Listing.{Listing}
 use Rattle.rawk_code.specs.Actions.{SetAt}
 use Rattle.rawk_code.specs.Trace.{FirstValue}
 use Rattle.rawk_machine.specs.declared.last.Last.{Last}
 use Rattle.rawk_machine.specs.Standing.{Standing}
-use Rattle.rawk_machine.specs.Kept.{unsets, FitHere, EndsWith, Chain}
+use Rattle.rawk_machine.specs.Kept.{unsets, FitHere, Chain}
 use Rattle.rawk_machine.specs.Stood.{standing_of}
 
 -- no sets to take back, no groups

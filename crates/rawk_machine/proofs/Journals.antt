@@ -1,5 +1,5 @@
 -- A step that is kept, or forgotten, leads to a machine that has moved on.
-use Rattle.std.proofs.Common.{◌≡◌, ℕ, suc, ◌+◌, ◌-◌, ◌≤◌, Bool, true, false, min, List, [], ◌∷◌, ◌++◌, length, reverse, Option, None, Some, refl, sym, ap, ◌∙◌, subst, arith}
+use Rattle.std.proofs.Common.{◌≡◌, ℕ, ◌+◌, ◌-◌, ◌≤◌, Bool, true, false, List, [], ◌∷◌, ◌++◌, length, reverse, Option, None, Some, refl, sym, ap, ◌∙◌, subst, arith}
 use Rattle.std.proofs.lemmas.Bool.{ltb-false, ltb-true}
 use Rattle.rawk_value.specs.declared.value.Value.{Value}
 use Rattle.rawk_store.specs.declared.store.Group.{Group}
@@ -10,7 +10,7 @@ use Rattle.rawk_store.specs.Stacked.{IsLive}
 use Rattle.rawk_store.specs.Saving.{saved_in}
 use Rattle.rawk_store.specs.GroupBack.{put_back}
 use Rattle.rawk_code.specs.Actions.{SetAt}
-use Rattle.rawk_machine.specs.Standing.{Past, Seen, seen}
+use Rattle.rawk_machine.specs.Standing.{Past, seen}
 use Rattle.rawk_machine.specs.Kept.{moment_in, newest_first, unsets, pasts, seen_first, IsPlaced, FitHere, Chain, Few, back_in, below}
 use Rattle.rawk_machine.specs.Closing.{KeepsStep, Closes, FitAll}
 use Rattle.rawk_machine.proofs.SetLists.{ends_next}

@@ -1,5 +1,5 @@
 -- A machine that goes back, takes a set back, or makes one, as contracts see it.
-use Rattle.std.proofs.Common.{◌≡◌, ℕ, ◌-◌, ◌≤◌, List, [], ◌∷◌, ◌++◌, length, Option, None, Some, refl, sym, ap, ◌∙◌, subst}
+use Rattle.std.proofs.Common.{◌≡◌, ℕ, ◌-◌, List, [], ◌∷◌, ◌++◌, Option, None, Some, refl, ap, ◌∙◌}
 use Rattle.std.specs.Prelude.{slice_set}
 use Rattle.std.specs.Option.{option_map}
 use Rattle.rawk_value.specs.declared.value.Value.{Value}
@@ -9,20 +9,19 @@ use Rattle.rawk_store.specs.declared.store.Group.{Group}
 use Rattle.rawk_store.specs.declared.keeper.Kept.{Kept}
 use Rattle.rawk_store.specs.declared.registers.Ending.{Ending}
 use Rattle.rawk_store.specs.declared.target.Target.TheVariants.{Global}
-use Rattle.rawk_store.specs.State.{with_global}
-use Rattle.rawk_store.specs.Layout.{Layout, state}
+use Rattle.rawk_store.specs.Layout.{Layout}
 use Rattle.rawk_store.specs.Stacked.{IsLive}
 use Rattle.rawk_store.specs.Growth.{Grown-refl}
 use Rattle.rawk_store.specs.Saving.{saved_in}
-use Rattle.rawk_store.specs.GroupBack.{FitsIn, put_back}
+use Rattle.rawk_store.specs.GroupBack.{put_back}
 use Rattle.rawk_code.specs.Listing.{Listing}
 use Rattle.rawk_code.specs.Actions.{SetAt}
 use Rattle.rawk_code.specs.Trace.{FirstValue}
 use Rattle.rawk_travel.specs.Moving.{ending_of}
 use Rattle.rawk_machine.specs.declared.last.Last.{Last}
 use Rattle.rawk_machine.specs.declared.last.Last.TheVariants as last
-use Rattle.rawk_machine.specs.Standing.{Standing, Earlier, Past, Seen, seen, gone_back, taken_back, set_made}
-use Rattle.rawk_machine.specs.Kept.{moment_in, but_last, below, newest_first, back_in, unsets, pasts, globals_forth, record_forth, seen_forth, Chain}
+use Rattle.rawk_machine.specs.Standing.{Standing, Earlier, Past, Seen, gone_back, taken_back, set_made}
+use Rattle.rawk_machine.specs.Kept.{moment_in, but_last, below, newest_first, back_in, unsets, pasts, globals_forth, record_forth, Chain}
 use Rattle.rawk_machine.specs.Stood.{standing_of}
 use Rattle.rawk_machine.proofs.Chains.{pasts_unset, pasts_set, unsets_set}
 

@@ -1,6 +1,6 @@
 -- Groups that are put back one after another.
 use Rattle.std.proofs.Common.{◌≡◌, ℕ, ◌+◌, ◌-◌, ◌<◌, ◌≤◌, List, [], ◌∷◌, ◌++◌, length, get_or, set, take, drop, reverse, refl, sym, ap, ◌∙◌, subst, arith}
-use Rattle.std.proofs.lemmas.List.{get_or-take, take_more, drop_more, drop-set, take-take, take-set, length-set, reverse-append}
+use Rattle.std.proofs.lemmas.List.{get_or-take, take_more, drop_more, drop-set, take-take, reverse-append}
 use Rattle.rawk_value.specs.declared.value.Value.{Value}
 use Rattle.rawk_record.specs.Shown.{Shown, record_back}
 use Rattle.rawk_store.specs.declared.store.Group.{Group}

@@ -4,7 +4,7 @@ use Rattle.rawk_store.specs.declared.store.Group.{Group}
 use Rattle.rawk_store.specs.declared.keeper.Kept.{Kept}
 use Rattle.rawk_store.specs.Layout.{Layout}
 use Rattle.rawk_store.specs.GroupBack.{FitsIn, put_back}
-use Rattle.rawk_store.specs.Keeping.{IsFront, room, keeps_any}
+use Rattle.rawk_store.specs.Keeping.{IsFront, room}
 
 -- the step, with the groups of the sets made at the point that it left
 pub record KeepsStep (start now : Layout) (old new : List Kept) (here : List Group) (limit : Option ℕ) : Type 0 where

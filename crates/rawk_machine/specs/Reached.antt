@@ -1,5 +1,5 @@
 -- Where a machine stands, its code's run has reached.
-use Rattle.std.proofs.Common.{◌≡◌, ℕ, ◌+◌, Bool, true, false, List, [], ◌∷◌, ◌++◌, length, Option, None, Some, refl, sym, ap, ◌∙◌, subst, if◌then◌else◌}
+use Rattle.std.proofs.Common.{◌≡◌, ℕ, ◌+◌, Bool, false, List, [], ◌∷◌, ◌++◌, length, Option, None, Some, sym, ap, ◌∙◌, subst, if◌then◌else◌}
 use Rattle.std.specs.Prelude.{slice_get, nat_eq}
 use Rattle.rawk_value.specs.declared.value.Value.{Value}
 use Rattle.rawk_value.specs.Values.{Bytes}
@@ -11,10 +11,10 @@ use Rattle.rawk_code.specs.Listing.{Listing}
 use Rattle.rawk_code.specs.Actions.{Point, Run, Ending, Given, SetAt, sets_at, all_set, Outcome, Goes, Breaks, Stops}
 use Rattle.rawk_code.specs.Actions as actions
 use Rattle.rawk_code.specs.Trace.{site_at_end}
-use Rattle.rawk_code.specs.Machine.{Config, Going, Over, Phase, act, step, steps, goes_on}
-use Rattle.rawk_code.specs.Correct.{first, places_of, after}
+use Rattle.rawk_code.specs.Machine.{Config, Going, Over, Phase, act, step, goes_on}
+use Rattle.rawk_code.specs.Correct.{first, places_of}
 use Rattle.rawk_code.specs.Steps.{steps_add}
-use Rattle.rawk_machine.specs.Standing.{Standing, Ground, Moment, StandsAt, Arrived, HasReached, IsAt, run_under, whole, whole_state, run_at, config_at, SiteFits, given_of, ground_of, moment_of}
+use Rattle.rawk_machine.specs.Standing.{Standing, Ground, Moment, StandsAt, Arrived, HasReached, IsAt, run_under, whole, run_at, config_at, SiteFits, ground_of, moment_of}
 
 -- what a point does, by the sets, by whether the limit is met, and by the number of points
 abbrev pub pointed : Option ℕ → Run → (Run → Config) → List SetAt → Bool → ℕ → Config

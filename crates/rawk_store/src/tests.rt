@@ -1,6 +1,6 @@
 //! The calls of the store with ample memory, once each.
 
-use crate::{Current, FieldRef, Keeper, Off, Phase, Registers, Store};
+use crate::{Current, Keeper, Off, Phase, Registers, Store};
 use rawk_value::Value;
 use std::test::Fail;
 
@@ -20,13 +20,6 @@ fn number(value: Option<&Value>) -> i64 {
     match value {
         Some(Value::Number(n)) => *n,
         _ => -1,
-    }
-}
-
-fn piece<'a>(field: Option<FieldRef<'a>>) -> &'a [u8] {
-    match field {
-        Some(FieldRef::Piece(bytes)) => bytes,
-        _ => b"?",
     }
 }
 
@@ -51,24 +44,6 @@ fn a_step_and_its_undo(rt: HostRuntime) -> Result<(), Fail> {
     assert_eq!(rt; store.operands.len(), 0);
     assert_eq!(rt; store.output.bytes(), b"".as_slice());
     assert_eq!(rt; store.registers.now.place, 0);
-    Ok(())
-}
-
-#[test]
-fn a_record_and_its_undo(rt: HostRuntime) -> Result<(), Fail> {
-    let alloc = rt.alloc();
-    let mut current = Current::new(alloc);
-    current.read(alloc, b"one two", b" ", false)?;
-    current.forget();
-    current.read(alloc, b"a:b::c", b":", false)?;
-    assert_eq!(rt; current.field_count(), 4);
-    assert_eq!(rt; piece(current.field(2)), b"b".as_slice());
-    assert_eq!(rt; piece(current.field(4)), b"c".as_slice());
-    assert_eq!(rt; piece(current.field(5)), b"?".as_slice());
-    let mut earlier = current.finish(alloc);
-    current.undo(&mut earlier);
-    assert_eq!(rt; current.text(), b"one two".as_slice());
-    assert_eq!(rt; piece(current.field(2)), b"two".as_slice());
     Ok(())
 }
 

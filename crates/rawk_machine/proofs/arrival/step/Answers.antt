@@ -1,5 +1,4 @@
-use Rattle.std.proofs.Common.{◌∙◌, ap}
-use Rattle.rawk_travel.specs.Moving.{moving, moving_of}
+use Rattle.rawk_travel.specs.Moving.{moving}
 use Rattle.rawk_machine.proofs.Arrivals.{step_arrives}
 use Rattle.rawk_machine.proofs.arrival.step.Goals as goal
 

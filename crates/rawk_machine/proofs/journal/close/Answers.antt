@@ -1,5 +1,4 @@
-use Rattle.std.proofs.Common.{◌≡◌, true, ap, List}
-use Rattle.rawk_store.specs.declared.store.Group.{Group}
+use Rattle.std.proofs.Common.{◌≡◌, true, ap}
 use Rattle.rawk_store.specs.Keeping.{keeps_any}
 use Rattle.rawk_store.specs.Stores.{now_of, start_of}
 use Rattle.rawk_machine.proofs.Journals.{closes_by}

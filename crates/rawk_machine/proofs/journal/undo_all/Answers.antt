@@ -1,9 +1,7 @@
-use Rattle.std.proofs.Common.{◌≡◌, ◌-◌, ◌≤◌, ◌∙◌, ap, sym, subst, arith, get_or, length, take, reverse}
+use Rattle.std.proofs.Common.{◌≡◌, ◌-◌, ◌≤◌, ◌∙◌, sym, subst, arith, get_or, length, take, reverse}
 use Rattle.std.proofs.lemmas.List.{length-set, take-set}
-use Rattle.rawk_store.specs.declared.store.Group.{Group}
 use Rattle.rawk_store.specs.Layout.{Layout}
 use Rattle.rawk_store.specs.Stacked.{IsLive}
-use Rattle.rawk_store.specs.GroupBack.{put_back}
 use Rattle.rawk_store.specs.Growth.{IsLive-put_back}
 use Rattle.rawk_store.specs.Stores.{now_of}
 use Rattle.rawk_machine.specs.Closing.{FitAll}

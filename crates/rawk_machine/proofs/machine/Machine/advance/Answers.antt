@@ -1,4 +1,4 @@
-use Rattle.std.proofs.Common.{◌≡◌, ℕ, ◌+◌, ◌≤◌, List, [], length, reverse, refl, sym, ap, ◌∙◌, subst, arith, Option, None}
+use Rattle.std.proofs.Common.{◌≡◌, ℕ, ◌+◌, List, [], length, reverse, refl, sym, ap, ◌∙◌, subst, arith, Option, None}
 use Rattle.rawk_store.specs.declared.store.Group.{Group}
 use Rattle.rawk_store.specs.declared.keeper.Kept.{Kept}
 use Rattle.rawk_store.specs.declared.registers.Registers.{Registers}
@@ -11,7 +11,7 @@ use Rattle.std.specs.Option.{option_map}
 use Rattle.rawk_machine.specs.Standing.{Standing, Moment, Past, IsAt, MovesOn, ground_of, moment_of}
 use Rattle.rawk_machine.specs.Kept.{IsPlaced, moment_in, unsets, pasts, before_of, Chain, Few}
 use Rattle.rawk_machine.specs.Stood.{standing_of, IsBelow}
-use Rattle.rawk_machine.specs.Arrival.{ends_quietly, EndsByRead}
+use Rattle.rawk_machine.specs.Arrival.{ends_quietly}
 use Rattle.rawk_machine.proofs.SetLists.{none_at, ends_below}
 use Rattle.rawk_machine.proofs.Chains.{ends_with, fit_here, chain-grown, chain-size, moment-grown, unsets-grown, pasts-grown}
 use Rattle.rawk_machine.proofs.Journals.{moved, few_moved}

@@ -1,9 +1,7 @@
-use Rattle.std.proofs.Common.{◌≡◌, ◌≤◌, ◌+◌, ◌∙◌, List, [], length, reverse, ap, sym, subst, arith}
-use Rattle.rawk_code.specs.Actions.{SetAt}
-use Rattle.rawk_store.specs.declared.store.Group.{Group}
+use Rattle.std.proofs.Common.{◌≤◌, ◌+◌, length, reverse, ap, sym, subst, arith}
 use Rattle.rawk_store.specs.Stores.{now_of}
 use Rattle.rawk_machine.specs.Kept.{AllBelow, Few}
-use Rattle.rawk_machine.specs.Standing.{Standing, MayCome, LastMade}
+use Rattle.rawk_machine.specs.Standing.{Standing, LastMade}
 use Rattle.rawk_machine.proofs.SetLists.{ends_below}
 use Rattle.rawk_machine.proofs.Chains.{ends_with, length-pasts, last_here}
 use Rattle.rawk_machine.proofs.Journals.{chain_short}

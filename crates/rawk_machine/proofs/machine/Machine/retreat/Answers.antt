@@ -1,4 +1,4 @@
-use Rattle.std.proofs.Common.{◌≡◌, ℕ, ◌-◌, List, ◌∷◌, length, reverse, refl, sym, ap, ◌∙◌, subst, arith, Option, None}
+use Rattle.std.proofs.Common.{◌≡◌, ℕ, ◌-◌, List, ◌∷◌, length, reverse, sym, ap, ◌∙◌, subst, arith, Option, None}
 use Rattle.rawk_tape.specs.Tapes.{Held}
 use Rattle.rawk_store.specs.declared.store.Group.{Group}
 use Rattle.rawk_store.specs.declared.keeper.Kept.{Kept}
@@ -8,9 +8,9 @@ use Rattle.rawk_store.specs.Growth.{IsLive-put_back}
 use Rattle.rawk_store.specs.Stores.{now_of}
 use Rattle.rawk_code.specs.Actions.{SetAt}
 use Rattle.rawk_machine.specs.declared.last.Last.TheVariants.{Back}
-use Rattle.rawk_machine.specs.Standing.{Standing, Past, Stood, gone_back}
-use Rattle.rawk_machine.specs.Kept.{IsPlaced, below, all_back, back_in, newest_first, pasts, globals_forth, record_forth, Chain, Few}
-use Rattle.rawk_machine.specs.Stood.{standing_of, IsBelow}
+use Rattle.rawk_machine.specs.Standing.{Standing, Stood, gone_back}
+use Rattle.rawk_machine.specs.Kept.{below, all_back, back_in, newest_first, pasts, globals_forth, record_forth, Chain, Few}
+use Rattle.rawk_machine.specs.Stood.{standing_of}
 use Rattle.rawk_machine.specs.Arrival.{ends_quietly}
 use Rattle.rawk_machine.proofs.Chains.{fit_here}
 use Rattle.rawk_machine.proofs.Journals.{fit_groups, few_less}

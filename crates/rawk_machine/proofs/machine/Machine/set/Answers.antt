@@ -1,4 +1,4 @@
-use Rattle.std.proofs.Common.{◌≡◌, ℕ, List, [], ◌∷◌, ◌++◌, length, reverse, refl, sym, ap, ◌∙◌, subst, arith, Option, None}
+use Rattle.std.proofs.Common.{◌≡◌, List, [], ◌∷◌, ◌++◌, length, reverse, refl, sym, ap, ◌∙◌, subst, arith}
 use Rattle.std.specs.Prelude.{slice_set}
 use Rattle.std.proofs.lemmas.List.{reverse-append}
 use Rattle.rawk_value.specs.declared.value.Value.{Value}
@@ -9,7 +9,7 @@ use Rattle.rawk_store.specs.Layout.{Layout}
 use Rattle.rawk_store.specs.Stacked.{IsLive}
 use Rattle.rawk_store.specs.Growth.{Grown-refl}
 use Rattle.rawk_store.specs.Saving.{saved_in}
-use Rattle.rawk_store.specs.GroupBack.{FitsIn, put_back}
+use Rattle.rawk_store.specs.GroupBack.{put_back}
 use Rattle.rawk_store.specs.Stores.{now_of}
 use Rattle.rawk_code.specs.Actions.{SetAt}
 use Rattle.rawk_machine.specs.declared.last.Last.TheVariants.{Nothing}

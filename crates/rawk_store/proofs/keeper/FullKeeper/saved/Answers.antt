@@ -1,4 +1,4 @@
-use Rattle.std.proofs.Common.{◌≡◌, ◌∙◌, ◌<◌, ◌^◌, ap, subst, sym}
+use Rattle.std.proofs.Common.{◌∙◌, ◌<◌, ◌^◌, ap, subst, sym}
 use Rattle.rawk_store.specs.Saving.{saved_by_all, saved_by_all-reverse}
 use Rattle.rawk_store.proofs.keeper.FullKeeper.saved.Goals as goal
 
