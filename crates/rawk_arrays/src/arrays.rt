@@ -269,15 +269,23 @@ impl Arrays {
         group
     }
 
-    /// Ends the step, and forgets what it changed. Where most slots were emptied, those that are empty are removed, and so are those of
-    /// array numbers that are not in use; where memory for that is refused, they stay.
-    pub fn forget(&mut self, alloc: Global)
-        ensures now { arrays_of self.new.now ≡ arrays_of self.old.now }
-        ensures rest { self.new.start ≡ self.new.now }
+    /// Ends the step, and forgets what it changed. It takes no memory.
+    pub fn forget(&mut self)
+        ensures now { self.new ≡ at_rest self.old.now }
         ensures laid { IsLaid self.old.now.names self.old.now.slots }
     {
         self.cells.forget();
         self.began = self.live;
+    }
+
+    /// Removes the slots that are empty, and those of array numbers that are not in use, where most slots were emptied. What leads back to earlier
+    /// steps fits no more then. Where memory for that is refused, the slots stay. Each slot is so moved once on average.
+    pub fn pack(&mut self, alloc: Global)
+        requires { self.old.start ≡ self.old.now }
+        ensures now { arrays_of self.new.now ≡ arrays_of self.old.now }
+        ensures rest { self.new.start ≡ self.new.now }
+        ensures laid { IsLaid self.new.now.names self.new.now.slots }
+    {
         if self.emptied / 2 > self.cells.len() / 4 + FEW {
             self.emptied = 0;
             pack(alloc, &mut self.names, &mut self.cells, self.live);
@@ -297,10 +305,12 @@ impl Arrays {
     pub fn undo(&mut self, group: &mut ArraysGroup)
         requires { FitsArrays group.old self.old.now }
         ensures now { self.new ≡ at_rest (arrays_back self.old.now group.old) }
-        ensures newer { back self.new.now.slots group.new.slots.entries.items ≡ self.old.now.slots }
+        ensures newer { arrays_back self.new.now group.new ≡ self.old.now }
     {
         self.cells.undo(&mut group.slots);
-        self.live = group.live;
-        self.began = group.live;
+        let live = group.live;
+        group.live = self.live;
+        self.live = live;
+        self.began = live;
     }
 }

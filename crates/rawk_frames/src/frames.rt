@@ -179,10 +179,11 @@ impl Frames {
         self.locals.undo_step();
     }
 
-    /// Puts back what a step that ended changed. It takes no memory and always succeeds.
+    /// Puts back what a step that ended changed, and leaves the newer activations in the group. It takes no memory and always succeeds.
     pub fn undo(&mut self, group: &mut FramesGroup)
         requires { FitsFrames group.old self.old.now }
-        ensures { self.new ≡ at_rest (frames_back self.old.now group.old) }
+        ensures now { self.new ≡ at_rest (frames_back self.old.now group.old) }
+        ensures newer { frames_back self.new.now group.new ≡ self.old.now }
     {
         self.frames.undo(&mut group.frames);
         self.locals.undo(&mut group.locals);

@@ -129,10 +129,11 @@ impl KeysLeft {
         self.visited.undo_step();
     }
 
-    /// Puts back what a step that ended changed. It takes no memory and always succeeds.
+    /// Puts back what a step that ended changed, and leaves the newer keys in the group. It takes no memory and always succeeds.
     pub fn undo(&mut self, group: &mut KeysLeftGroup)
         requires { FitsKeys group.old self.old.now }
-        ensures { self.new ≡ at_rest (keys_back self.old.now group.old) }
+        ensures now { self.new ≡ at_rest (keys_back self.old.now group.old) }
+        ensures newer { keys_back self.new.now group.new ≡ self.old.now }
     {
         self.lists.undo(&mut group.lists);
         self.visited.undo(&mut group.visited);

@@ -1,11 +1,13 @@
 //! Slots and stacks that go back to how they stood when a step began.
 #![tactic(auto)]
 
+pub mod reversible;
 pub mod saved;
 pub mod slot_group;
 pub mod slots;
 pub mod stack;
 
+pub use reversible::Reversible;
 pub use saved::Saved;
 pub use slot_group::{SlotGroup, led_to};
 pub use slots::Slots;

@@ -5,6 +5,7 @@ ghost use Rattle.std.specs.Option.{option_copied};
 ghost use Rattle.rawk_slots.specs.Back.{back, AreBelow};
 ghost use Rattle.rawk_slots.specs.Journaled.{Longer, at_rest};
 
+use crate::reversible::Reversible;
 use crate::saved::{Saved, is_saved, swap_back};
 use crate::slot_group::SlotGroup;
 use std::alloc::{AllocError, Global};
@@ -154,5 +155,37 @@ impl<T: Drop> Slots<T> {
     {
         self.saved.clear();
         swap_back(&mut self.items, &mut group.entries);
+    }
+}
+
+/// A value for a slot, by its number from 0; a number that is no slot changes nothing.
+#[derive(Drop)]
+pub struct Write<T> {
+    pub place: usize,
+    pub value: T,
+}
+
+impl<T: Drop> Reversible for Slots<T> {
+    ghost use Rattle.std.specs.Prelude.{◌≡◌, length, slice_set};
+    ghost use Rattle.rawk_slots.specs.Back.{back, AreBelow};
+
+    type Change = Write<T>;
+
+    type Undo = SlotGroup<T>;
+
+    ghost grown = { λ old new. new.now ≡ old.now };
+
+    ghost makes = { λ old change new. new.now ≡ slice_set old.now change.place change.value };
+
+    ghost leads_back = { λ now undo earlier. AreBelow (length now.now) undo.entries.items × (back now.now undo.entries.items ≡ earlier.now) };
+
+    fn apply(&mut self, alloc: Global, change: Write<T>) -> Result<SlotGroup<T>, AllocError> {
+        self.forget();
+        self.set(change.place, change.value)?;
+        Ok(self.finish(alloc))
+    }
+
+    fn undo(&mut self, undo: &mut SlotGroup<T>) {
+        self.undo(undo);
     }
 }

@@ -175,13 +175,16 @@ impl<T: Drop> Stack<T> {
         self.live = self.began;
     }
 
-    /// Puts back what a step that ended changed. It takes no memory and always succeeds.
+    /// Puts back what a step that ended changed, and leaves the newer values in the group. It takes no memory and always succeeds.
     pub fn undo(&mut self, group: &mut StackGroup<T>)
         requires { FitsStack group.old self.old.now }
-        ensures { self.new ≡ at_rest (stack_back self.old.now group.old) }
+        ensures now { self.new ≡ at_rest (stack_back self.old.now group.old) }
+        ensures newer { stack_back self.new.now group.new ≡ self.old.now }
     {
         self.slots.undo(&mut group.slots);
-        self.live = group.live;
-        self.began = group.live;
+        let live = group.live;
+        group.live = self.live;
+        self.live = live;
+        self.began = live;
     }
 }

@@ -10,5 +10,5 @@ invariant_of-self c =
     let s = c.self.inside in
     let g = c.args.group.now in
     let fits : FitsFrames g (record { frames = s.frames.now; locals = s.locals.now }) = rw (ap (λ w. w.now) c.self.view_is) c.requires in
-    rw (c.undo.ensures, c.undo-2.ensures)
+    rw (c.undo.ensures.now, c.undo-2.ensures.now)
     (frames_rest (stack_back s.frames.now g.frames) (stack_back s.locals.now g.locals) fits.nested (IsLive-stack_back s.frames.now g.frames fits.frames) (IsLive-stack_back s.locals.now g.locals fits.locals))

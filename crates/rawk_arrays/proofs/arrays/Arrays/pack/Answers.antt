@@ -3,11 +3,11 @@ use Rattle.rawk_value.specs.declared.value.Value.{Value}
 use Rattle.rawk_slots.specs.Journaled.{Journaled}
 use Rattle.rawk_arrays.specs.Laid.{Laid, arrays_of, elements_of}
 use Rattle.rawk_arrays.specs.ListLaws.{same_arrays}
-use Rattle.rawk_arrays.proofs.arrays.Arrays.forget.Goals as goal
+use Rattle.rawk_arrays.proofs.arrays.Arrays.pack.Goals as goal
 
 pub returns-then-self-len-clause-now : goal.returns-then-self-len-clause-now
 returns-then-self-len-clause-now c =
     let s = c.self.inside in
     let l : Laid = record { names = s.names; slots = s.cells.now; live = s.live } in
     let m : Laid = record { names = c.pack.new.names; slots = c.pack.new.cells.now; live = s.live } in
-    same_arrays l m refl (λ b lt. c.pack.ensures.same b lt ∙ ap (λ (j : Journaled (List (Option Value))). elements_of b s.names j.now) c.forget.ensures) ∙ ap (λ w. arrays_of w.now) c.self.view_is
+    same_arrays l m refl (λ b lt. c.pack.ensures.same b lt) ∙ ap (λ w. arrays_of w.now) c.self.view_is
