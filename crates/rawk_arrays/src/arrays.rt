@@ -306,6 +306,7 @@ impl Arrays {
         requires { FitsArrays group.old self.old.now }
         ensures now { self.new ≡ at_rest (arrays_back self.old.now group.old) }
         ensures newer { arrays_back self.new.now group.new ≡ self.old.now }
+        ensures laid { IsLaid self.new.now.names self.new.now.slots }
     {
         self.cells.undo(&mut group.slots);
         let live = group.live;

@@ -5,7 +5,7 @@ ghost use Rattle.std.specs.Option.{option_copied};
 ghost use Rattle.rawk_slots.specs.Journaled.{at_rest};
 ghost use Rattle.rawk_slots.specs.Stacked.{live_slots, live_values};
 ghost use Rattle.rawk_frames.specs.Frame.{Frame, IsOf, locals_now, new_frame, with_local, with_more};
-ghost use Rattle.rawk_frames.specs.LaidFrames.{AreNested, GrownFrames, IsPlace, frames_from, frames_of, no_frames};
+ghost use Rattle.rawk_frames.specs.LaidFrames.{AreSoundFrames, GrownFrames, IsPlace, frames_from, frames_of, no_frames};
 ghost use Rattle.rawk_frames.specs.FramesBack.{FitsFrames, frames_back};
 
 use rawk_slots::{Stack, StackGroup};
@@ -153,7 +153,7 @@ impl Frames {
         ensures now { self.new ≡ at_rest self.old.now }
         ensures back { frames_back self.old.now result ≡ self.old.start }
         ensures fits { FitsFrames result self.old.now }
-        ensures nested { AreNested self.old.now }
+        ensures sound { AreSoundFrames self.old.now }
     {
         FramesGroup {
             frames: self.frames.finish(alloc),
@@ -164,7 +164,7 @@ impl Frames {
     /// Ends the step, and forgets what it changed. It takes no memory.
     pub fn forget(&mut self)
         ensures now { self.new ≡ at_rest self.old.now }
-        ensures nested { AreNested self.old.now }
+        ensures sound { AreSoundFrames self.old.now }
     {
         self.frames.forget();
         self.locals.forget();
@@ -173,7 +173,7 @@ impl Frames {
     /// Puts back what the step in progress changed. It takes no memory and always succeeds.
     pub fn undo_step(&mut self)
         ensures now { self.new ≡ at_rest self.old.start }
-        ensures nested { AreNested self.old.start }
+        ensures sound { AreSoundFrames self.old.start }
     {
         self.frames.undo_step();
         self.locals.undo_step();
@@ -184,6 +184,7 @@ impl Frames {
         requires { FitsFrames group.old self.old.now }
         ensures now { self.new ≡ at_rest (frames_back self.old.now group.old) }
         ensures newer { frames_back self.new.now group.new ≡ self.old.now }
+        ensures sound { AreSoundFrames self.new.now }
     {
         self.frames.undo(&mut group.frames);
         self.locals.undo(&mut group.locals);

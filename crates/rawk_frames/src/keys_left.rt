@@ -134,6 +134,7 @@ impl KeysLeft {
         requires { FitsKeys group.old self.old.now }
         ensures now { self.new ≡ at_rest (keys_back self.old.now group.old) }
         ensures newer { keys_back self.new.now group.new ≡ self.old.now }
+        ensures live { AreKeysLive self.new.now }
     {
         self.lists.undo(&mut group.lists);
         self.visited.undo(&mut group.visited);

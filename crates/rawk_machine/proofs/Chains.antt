@@ -1,54 +1,70 @@
 -- The groups that are kept lead back from point to point.
 use Rattle.std.proofs.Common.{◌≡◌, ℕ, suc, ◌+◌, ◌-◌, ◌≤◌, List, [], ◌∷◌, ◌++◌, length, refl, sym, ap, ◌∙◌, subst, arith}
+use Rattle.rawk_value.specs.Values.{Bytes}
 use Rattle.rawk_value.specs.declared.value.Value.{Value}
+use Rattle.rawk_store.specs.declared.registers.Registers.{Registers}
 use Rattle.rawk_store.specs.declared.store.Group.{Group}
 use Rattle.rawk_store.specs.declared.keeper.Kept.{Kept}
-use Rattle.rawk_store.specs.Layout.{Layout, Grown, grown}
-use Rattle.rawk_store.specs.Stacked.{IsLive}
+use Rattle.rawk_store.specs.State.{State}
+use Rattle.rawk_store.specs.Layout.{Layout, Grown, IsSound, keys, operands, state}
 use Rattle.rawk_store.specs.Saving.{saved_in}
 use Rattle.rawk_store.specs.GroupBack.{FitsIn, put_back}
-use Rattle.rawk_store.specs.Growth.{operands-grown, put_back-grown, FitsIn-grown, IsLive-put_back}
+use Rattle.rawk_store.specs.Growth.{state-grown, operands-grown, keys-grown, Grown-put_back, FitsIn-grown, IsSound-put_back}
 use Rattle.rawk_store.specs.Keeping.{IsFront}
+use Rattle.std.specs.Option.{option_map}
 use Rattle.std.proofs.lemmas.List.{append-nil}
 use Rattle.rawk_code.specs.Actions.{SetAt, sets_at}
+use Rattle.rawk_travel.specs.Moving.{phase_of, ending_of}
 use Rattle.rawk_machine.specs.Standing.{Moment, Earlier, Past, LastMade}
 use Rattle.rawk_machine.specs.Kept.{moment_in, newest_first, but_last, below, all_back, unsets, back_in, pasts, IsPlaced, FitHere, EndsWith, Chain}
 use Rattle.rawk_machine.proofs.SetLists.{ends_next, below_next, ends_push, below_push, LastSet, last_set, below_but_last, take_front, none_at}
 
-by_grown : (l : Layout) (more : List Value) → Grown l (grown l more)
-by_grown l more = record { more = more; is = refl }
+abbrev moment_by : State → List Value → List (List Bytes) → Registers → Moment
+moment_by s vs ks r = record {
+  state = s;
+  operands = vs;
+  keys = ks;
+  returns = [];
+  place = r.place;
+  phase = phase_of r.phase;
+  ending = option_map ending_of r.ending;
+  site = r.site;
+}
 
-pub moment-grown : (l : Layout) (more : List Value) → IsLive l.operands → moment_in (grown l more) ≡ moment_in l
-moment-grown l more h = ap (λ (vs : List Value). record (moment_in l) { operands = vs }) (operands-grown l (grown l more) (by_grown l more) h)
+pub moment-grown : (l m : Layout) → Grown l m → IsSound l → IsSound m → moment_in m ≡ moment_in l
+moment-grown l m g h k =
+    ap (λ (s : State). moment_by s (operands m) (keys m) m.registers) (state-grown l m g h k)
+    ∙ ap (λ (vs : List Value). moment_by (state l) vs (keys m) m.registers) (operands-grown l m g h)
+    ∙ ap (λ (ks : List (List Bytes)). moment_by (state l) (operands l) ks m.registers) (keys-grown l m g h)
+    ∙ ap (λ (r : Registers). moment_by (state l) (operands l) (keys l) r) g.registers
 
-fits-grown : (l : Layout) (more : List Value) (g : Group) → FitsIn g l → FitsIn g (grown l more)
-fits-grown l more g h = FitsIn-grown l (grown l more) g (by_grown l more) h
+placed-grown : (l m : Layout) (point size : ℕ) → Grown l m → IsPlaced l point size → IsPlaced m point size
+placed-grown l m point size g p = let e = ap (λ (r : Registers). r.consumed) g.registers in
+    record { goes = ap (λ (r : Registers). r.ending) g.registers ∙ p.goes; here = ap (λ (r : Registers). r.here) g.registers ∙ p.here; consumed = omega (arith, e, p.consumed) }
 
-here-grown : (l : Layout) (more : List Value) (point size : ℕ) (here : List Group) → FitHere l point size here → FitHere (grown l more) point size here
-here-grown l more point size [] h = tt
-here-grown l more point size (g ∷ gs) (f, p, h) =
-    let e = sym (put_back-grown l g more f) in (
-      fits-grown l more g f,
-      subst (λ (m : Layout). IsPlaced m point size) e (record { goes = p.goes; here = p.here; consumed = p.consumed }),
-      subst (λ (m : Layout). FitHere m point size gs) e (here-grown (put_back l g) more point size gs h),
-    )
+here-grown : (l m : Layout) (point size : ℕ) (here : List Group) → Grown l m → FitHere l point size here → FitHere m point size here
+here-grown l m point size [] grew h = tt
+here-grown l m point size (g ∷ gs) grew (f, p, h) =
+    let next = Grown-put_back l m g grew f in (FitsIn-grown l m g grew f, placed-grown (put_back l g) (put_back m g) point size next p, here-grown (put_back l g) (put_back m g) point size gs next h)
 
-all_back-grown : (l : Layout) (more : List Value) (point size : ℕ) (here : List Group) → FitHere l point size here → all_back (grown l more) here ≡ grown (all_back l here) more
-all_back-grown l more point size [] h = refl
-all_back-grown l more point size (g ∷ gs) (f, p, h) = ap (λ (m : Layout). all_back m gs) (put_back-grown l g more f) ∙ all_back-grown (put_back l g) more point size gs h
+all_back-grown : (l m : Layout) (point size : ℕ) (here : List Group) → Grown l m → FitHere l point size here → Grown (all_back l here) (all_back m here)
+all_back-grown l m point size [] grew h = grew
+all_back-grown l m point size (g ∷ gs) grew (f, p, h) = all_back-grown (put_back l g) (put_back m g) point size gs (Grown-put_back l m g grew f) h
 
-live-all_back : (l : Layout) (point size : ℕ) (here : List Group) → FitHere l point size here → IsLive l.operands → IsLive (all_back l here).operands
-live-all_back l point size [] h live = live
-live-all_back l point size (g ∷ gs) (f, p, h) live = live-all_back (put_back l g) point size gs h (IsLive-put_back l g f)
+pub sound-all_back : (l : Layout) (point size : ℕ) (here : List Group) → FitHere l point size here → IsSound l → IsSound (all_back l here)
+sound-all_back l point size [] h sound = sound
+sound-all_back l point size (g ∷ gs) (f, p, h) sound = sound-all_back (put_back l g) point size gs h (IsSound-put_back l g f sound)
 
-pub unsets-grown : (l : Layout) (more : List Value) (point size : ℕ) (sets : List SetAt) (here : List Group) → FitHere l point size here → unsets (grown l more) sets here ≡ unsets l sets here
-unsets-grown l more point size sets [] h = refl
-unsets-grown l more point size sets (g ∷ gs) (f, p, h) =
-    let m = put_back l g in
-    let e = put_back-grown l g more f in
-    ap (λ (x : Layout). record { moment = moment_in x; sets = but_last sets; saved = saved_in g } ∷ unsets x (but_last sets) gs) e
-    ∙ ap (λ (x : Moment). record { moment = x; sets = but_last sets; saved = saved_in g } ∷ unsets (grown m more) (but_last sets) gs) (moment-grown m more (IsLive-put_back l g f))
-    ∙ ap (λ (xs : List Earlier). record { moment = moment_in m; sets = but_last sets; saved = saved_in g } ∷ xs) (unsets-grown m more point size (but_last sets) gs h)
+pub unsets-grown : (l m : Layout) (point size : ℕ) (sets : List SetAt) (here : List Group) → Grown l m → IsSound l → IsSound m → FitHere l point size here → unsets m sets here ≡ unsets l sets here
+unsets-grown l m point size sets [] grew sl sm h = refl
+unsets-grown l m point size sets (g ∷ gs) grew sl sm (f, p, h) =
+    let a = put_back l g in
+    let b = put_back m g in
+    let next = Grown-put_back l m g grew f in
+    let sa = IsSound-put_back l g f sl in
+    let sb = IsSound-put_back m g (FitsIn-grown l m g grew f) sm in
+    ap (λ (x : Moment). record { moment = x; sets = but_last sets; saved = saved_in g } ∷ unsets b (but_last sets) gs) (moment-grown a b next sa sb)
+    ∙ ap (λ (xs : List Earlier). record { moment = moment_in a; sets = but_last sets; saved = saved_in g } ∷ xs) (unsets-grown a b point size (but_last sets) gs next sa sb h)
 
 pub fit_here : (l : Layout) (point size : ℕ) (sets : List SetAt) (here : List Group) (items : List Kept) → Chain l point size sets here items → FitHere l point size here
 fit_here l point size sets here [] h = h.0
@@ -58,32 +74,40 @@ pub ends_with : (l : Layout) (point size : ℕ) (sets : List SetAt) (here : List
 ends_with l point size sets here [] h = h.1
 ends_with l point size sets here (item ∷ items) h = h.1
 
-back_in-grown : (l : Layout) (more : List Value) (point size : ℕ) (here : List Group) (item : Kept) → FitHere l point size here → FitsIn item.step (all_back l here) → back_in (grown l more) here item ≡ grown (back_in l here item) more
-back_in-grown l more point size here item h f = ap (λ (m : Layout). put_back m item.step) (all_back-grown l more point size here h) ∙ put_back-grown (all_back l here) item.step more f
+back_in-grown : (l m : Layout) (point size : ℕ) (here : List Group) (item : Kept) → Grown l m → FitHere l point size here → FitsIn item.step (all_back l here) → Grown (back_in l here item) (back_in m here item)
+back_in-grown l m point size here item grew h f = Grown-put_back (all_back l here) (all_back m here) item.step (all_back-grown l m point size here grew h) f
 
-pub chain-grown : (l : Layout) (more : List Value) (point size : ℕ) (sets : List SetAt) (here : List Group) (items : List Kept) → Chain l point size sets here items → Chain (grown l more) point size sets here items
-chain-grown l more point size sets here [] (h, e) = (here-grown l more point size here h, e)
-chain-grown l more point size sets here (item ∷ items) (h, e, z, f, p, c) =
-    let back = sym (back_in-grown l more point size here item h f) in (
-      here-grown l more point size here h,
+sound-back_in : (l : Layout) (point size : ℕ) (here : List Group) (item : Kept) → FitHere l point size here → FitsIn item.step (all_back l here) → IsSound l → IsSound (back_in l here item)
+sound-back_in l point size here item h f sound = IsSound-put_back (all_back l here) item.step f (sound-all_back l point size here h sound)
+
+pub chain-grown : (l m : Layout) (point size : ℕ) (sets : List SetAt) (here : List Group) (items : List Kept) → Grown l m → Chain l point size sets here items → Chain m point size sets here items
+chain-grown l m point size sets here [] grew (h, e) = (here-grown l m point size here grew h, e)
+chain-grown l m point size sets here (item ∷ items) grew (h, e, z, f, p, c) =
+    let a = back_in l here item in
+    let b = back_in m here item in
+    let next = back_in-grown l m point size here item grew h f in (
+      here-grown l m point size here grew h,
       e,
       z,
-      subst (λ (m : Layout). FitsIn item.step m) (sym (all_back-grown l more point size here h)) (fits-grown (all_back l here) more item.step f),
-      subst (λ (m : Layout). IsPlaced m (point - 1) size) back (record { goes = p.goes; here = p.here; consumed = p.consumed }),
-      subst (λ (m : Layout). Chain m (point - 1) size (below point sets) (newest_first item) items) back (chain-grown (back_in l here item) more (point - 1) size (below point sets) (newest_first item) items c),
+      FitsIn-grown (all_back l here) (all_back m here) item.step (all_back-grown l m point size here grew h) f,
+      placed-grown a b (point - 1) size next p,
+      chain-grown a b (point - 1) size (below point sets) (newest_first item) items next c,
     )
 
-pub pasts-grown : (l : Layout) (more : List Value) (point size : ℕ) (sets : List SetAt) (here : List Group) (items : List Kept) → Chain l point size sets here items → pasts (grown l more) sets point here items ≡ pasts l sets point here items
-pasts-grown l more point size sets here [] c = refl
-pasts-grown l more point size sets here (item ∷ items) (h, e, z, f, p, c) =
-    let m = back_in l here item in
+pub pasts-grown : (l m : Layout) (point size : ℕ) (sets : List SetAt) (here : List Group) (items : List Kept) → Grown l m → IsSound l → IsSound m → Chain l point size sets here items → pasts m sets point here items ≡ pasts l sets point here items
+pasts-grown l m point size sets here [] grew sl sm c = refl
+pasts-grown l m point size sets here (item ∷ items) grew sl sm (h, e, z, f, p, c) =
+    let a = back_in l here item in
+    let b = back_in m here item in
     let s = below point sets in
     let new = newest_first item in
+    let next = back_in-grown l m point size here item grew h f in
+    let sa = sound-back_in l point size here item h f sl in
+    let sb = sound-back_in m point size here item (here-grown l m point size here grew h) (FitsIn-grown (all_back l here) (all_back m here) item.step (all_back-grown l m point size here grew h) f) sm in
     let past = λ (x : Moment) (u : List Earlier) (ps : List Past). let y : Past = record { last = record { moment = x; sets = s; saved = saved_in item.step }; unset = u } in y ∷ ps in
-    ap (λ (x : Layout). past (moment_in x) (unsets x s new) (pasts x s (point - 1) new items)) (back_in-grown l more point size here item h f)
-    ∙ ap (λ (x : Moment). past x (unsets (grown m more) s new) (pasts (grown m more) s (point - 1) new items)) (moment-grown m more (IsLive-put_back (all_back l here) item.step f))
-    ∙ ap (λ (u : List Earlier). past (moment_in m) u (pasts (grown m more) s (point - 1) new items)) (unsets-grown m more (point - 1) size s new (fit_here m (point - 1) size s new items c))
-    ∙ ap (λ (ps : List Past). past (moment_in m) (unsets m s new) ps) (pasts-grown m more (point - 1) size s new items c)
+    ap (λ (x : Moment). past x (unsets b s new) (pasts b s (point - 1) new items)) (moment-grown a b next sa sb)
+    ∙ ap (λ (u : List Earlier). past (moment_in a) u (pasts b s (point - 1) new items)) (unsets-grown a b (point - 1) size s new next sa sb (fit_here a (point - 1) size s new items c))
+    ∙ ap (λ (ps : List Past). past (moment_in a) (unsets a s new) ps) (pasts-grown a b (point - 1) size s new items next sa sb c)
 
 here-size : (l : Layout) (point m n : ℕ) (here : List Group) → m ≤ n → FitHere l point m here → FitHere l point n here
 here-size l point m n [] le h = tt
@@ -126,50 +150,45 @@ length-pasts l sets point here [] = refl
 length-pasts l sets point here (item ∷ items) = ap suc (length-pasts (back_in l here item) (below point sets) (point - 1) (newest_first item) items)
 
 -- a step on
-pub chain_step : (l n : Layout) (more : List Value) (point size : ℕ) (sets : List SetAt) (item : Kept) (items : List Kept) → IsPlaced l point size → put_back n item.step ≡ grown l more → FitsIn item.step n →
+pub chain_step : (l n : Layout) (point size : ℕ) (sets : List SetAt) (item : Kept) (items : List Kept) → IsPlaced l point size → Grown l (put_back n item.step) → FitsIn item.step n →
     Chain l point size sets (newest_first item) items → Chain n (point + 1) size sets [] (item ∷ items)
-chain_step l n more point size sets item items placed back fits c =
+chain_step l n point size sets item items placed grew fits c =
     let here = newest_first item in
+    let back = put_back n item.step in
     let ends = ends_with l point size sets here items c in
-    let less : point + 1 - 1 ≡ point = omega arith in
-    let grows = chain-grown l more point size sets here items c in (
+    let less : point + 1 - 1 ≡ point = omega arith in (
       tt,
       ends_next point (length here) sets ends,
       omega arith,
       fits,
-      subst (λ (m : Layout). IsPlaced m (point + 1 - 1) size) (sym back) (subst (λ k. IsPlaced (grown l more) k size) (sym less) (record { goes = placed.goes; here = placed.here; consumed = placed.consumed })),
-      subst (λ (m : Layout). Chain m (point + 1 - 1) size (below (point + 1) sets) here items) (sym back)
-          (subst (λ k. Chain (grown l more) k size (below (point + 1) sets) here items) (sym less)
-          (subst (λ (xs : List SetAt). Chain (grown l more) point size xs here items) (sym (below_next point (length here) sets ends)) grows)),
+      subst (λ k. IsPlaced back k size) (sym less) (placed-grown l back point size grew placed),
+      subst (λ k. Chain back k size (below (point + 1) sets) here items) (sym less)
+          (subst (λ (xs : List SetAt). Chain back point size xs here items) (sym (below_next point (length here) sets ends)) (chain-grown l back point size sets here items grew c)),
     )
 
-pub pasts_step : (l n : Layout) (more : List Value) (point size : ℕ) (sets : List SetAt) (item : Kept) (items : List Kept) → IsLive l.operands → put_back n item.step ≡ grown l more → Chain l point size sets (newest_first item) items →
+pub pasts_step : (l n : Layout) (point size : ℕ) (sets : List SetAt) (item : Kept) (items : List Kept) → IsSound l → IsSound (put_back n item.step) → Grown l (put_back n item.step) → Chain l point size sets (newest_first item) items →
     pasts n sets (point + 1) [] (item ∷ items) ≡ record { last = record { moment = moment_in l; sets = sets; saved = saved_in item.step }; unset = unsets l sets (newest_first item) } ∷ pasts l sets point (newest_first item) items
-pasts_step l n more point size sets item items live back c =
+pasts_step l n point size sets item items sl sb grew c =
     let here = newest_first item in
+    let back = put_back n item.step in
     let same = below_next point (length here) sets (ends_with l point size sets here items c) in
     let less : point + 1 - 1 ≡ point = omega arith in
     let past = λ (x : Moment) (s : List SetAt) (u : List Earlier) (ps : List Past). let y : Past = record { last = record { moment = x; sets = s; saved = saved_in item.step }; unset = u } in y ∷ ps in
-    ap (λ (x : Layout). past (moment_in x) (below (point + 1) sets) (unsets x (below (point + 1) sets) here) (pasts x (below (point + 1) sets) (point + 1 - 1) here items)) back
-    ∙ ap (λ (s : List SetAt). past (moment_in (grown l more)) s (unsets (grown l more) s here) (pasts (grown l more) s (point + 1 - 1) here items)) same
-    ∙ ap (λ (k : ℕ). past (moment_in (grown l more)) sets (unsets (grown l more) sets here) (pasts (grown l more) sets k here items)) less
-    ∙ ap (λ (x : Moment). past x sets (unsets (grown l more) sets here) (pasts (grown l more) sets point here items)) (moment-grown l more live)
-    ∙ ap (λ (u : List Earlier). past (moment_in l) sets u (pasts (grown l more) sets point here items)) (unsets-grown l more point size sets here (fit_here l point size sets here items c))
-    ∙ ap (λ (ps : List Past). past (moment_in l) sets (unsets l sets here) ps) (pasts-grown l more point size sets here items c)
+    ap (λ (s : List SetAt). past (moment_in back) s (unsets back s here) (pasts back s (point + 1 - 1) here items)) same
+    ∙ ap (λ (k : ℕ). past (moment_in back) sets (unsets back sets here) (pasts back sets k here items)) less
+    ∙ ap (λ (x : Moment). past x sets (unsets back sets here) (pasts back sets point here items)) (moment-grown l back grew sl sb)
+    ∙ ap (λ (u : List Earlier). past (moment_in l) sets u (pasts back sets point here items)) (unsets-grown l back point size sets here grew sl sb (fit_here l point size sets here items c))
+    ∙ ap (λ (ps : List Past). past (moment_in l) sets (unsets l sets here) ps) (pasts-grown l back point size sets here items grew sl sb c)
 
 -- a set
-pub chain_set : (l n : Layout) (more : List Value) (point size : ℕ) (sets : List SetAt) (e : SetAt) (g : Group) (here : List Group) (items : List Kept) → IsPlaced l point size → put_back n g ≡ grown l more → FitsIn g n → e.point ≡ point →
+pub chain_set : (l n : Layout) (point size : ℕ) (sets : List SetAt) (e : SetAt) (g : Group) (here : List Group) (items : List Kept) → IsPlaced l point size → put_back n g ≡ l → FitsIn g n → e.point ≡ point →
     Chain l point size sets here items → Chain n point size (sets ++ e ∷ []) (g ∷ here) items
-chain_set l n more point size sets e g here items placed back fits of c = by items (chain-grown l more point size sets here items c)
+chain_set l n point size sets e g here items placed back fits of c = by items c
   where
-    set_here : FitHere (grown l more) point size here → FitHere n point size (g ∷ here)
-    set_here h = (
-      fits,
-      subst (λ (m : Layout). IsPlaced m point size) (sym back) (record { goes = placed.goes; here = placed.here; consumed = placed.consumed }),
-      subst (λ (m : Layout). FitHere m point size here) (sym back) h,
-    )
+    set_here : FitHere l point size here → FitHere n point size (g ∷ here)
+    set_here h = (fits, subst (λ (m : Layout). IsPlaced m point size) (sym back) placed, subst (λ (m : Layout). FitHere m point size here) (sym back) h)
 
-    by : (items : List Kept) → Chain (grown l more) point size sets here items → Chain n point size (sets ++ e ∷ []) (g ∷ here) items
+    by : (items : List Kept) → Chain l point size sets here items → Chain n point size (sets ++ e ∷ []) (g ∷ here) items
     by [] (h, k) = (set_here h, ends_push point (length here) sets e k of)
     by (item ∷ items) (h, k, z, f, p, c) = (
       set_here h,
@@ -178,7 +197,7 @@ chain_set l n more point size sets e g here items placed back fits of c = by ite
       subst (λ (m : Layout). FitsIn item.step (all_back m here)) (sym back) f,
       subst (λ (m : Layout). IsPlaced (back_in m here item) (point - 1) size) (sym back) p,
       subst (λ (m : Layout). Chain (back_in m here item) (point - 1) size (below point (sets ++ e ∷ [])) (newest_first item) items) (sym back)
-          (subst (λ (s : List SetAt). Chain (back_in (grown l more) here item) (point - 1) size s (newest_first item) items) (sym (below_push point sets e of)) c),
+          (subst (λ (s : List SetAt). Chain (back_in l here item) (point - 1) size s (newest_first item) items) (sym (below_push point sets e of)) c),
     )
 
 pasts_under : (m n : Layout) (sets sets2 : List SetAt) (point : ℕ) (here here2 : List Group) (items : List Kept) → all_back m here ≡ all_back n here2 → below point sets ≡ below point sets2 → pasts m sets point here items ≡ pasts n sets2 point here2 items
@@ -188,21 +207,14 @@ pasts_under m n sets sets2 point here here2 (item ∷ items) e s =
     let past = λ (x : Layout) (b : List SetAt). let y : Past = record { last = record { moment = moment_in x; sets = b; saved = saved_in item.step }; unset = unsets x b new } in y ∷ pasts x b (point - 1) new items in
     ap (λ (x : Layout). past (put_back x item.step) (below point sets)) e ∙ ap (past (back_in n here2 item)) s
 
-pub pasts_set : (l n : Layout) (more : List Value) (point size : ℕ) (sets : List SetAt) (e : SetAt) (g : Group) (here : List Group) (items : List Kept) → put_back n g ≡ grown l more → e.point ≡ point →
-    Chain l point size sets here items → pasts n (sets ++ e ∷ []) point (g ∷ here) items ≡ pasts l sets point here items
-pasts_set l n more point size sets e g here items back of c =
-    pasts_under n (grown l more) (sets ++ e ∷ []) sets point (g ∷ here) here items (ap (λ (m : Layout). all_back m here) back) (below_push point sets e of) ∙ pasts-grown l more point size sets here items c
+pub pasts_set : (l n : Layout) (point : ℕ) (sets : List SetAt) (e : SetAt) (g : Group) (here : List Group) (items : List Kept) → put_back n g ≡ l → e.point ≡ point → pasts n (sets ++ e ∷ []) point (g ∷ here) items ≡ pasts l sets point here items
+pasts_set l n point sets e g here items back of = pasts_under n l (sets ++ e ∷ []) sets point (g ∷ here) here items (ap (λ (m : Layout). all_back m here) back) (below_push point sets e of)
 
-pub unsets_set : (l n : Layout) (more : List Value) (point size : ℕ) (sets : List SetAt) (e : SetAt) (g : Group) (here : List Group) (items : List Kept) → IsLive l.operands → put_back n g ≡ grown l more → e.point ≡ point →
-    Chain l point size sets here items → unsets n (sets ++ e ∷ []) (g ∷ here) ≡ record { moment = moment_in l; sets = sets; saved = saved_in g } ∷ unsets l sets here
-unsets_set l n more point size sets e g here items live back of c =
-    let ends = ends_push point (length here) sets e (ends_with l point size sets here items c) of in
-    let front : but_last (sets ++ e ∷ []) ≡ sets = take_front sets e in
+pub unsets_set : (l n : Layout) (point : ℕ) (sets : List SetAt) (e : SetAt) (g : Group) (here : List Group) → put_back n g ≡ l → unsets n (sets ++ e ∷ []) (g ∷ here) ≡ record { moment = moment_in l; sets = sets; saved = saved_in g } ∷ unsets l sets here
+unsets_set l n point sets e g here back =
     let all = λ (x : Moment) (s : List SetAt) (u : List Earlier). let y : Earlier = record { moment = x; sets = s; saved = saved_in g } in y ∷ u in
     ap (λ (m : Layout). all (moment_in m) (but_last (sets ++ e ∷ [])) (unsets m (but_last (sets ++ e ∷ [])) here)) back
-    ∙ ap (λ (s : List SetAt). all (moment_in (grown l more)) s (unsets (grown l more) s here)) front
-    ∙ ap (λ (x : Moment). all x sets (unsets (grown l more) sets here)) (moment-grown l more live)
-    ∙ ap (λ (u : List Earlier). all (moment_in l) sets u) (unsets-grown l more point size sets here (fit_here l point size sets here items c))
+    ∙ ap (λ (s : List SetAt). all (moment_in l) s (unsets l s here)) (take_front sets e)
 
 -- a set taken back
 pub chain_unset : (l : Layout) (point size : ℕ) (sets : List SetAt) (g : Group) (here : List Group) (items : List Kept) → Chain l point size sets (g ∷ here) items → Chain (put_back l g) point size (but_last sets) here items

@@ -10,8 +10,6 @@ use Rattle.rawk_store.specs.declared.keeper.Kept.{Kept}
 use Rattle.rawk_store.specs.declared.registers.Ending.{Ending}
 use Rattle.rawk_store.specs.declared.target.Target.TheVariants.{Global}
 use Rattle.rawk_store.specs.Layout.{Layout}
-use Rattle.rawk_store.specs.Stacked.{IsLive}
-use Rattle.rawk_store.specs.Growth.{Grown-refl}
 use Rattle.rawk_store.specs.Saving.{saved_in}
 use Rattle.rawk_store.specs.GroupBack.{put_back}
 use Rattle.rawk_code.specs.Listing.{Listing}
@@ -47,16 +45,14 @@ taken_is {S} code settings steps sets point size tape l executed g here items li
     let old : Standing S = standing_of code settings steps sets point tape l executed (g ∷ here) items limit before in
     ap (λ (ps : List Past). record (taken_back (unsets l sets (g ∷ here)) old) { history = ps }) (pasts_unset l point size sets g here items c)
 
-pub set_is : {S : Type 0} (code : Listing) (settings : List FirstValue) (steps : ℕ) (sets : List SetAt) (point size : ℕ) (tape : Held S) (l : Layout) (executed : ℕ) (g : Group) (here : List Group) (items : List Kept) (limit : Option ℕ) (before : Last) (x : ℕ) (v : Value) → IsLive l.operands →
-    put_back (record l { globals = slice_set l.globals x v }) g ≡ l → Chain l point size sets here items →
+pub set_is : {S : Type 0} (code : Listing) (settings : List FirstValue) (steps : ℕ) (sets : List SetAt) (point : ℕ) (tape : Held S) (l : Layout) (executed : ℕ) (g : Group) (here : List Group) (items : List Kept) (limit : Option ℕ) (before : Last) (x : ℕ) (v : Value) →
+    put_back (record l { globals = slice_set l.globals x v }) g ≡ l →
     standing_of code settings steps (sets ++ (record { point = point; target = Global x; value = v }) ∷ []) point tape (record l { globals = slice_set l.globals x v }) executed (g ∷ here) items limit last.Nothing
     ≡ set_made (saved_in g) (Global x) v (standing_of code settings steps sets point tape l executed here items limit before)
-set_is {S} code settings steps sets point size tape l executed g here items limit before x v live back c =
+set_is {S} code settings steps sets point tape l executed g here items limit before x v back =
     let old : Standing S = standing_of code settings steps sets point tape l executed here items limit before in
     let e : SetAt = record { point = point; target = Global x; value = v } in
     let n : Layout = record l { globals = slice_set l.globals x v } in
-    let none = (Grown-refl l).is in
-    let more = (Grown-refl l).more in
     let with = λ (us : List Earlier) (ps : List Past). record (set_made (saved_in g) (Global x) v old) { unset = us; history = ps } in
-    ap (λ (us : List Earlier). with us (pasts n (sets ++ e ∷ []) point (g ∷ here) items)) (unsets_set l n more point size sets e g here items live (back ∙ none) refl c)
-    ∙ ap (with (record { moment = moment_in l; sets = sets; saved = saved_in g } ∷ unsets l sets here)) (pasts_set l n more point size sets e g here items (back ∙ none) refl c)
+    ap (λ (us : List Earlier). with us (pasts n (sets ++ e ∷ []) point (g ∷ here) items)) (unsets_set l n point sets e g here back)
+    ∙ ap (with (record { moment = moment_in l; sets = sets; saved = saved_in g } ∷ unsets l sets here)) (pasts_set l n point sets e g here items back refl)

@@ -5,7 +5,7 @@ use Rattle.rawk_record.specs.Shown.{Shown, record_back}
 use Rattle.std.specs.Option.{option_map}
 use Rattle.rawk_store.specs.declared.store.Group.{Group}
 use Rattle.rawk_store.specs.declared.keeper.Kept.{Kept}
-use Rattle.rawk_store.specs.Layout.{Layout, state, operands}
+use Rattle.rawk_store.specs.Layout.{Layout, state, operands, keys}
 use Rattle.rawk_store.specs.Back.{back}
 use Rattle.rawk_store.specs.Saving.{saved_in}
 use Rattle.rawk_store.specs.GroupBack.{FitsIn, put_back}
@@ -20,7 +20,7 @@ abbrev pub moment_in : Layout → Moment
 moment_in l = record {
   state = state l;
   operands = operands l;
-  keys = [];
+  keys = keys l;
   returns = [];
   place = l.registers.place;
   phase = phase_of l.registers.phase;

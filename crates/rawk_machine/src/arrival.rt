@@ -4,8 +4,7 @@ ghost use Rattle.std.specs.Prelude.{◌≡◌, ◌<◌, ◌≤◌, ◌+◌, ◌^
 ghost use Rattle.rawk_tape.specs.Records.{Input};
 ghost use Rattle.rawk_tape.specs.Tapes.{MayBe};
 ghost use Rattle.rawk_tape.specs.declared.source.Ending.{Ending as End};
-ghost use Rattle.rawk_store.specs.Layout.{Grown};
-ghost use Rattle.rawk_store.specs.Stacked.{IsLive};
+ghost use Rattle.rawk_store.specs.Layout.{Grown, IsSound};
 ghost use Rattle.rawk_store.specs.Stores.{now_of, start_of};
 ghost use Rattle.rawk_travel.specs.Travel.{HasRoom};
 ghost use Rattle.rawk_travel.specs.Moving.{moving};
@@ -64,7 +63,6 @@ pub fn step<R: Source + Drop>(
     limit: u64,
 ) -> Result<(), AllocError>
     requires rest { start_of store.old ≡ now_of store.old }
-    requires live { IsLive store.old.operands.now }
     requires running { store.old.registers.now.ending ≡ None }
     requires consumed { tape.old.consumed ≡ store.old.registers.now.consumed }
     ensures may { (kept : Input) → MayBe R.may_give tape.new kept → MayBe R.may_give tape.old kept }
@@ -73,7 +71,7 @@ pub fn step<R: Source + Drop>(
     ensures start { OnOk result (Grown (now_of store.old) (start_of store.new)) }
     ensures grown { OnErr result (Grown (now_of store.old) (now_of store.new)) }
     ensures rest { OnErr result (start_of store.new ≡ now_of store.new) }
-    ensures live { OnErr result (IsLive store.new.operands.now) }
+    ensures sound { OnErr result (IsSound (now_of store.new)) }
     ensures consumed { tape.new.consumed ≡ store.new.registers.now.consumed }
     ensures longer { length tape.old.bytes ≤ length tape.new.bytes }
     ensures quiet { OnOk result (ends_quietly store.new.registers.now.ending) }

@@ -4,7 +4,7 @@ ghost use Rattle.std.specs.Prelude.{◌≡◌, ◌∷◌, ◌++◌, [], List, On
 ghost use Rattle.rawk_code.specs.Actions.{SetAt};
 ghost use Rattle.rawk_store.specs.declared.store.Group.{Group};
 ghost use Rattle.rawk_store.specs.GroupBack.{FitsIn, put_back};
-ghost use Rattle.rawk_store.specs.Stacked.{IsLive};
+ghost use Rattle.rawk_store.specs.Layout.{IsSound};
 ghost use Rattle.rawk_store.specs.Stores.{now_of, start_of};
 ghost use Rattle.rawk_machine.specs.Closing.{FitAll};
 ghost use Rattle.rawk_machine.specs.Kept.{all_back, back_in, below, globals_forth, record_forth};
@@ -20,11 +20,11 @@ use std::mem;
 /// point before then stand in `here`, and `item` leads forward again. It takes no memory and always succeeds.
 pub fn go_back(store: &mut Store, here: &mut Vec<Group>, item: &mut Kept)
     requires rest { start_of store.old ≡ now_of store.old }
-    requires live { IsLive store.old.operands.now }
     requires fits_here { FitAll (now_of store.old) (reverse here.old.items) }
     requires fits_step { FitsIn item.old.step (all_back (now_of store.old) (reverse here.old.items)) }
     ensures now { now_of store.new ≡ back_in (now_of store.old) (reverse here.old.items) item.old }
     ensures rest { start_of store.new ≡ now_of store.new }
+    ensures sound { IsSound (now_of store.new) }
     ensures here { here.new.items ≡ item.old.sets.items }
     ensures globals { globals_forth store.new.globals.now (item.new.step ∷ item.new.sets.items) ≡ store.old.globals.now }
     ensures record { record_forth store.new.current.now (item.new.step ∷ item.new.sets.items) ≡ store.old.current.now }
@@ -64,6 +64,7 @@ pub fn write_global(
     ensures err { OnErr result (now_of store.new ≡ now_of store.old) }
     ensures stays { OnErr result (here.new.items ≡ here.old.items) }
     ensures rest { start_of store.new ≡ now_of store.new }
+    ensures sound { IsSound (now_of store.new) }
 {
     here.reserve(1)?;
     store.globals.set(number, value)?;

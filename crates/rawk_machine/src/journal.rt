@@ -1,13 +1,11 @@
 //! The end of a step: what it changed is kept, or forgotten.
 
-ghost use Rattle.std.specs.Prelude.{◌≡◌, ◌<◌, ◌≤◌, ◌+◌, ◌^◌, [], List, None, Some, length, reverse, OnOk, OnErr};
-ghost use Rattle.rawk_value.specs.declared.value.Value.{Value};
+ghost use Rattle.std.specs.Prelude.{◌≡◌, ◌<◌, ◌≤◌, ◌+◌, ◌^◌, [], None, Some, length, reverse, OnOk, OnErr};
 ghost use Rattle.rawk_tape.specs.Records.{Input};
 ghost use Rattle.rawk_tape.specs.Tapes.{MayBe};
 ghost use Rattle.rawk_tape.specs.declared.source.Ending.{Ending as End};
 ghost use Rattle.rawk_store.specs.Keeping.{keeps_any};
-ghost use Rattle.rawk_store.specs.Layout.{Grown, grown};
-ghost use Rattle.rawk_store.specs.Stacked.{IsLive};
+ghost use Rattle.rawk_store.specs.Layout.{Layout, Grown, IsSound};
 ghost use Rattle.rawk_store.specs.Stores.{now_of, start_of};
 ghost use Rattle.rawk_travel.specs.Moving.{moving};
 ghost use Rattle.rawk_machine.specs.Arrival.{Arrives, ends_quietly, EndsByRead, IsSettled};
@@ -36,7 +34,7 @@ pub fn close<K: Keeper>(
     ensures same { OnErr result (K.kept keeper.new ≡ K.kept keeper.old) }
     ensures stays { OnErr result (here.new.items ≡ here.old.items) }
     ensures rest { start_of store.new ≡ now_of store.new }
-    ensures live { IsLive store.old.operands.now }
+    ensures sound { IsSound (now_of store.new) }
     ensures limit { K.limit keeper.new ≡ K.limit keeper.old }
 {
     if !keeper.keeps() {
@@ -70,19 +68,18 @@ pub fn journaled<R: Source + Drop, K: Keeper>(
     limit: u64,
 ) -> Result<(), AllocError>
     requires rest { start_of store.old ≡ now_of store.old }
-    requires live { IsLive store.old.operands.now }
     requires running { store.old.registers.now.ending ≡ None }
     requires consumed { tape.old.consumed ≡ store.old.registers.now.consumed }
     ensures may { (kept : Input) → MayBe R.may_give tape.new kept → MayBe R.may_give tape.old kept }
     ensures did { OnOk result (Arrives R.may_give code.now tape.new count limit (moving store.old) (moving store.new)) }
     ensures settled { OnOk result (IsSettled count limit store.new.registers.now) }
-    ensures kept { OnOk result ((more : List Value) × Closes (keeps_any (K.limit keeper.old)) (grown (now_of store.old) more) (now_of store.new) (K.kept keeper.old) (K.kept keeper.new) here.old.items (K.limit keeper.old)) }
+    ensures kept { OnOk result ((began : Layout) × Grown (now_of store.old) began × Closes (keeps_any (K.limit keeper.old)) began (now_of store.new) (K.kept keeper.old) (K.kept keeper.new) here.old.items (K.limit keeper.old)) }
     ensures here { OnOk result (here.new.items ≡ []) }
     ensures grown { OnErr result (Grown (now_of store.old) (now_of store.new)) }
     ensures same { OnErr result (K.kept keeper.new ≡ K.kept keeper.old) }
     ensures stays { OnErr result (here.new.items ≡ here.old.items) }
     ensures rest { start_of store.new ≡ now_of store.new }
-    ensures live { IsLive store.new.operands.now }
+    ensures sound { IsSound (now_of store.new) }
     ensures consumed { tape.new.consumed ≡ store.new.registers.now.consumed }
     ensures longer { length tape.old.bytes ≤ length tape.new.bytes }
     ensures quiet { OnOk result (ends_quietly store.new.registers.now.ending) }
@@ -106,11 +103,9 @@ pub fn journaled<R: Source + Drop, K: Keeper>(
 /// Puts groups back, the newest first; they then lead forward again. It takes no memory and always succeeds.
 pub fn undo_all(store: &mut Store, groups: &mut Vec<Group>)
     requires rest { start_of store.old ≡ now_of store.old }
-    requires live { IsLive store.old.operands.now }
     requires fits { FitAll (now_of store.old) (reverse groups.old.items) }
     ensures now { now_of store.new ≡ all_back (now_of store.old) (reverse groups.old.items) }
     ensures rest { start_of store.new ≡ now_of store.new }
-    ensures live { IsLive store.new.operands.now }
     ensures globals { globals_forth store.new.globals.now groups.new.items ≡ store.old.globals.now }
     ensures record { record_forth store.new.current.now groups.new.items ≡ store.old.current.now }
 {

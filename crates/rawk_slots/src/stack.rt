@@ -180,6 +180,7 @@ impl<T: Drop> Stack<T> {
         requires { FitsStack group.old self.old.now }
         ensures now { self.new ≡ at_rest (stack_back self.old.now group.old) }
         ensures newer { stack_back self.new.now group.new ≡ self.old.now }
+        ensures live { IsLive self.new.now }
     {
         self.slots.undo(&mut group.slots);
         let live = group.live;

@@ -1,70 +1,137 @@
--- Slots that were added beyond the live operands change nothing, and putting back works over them.
-use Rattle.std.specs.Prelude.{◌≡◌, List, [], ◌++◌, length, reverse}
-use Rattle.std.proofs.Common.{sym, ap, ◌∙◌, arith, append_assoc}
-use Rattle.std.proofs.lemmas.List.{append-nil, length-append, take-append-le}
+-- Slots that were added and that no program sees change no state, and putting back works over them.
+use Rattle.std.specs.Prelude.{◌≡◌, Bool, List, [], length, take, refl}
+use Rattle.std.proofs.Common.{sym, ap, ◌∙◌, subst}
+use Rattle.rawk_value.specs.Values.{Bytes}
 use Rattle.rawk_value.specs.declared.value.Value.{Value}
+use Rattle.rawk_slots.specs.Back.{back, AreBelow}
+use Rattle.rawk_slots.specs.Stacked.{Stacked, GrownStack, live_values}
+use Rattle.rawk_slots.specs.StackBack.{FitsStack}
+use Rattle.rawk_slots.specs.StackLaws.{live_values-grown, GrownStack-refl, GrownStack-trans, FitsStack-grown, IsLive-stack_back}
+use Rattle.rawk_arrays.specs.Elements.{Elements}
+use Rattle.rawk_arrays.specs.Laid.{arrays_of}
+use Rattle.rawk_arrays.specs.ArraysLaws.{arrays_of-grown, GrownArrays-refl, GrownArrays-trans, GrownArrays-back, FitsArrays-grown, IsLaid-back}
+use Rattle.rawk_frames.specs.Frame.{Frame}
+use Rattle.rawk_frames.specs.LaidFrames.{frames_of}
+use Rattle.rawk_frames.specs.LaidKeys.{keys_of}
+use Rattle.rawk_frames.specs.FramesLaws.{frames_of-grown, keys_of-grown, GrownFrames-refl, GrownFrames-trans, GrownFrames-back, GrownKeys-refl, GrownKeys-trans, GrownKeys-back, GrownStack-back, FitsFrames-grown, FitsKeys-grown, AreSoundFrames-back, AreKeysLive-back}
+use Rattle.rawk_record.specs.Shown.{Shown, record_back}
+use Rattle.rawk_store.specs.declared.registers.Registers.{Registers}
 use Rattle.rawk_store.specs.declared.store.Group.{Group}
-use Rattle.rawk_slots.specs.BackLaws.{back_grow, length-back, AreBelow-more}
-use Rattle.rawk_slots.specs.Stacked.{Stacked, GrownStack, IsLive}
-use Rattle.rawk_store.specs.Layout.{Layout, Grown, grown, operands, state}
+use Rattle.rawk_store.specs.State.{State}
+use Rattle.rawk_store.specs.Layout.{Layout, Grown, IsSound, keys, operands, state}
 use Rattle.rawk_store.specs.GroupBack.{FitsIn, put_back}
 
-grown_nothing : (l : Layout) → l ≡ grown l []
-grown_nothing l = ap (λ (xs : List Value). record l { operands = record l.operands { slots = xs } }) (sym (append-nil l.operands.slots))
-
 pub Grown-refl : (l : Layout) → Grown l l
-Grown-refl l = record { more = []; is = grown_nothing l }
+Grown-refl l = record {
+  globals = refl;
+  arrays = GrownArrays-refl l.arrays;
+  frames = GrownFrames-refl l.frames;
+  keys = GrownKeys-refl l.keys;
+  ranges = refl;
+  operands = GrownStack-refl l.operands;
+  current = refl;
+  output = refl;
+  registers = refl;
+}
 
 pub Grown-same : (l m : Layout) → l ≡ m → Grown l m
-Grown-same l m e = record { more = []; is = sym e ∙ grown_nothing l }
+Grown-same l m e = subst (λ (x : Layout). Grown l x) e (Grown-refl l)
 
 pub Grown-then_same : (l m n : Layout) → Grown l m → n ≡ m → Grown l n
-Grown-then_same l m n a e = record { more = a.more; is = e ∙ a.is }
-
-grown-grown : (l : Layout) (xs ys : List Value) → grown (grown l xs) ys ≡ grown l (xs ++ ys)
-grown-grown l xs ys = ap (λ (zs : List Value). record l { operands = record l.operands { slots = zs } }) (append_assoc l.operands.slots xs ys)
+Grown-then_same l m n a e = subst (λ (x : Layout). Grown l x) (sym e) a
 
 pub Grown-trans : (l m n : Layout) → Grown l m → Grown m n → Grown l n
-Grown-trans l m n a b = record { more = a.more ++ b.more; is = b.is ∙ (ap (λ (x : Layout). grown x b.more) a.is ∙ grown-grown l a.more b.more) }
+Grown-trans l m n a b = record {
+  globals = b.globals ∙ a.globals;
+  arrays = GrownArrays-trans l.arrays m.arrays n.arrays a.arrays b.arrays;
+  frames = GrownFrames-trans l.frames m.frames n.frames a.frames b.frames;
+  keys = GrownKeys-trans l.keys m.keys n.keys a.keys b.keys;
+  ranges = b.ranges ∙ a.ranges;
+  operands = GrownStack-trans l.operands m.operands n.operands a.operands b.operands;
+  current = b.current ∙ a.current;
+  output = b.output ∙ a.output;
+  registers = b.registers ∙ a.registers;
+}
 
 -- the operand stack alone has grown
 pub Grown-stack : (l : Layout) (s : Stacked Value) → GrownStack l.operands s → Grown l (record l { operands = s })
-Grown-stack l s g = record { more = g.more; is = ap (λ (x : Stacked Value). record l { operands = x }) g.is }
+Grown-stack l s g = record {
+  globals = refl;
+  arrays = GrownArrays-refl l.arrays;
+  frames = GrownFrames-refl l.frames;
+  keys = GrownKeys-refl l.keys;
+  ranges = refl;
+  operands = g;
+  current = refl;
+  output = refl;
+  registers = refl;
+}
 
 pub ruleset grows = (Grown-refl, Grown-same, Grown-trans, Grown-then_same, Grown-stack)
 
-pub operands-grown : (l m : Layout) → Grown l m → IsLive l.operands → operands m ≡ operands l
-operands-grown l m g h = ap operands g.is ∙ ap (λ (xs : List Value). reverse xs) (take-append-le l.operands.live l.operands.slots g.more h)
+pub operands-grown : (l m : Layout) → Grown l m → IsSound l → operands m ≡ operands l
+operands-grown l m g h = live_values-grown l.operands m.operands g.operands h.operands
 
-pub state-grown : (l m : Layout) → Grown l m → state m ≡ state l
-state-grown l m g = ap state g.is
+pub keys-grown : (l m : Layout) → Grown l m → IsSound l → keys m ≡ keys l
+keys-grown l m g h = keys_of-grown l.keys m.keys g.keys h.keys
 
-pub registers-grown : (l m : Layout) → Grown l m → m.registers ≡ l.registers
-registers-grown l m g = ap (λ (x : Layout). x.registers) g.is
+-- the state of these parts
+abbrev made_of : List Value → List Elements → List Frame → List Bool → Shown → Bytes → Registers → State
+made_of globals arrays frames ranges current output registers = record {
+  globals = globals;
+  arrays = arrays;
+  frames = frames;
+  ranges = ranges;
+  whole = current.text;
+  fields = current.fields;
+  consumed = registers.consumed;
+  output = output;
+  status = registers.status;
+  here = registers.here;
+}
 
-pub IsLive-Grown : (l m : Layout) → Grown l m → IsLive l.operands → IsLive m.operands
-IsLive-Grown l m g h = rw g.is (omega (arith, h, length-append l.operands.slots g.more))
+pub state-grown : (l m : Layout) → Grown l m → IsSound l → IsSound m → state m ≡ state l
+state-grown l m g h k =
+    ap (λ (x : List Value). made_of x (arrays_of m.arrays) (frames_of m.frames) m.ranges m.current m.output m.registers) g.globals
+    ∙ ap (λ (x : List Elements). made_of l.globals x (frames_of m.frames) m.ranges m.current m.output m.registers) (arrays_of-grown l.arrays m.arrays g.arrays h.arrays k.arrays)
+    ∙ ap (λ (x : List Frame). made_of l.globals (arrays_of l.arrays) x m.ranges m.current m.output m.registers) (frames_of-grown l.frames m.frames g.frames h.frames.frames h.frames.locals)
+    ∙ ap (λ (x : List Bool). made_of l.globals (arrays_of l.arrays) (frames_of l.frames) x m.current m.output m.registers) g.ranges
+    ∙ ap (λ (x : Shown). made_of l.globals (arrays_of l.arrays) (frames_of l.frames) l.ranges x m.output m.registers) g.current
+    ∙ ap (λ (x : Bytes). made_of l.globals (arrays_of l.arrays) (frames_of l.frames) l.ranges l.current x m.registers) g.output
+    ∙ ap (λ (x : Registers). made_of l.globals (arrays_of l.arrays) (frames_of l.frames) l.ranges l.current l.output x) g.registers
+
+fits_stack : (s t : Stacked Value) (group : Group) → GrownStack s t → FitsStack group.operands s → FitsStack group.operands t
+fits_stack s t group g h = subst (λ (x : Stacked Value). FitsStack group.operands x) (sym g.is) (FitsStack-grown s group.operands g.more h)
 
 -- putting back, over more slots
-pub put_back-grown : (l : Layout) (group : Group) (more : List Value) → FitsIn group l → put_back (grown l more) group ≡ grown (put_back l group) more
-put_back-grown l group more h =
-    ap (λ (xs : List Value). record (put_back l group) { operands = record { slots = xs; live = group.operands.live } }) (back_grow l.operands.slots group.operands.slots.entries.items more h.operands.places)
-
 pub Grown-put_back : (l m : Layout) (group : Group) → Grown l m → FitsIn group l → Grown (put_back l group) (put_back m group)
-Grown-put_back l m group g h = record { more = g.more; is = ap (λ (x : Layout). put_back x group) g.is ∙ put_back-grown l group g.more h }
+Grown-put_back l m group g h = record {
+  globals = ap (λ (xs : List Value). back xs group.globals.entries.items) g.globals;
+  arrays = GrownArrays-back l.arrays m.arrays group.arrays g.arrays h.arrays;
+  frames = GrownFrames-back l.frames m.frames group.frames g.frames h.frames;
+  keys = GrownKeys-back l.keys m.keys group.keys g.keys h.keys;
+  ranges = ap (λ (xs : List Bool). back xs group.ranges.entries.items) g.ranges;
+  operands = GrownStack-back l.operands m.operands group.operands g.operands h.operands;
+  current = ap (λ (x : Shown). record_back x group.current) g.current;
+  output = ap (λ (xs : Bytes). take group.output xs) g.output;
+  registers = refl;
+}
 
 pub FitsIn-grown : (l m : Layout) (group : Group) → Grown l m → FitsIn group l → FitsIn group m
-FitsIn-grown l m group g h =
-    let size = length-append l.operands.slots g.more in
-    rw g.is
-    (record {
-      globals = h.globals;
-      operands = record {
-        places = AreBelow-more (length l.operands.slots) (length (l.operands.slots ++ g.more)) group.operands.slots.entries.items (omega arith) h.operands.places;
-        live = omega (arith, h.operands.live);
-      };
-      output = h.output;
-    })
+FitsIn-grown l m group g h = record {
+  globals = subst (λ (xs : List Value). AreBelow (length xs) group.globals.entries.items) (sym g.globals) h.globals;
+  arrays = FitsArrays-grown l.arrays m.arrays group.arrays g.arrays h.arrays;
+  frames = FitsFrames-grown l.frames m.frames group.frames g.frames h.frames;
+  keys = FitsKeys-grown l.keys m.keys group.keys g.keys h.keys;
+  ranges = subst (λ (xs : List Bool). AreBelow (length xs) group.ranges.entries.items) (sym g.ranges) h.ranges;
+  operands = fits_stack l.operands m.operands group g.operands h.operands;
+  output = rw g.output h.output;
+}
 
-pub IsLive-put_back : (l : Layout) (group : Group) → FitsIn group l → IsLive (put_back l group).operands
-IsLive-put_back l group h = omega (arith, length-back l.operands.slots group.operands.slots.entries.items, h.operands.live)
+pub IsSound-put_back : (l : Layout) (group : Group) → FitsIn group l → IsSound l → IsSound (put_back l group)
+IsSound-put_back l group h s = record {
+  arrays = IsLaid-back l.arrays group.arrays s.arrays;
+  frames = AreSoundFrames-back l.frames group.frames h.frames;
+  keys = AreKeysLive-back l.keys group.keys h.keys;
+  operands = IsLive-stack_back l.operands group.operands h.operands;
+}

@@ -9,9 +9,9 @@ abbrev pub one_if_some : {T : Type 0} → Option T → ℕ
 one_if_some None = 0
 one_if_some (Some x) = 1
 
--- the old values of globals and of the record that a group holds
+-- the old values of globals, of elements and of the record that a group holds; an absence counts
 abbrev pub saved_in : Group → ℕ
-saved_in group = length group.globals.entries.items + one_if_some group.current
+saved_in group = length group.globals.entries.items + length group.arrays.slots.entries.items + one_if_some group.current
 
 abbrev pub saved_in_groups : List Group → ℕ
 saved_in_groups groups = sum_by saved_in groups

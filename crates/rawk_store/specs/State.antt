@@ -1,34 +1,17 @@
 -- The state of a program, and what can be assigned in it.
 use Rattle.std.specs.Prelude.{ℕ, zero, suc, ◌-◌, ℤ, pos, negsuc, int_le, ◌==◌, Bool, if◌then◌else◌, List, [], ◌∷◌, length, map, slice_index_or, slice_set, Result, Ok, Err}
-use Rattle.std.specs.FinMap.{FinMap}
-use Rattle.std.specs.Ordering.{nat_cmp}
-use Rattle.std.specs.Cmp.Lexicographic.{slice_cmp}
 use Rattle.rawk_value.specs.declared.value.Value.{Value}
 use Rattle.rawk_value.specs.declared.value.Value.TheVariants.{Uninitialized, Number, String, Input}
 use Rattle.rawk_value.specs.declared.fault.Fault.{Fault}
 use Rattle.rawk_value.specs.declared.fault.Fault.TheVariants.{FieldNumber}
 use Rattle.rawk_value.specs.Values.{Bytes, next_ok, is_empty, number_of, text_of}
+use Rattle.rawk_arrays.specs.Elements.{Elements}
+use Rattle.rawk_frames.specs.Frame.{Frame}
 use Rattle.rawk_record.specs.Fields.{fields_of}
 use Rattle.rawk_record.specs.Changed.{resized, with_value}
 pub use Rattle.rawk_record.specs.Changed.{joined}
 use Rattle.rawk_store.specs.declared.target.Target as target
 use Rattle.rawk_store.specs.declared.target.Target.TheVariants.{Global}
-
--- the elements of an array, in byte order of their keys
-abbrev pub Elements : Type 0
-Elements = FinMap (slice_cmp nat_cmp) Value
-
--- a local of an activation: a value, or the number of an array
-pub data Local : Type 0 where
-  Holds : Value → Local
-  Names : ℕ → Local
-
--- an activation: its function, its locals, how many arrays there were before it, and its calling point
-pub record Frame : Type 0 where
-  pub function : ℕ
-  pub locals : List Local
-  pub arrays_before : ℕ
-  pub called_at : ℕ
 
 -- the state: the special variables come first among the globals, `whole` is `$0`, and `here` is the last point reached at the present depth
 pub record State : Type 0 where

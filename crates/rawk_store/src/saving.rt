@@ -7,13 +7,15 @@ use crate::keeper::Kept;
 use crate::store::Group;
 
 impl Group {
-    /// How many old values of globals and of the record it holds: one for each of them that was written. It takes no memory.
+    /// How many old values of globals, of elements and of the record it holds: one for each of them that was written, also where an element was not there. It
+    /// takes no memory.
     pub fn saved(&self) -> usize
         ensures { result ≡ saved_in self.now }
     {
+        let places = self.globals.entries.len() + self.arrays.slots.entries.len();
         match &self.current {
-            None => self.globals.entries.len(),
-            Some(_) => self.globals.entries.len() + 1,
+            None => places,
+            Some(_) => places + 1,
         }
     }
 }

@@ -3,13 +3,16 @@
 ghost use Rattle.std.specs.Prelude.{◌≡◌};
 ghost use Rattle.rawk_record.specs.Shown.{record_back};
 ghost use Rattle.rawk_slots.specs.Back.{back};
+ghost use Rattle.rawk_arrays.specs.ArraysBack.{arrays_back};
+ghost use Rattle.rawk_store.specs.Layout.{IsSound, state};
 ghost use Rattle.rawk_store.specs.Stores.{IsNew, now_of, start_of};
 ghost use Rattle.rawk_store.specs.GroupBack.{FitsIn, put_back};
-ghost use Rattle.rawk_slots.specs.Stacked.{IsLive};
 
 use crate::current::Current;
 use crate::output::Output;
 use crate::registers::{Bank, Registers};
+use rawk_arrays::{Arrays, ArraysGroup};
+use rawk_frames::{Frames, FramesGroup, KeysLeft, KeysLeftGroup, Ranges, RangesGroup};
 use rawk_record::Record;
 use rawk_slots::{SlotGroup, Slots, Stack, StackGroup};
 use rawk_value::Value;
@@ -28,6 +31,10 @@ pub type OperandsGroup = StackGroup<Value>;
 #[derive(Drop)]
 pub struct Store {
     pub globals: Cells,
+    pub arrays: Arrays,
+    pub frames: Frames,
+    pub keys: KeysLeft,
+    pub ranges: Ranges,
     pub operands: Operands,
     pub current: Current,
     pub output: Output,
@@ -38,6 +45,10 @@ pub struct Store {
 #[derive(Drop)]
 pub struct Group {
     pub globals: SlotGroup<Value>,
+    pub arrays: ArraysGroup,
+    pub frames: FramesGroup,
+    pub keys: KeysLeftGroup,
+    pub ranges: RangesGroup,
     pub operands: OperandsGroup,
     pub current: Option<Record>,
     /// How many bytes of output there were.
@@ -46,12 +57,16 @@ pub struct Group {
 }
 
 impl Store {
-    /// No globals, no operands, the empty record, no output, and these registers. It takes no memory.
+    /// No globals, no arrays, no activations, no keys, no ranges, no operands, the empty record, no output, and these registers. It takes no memory.
     pub fn new(alloc: Global, registers: Registers) -> Self
         ensures { IsNew registers result }
     {
         Store {
             globals: Slots::new(alloc),
+            arrays: Arrays::new(alloc),
+            frames: Frames::new(alloc),
+            keys: KeysLeft::new(alloc),
+            ranges: Slots::new(alloc),
             operands: Operands::new(alloc),
             current: Current::new(alloc),
             output: Output::new(alloc),
@@ -65,10 +80,14 @@ impl Store {
         ensures rest { start_of self.new ≡ now_of self.old }
         ensures back { put_back (now_of self.old) result ≡ start_of self.old }
         ensures fits { FitsIn result (now_of self.old) }
-        ensures live { IsLive self.old.operands.now }
+        ensures sound { IsSound (now_of self.old) }
     {
         Group {
             globals: self.globals.finish(alloc),
+            arrays: self.arrays.finish(alloc),
+            frames: self.frames.finish(alloc),
+            keys: self.keys.finish(alloc),
+            ranges: self.ranges.finish(alloc),
             operands: self.operands.finish(alloc),
             current: self.current.finish(alloc),
             output: self.output.finish(),
@@ -80,22 +99,42 @@ impl Store {
     pub fn forget(&mut self)
         ensures now { now_of self.new ≡ now_of self.old }
         ensures rest { start_of self.new ≡ now_of self.old }
-        ensures live { IsLive self.old.operands.now }
+        ensures sound { IsSound (now_of self.old) }
     {
         self.globals.forget();
+        self.arrays.forget();
+        self.frames.forget();
+        self.keys.forget();
+        self.ranges.forget();
         self.operands.forget();
         self.current.forget();
         self.output.forget();
         self.registers.forget();
     }
 
+    /// Removes slots of arrays that are empty, where most of them are. No state changes by it, but what leads back to earlier steps fits no more then. Where memory for that
+    /// is refused, the slots stay.
+    pub fn pack(&mut self, alloc: Global)
+        requires rest { start_of self.old ≡ now_of self.old }
+        ensures state { state (now_of self.new) ≡ state (now_of self.old) }
+        ensures others { now_of self.new ≡ record (now_of self.old) { arrays = self.new.arrays.now } }
+        ensures rest { start_of self.new ≡ now_of self.new }
+        ensures sound { IsSound (now_of self.old) → IsSound (now_of self.new) }
+    {
+        self.arrays.pack(alloc);
+    }
+
     /// Puts back what the step in progress changed. It takes no memory and always succeeds.
     pub fn undo_step(&mut self)
         ensures now { now_of self.new ≡ start_of self.old }
         ensures rest { start_of self.new ≡ start_of self.old }
-        ensures live { IsLive self.old.operands.start }
+        ensures sound { IsSound (start_of self.old) }
     {
         self.globals.undo_step();
+        self.arrays.undo_step();
+        self.frames.undo_step();
+        self.keys.undo_step();
+        self.ranges.undo_step();
         self.operands.undo_step();
         self.current.undo_step();
         self.output.undo_step();
@@ -107,10 +146,16 @@ impl Store {
         requires { FitsIn group.old (now_of self.old) }
         ensures now { now_of self.new ≡ put_back (now_of self.old) group.old }
         ensures rest { start_of self.new ≡ now_of self.new }
+        ensures sound { IsSound (now_of self.new) }
         ensures newer_globals { back self.new.globals.now group.new.globals.entries.items ≡ self.old.globals.now }
+        ensures newer_arrays { arrays_back self.new.arrays.now group.new.arrays ≡ self.old.arrays.now }
         ensures newer_record { record_back self.new.current.now group.new.current ≡ self.old.current.now }
     {
         self.globals.undo(&mut group.globals);
+        self.arrays.undo(&mut group.arrays);
+        self.frames.undo(&mut group.frames);
+        self.keys.undo(&mut group.keys);
+        self.ranges.undo(&mut group.ranges);
         self.operands.undo(&mut group.operands);
         self.current.undo(&mut group.current);
         self.output.undo(group.output);

@@ -54,6 +54,7 @@ fn show(
     ensures did { IfOk result (λ fault. Shows fault (read_as text.now (text_of (global_in FS store.old.globals.now)) paragraph) (moving store.old) (moving store.new)) }
     ensures start { start_of store.new ≡ start_of store.old }
     ensures operands { store.new.operands ≡ store.old.operands }
+    ensures keys { store.new.keys ≡ store.old.keys }
 {
     let mut buffer = Vec::new(alloc);
     let separator = text_lent(global_lent(&store.globals, FS), &mut buffer)?;
@@ -76,6 +77,7 @@ fn show_counted(
     ensures did { IfOk result (λ r. Counts r nr fnr (read_as text.now (text_of (global_in FS store.old.globals.now)) paragraph) (moving store.old) (moving store.new)) }
     ensures start { start_of store.new ≡ start_of store.old }
     ensures operands { store.new.operands ≡ store.old.operands }
+    ensures keys { store.new.keys ≡ store.old.keys }
 {
     match show(alloc, store, text, paragraph)? {
         Some(fault) => Ok(Reading::Faulted(fault)),
@@ -99,6 +101,7 @@ fn take_text(
     ensures did { IfOk result (λ r. Takes r text.now (moving store.old) (moving store.new)) }
     ensures start { start_of store.new ≡ start_of store.old }
     ensures operands { store.new.operands ≡ store.old.operands }
+    ensures keys { store.new.keys ≡ store.old.keys }
 {
     match counter_up(&store.globals, NR) {
         Err(fault) => Ok(Reading::Faulted(fault)),
@@ -134,6 +137,7 @@ fn take_found<R: Source + Drop>(
     ensures did { IfOk result (λ r. Finds r (slice_range tape.old.bytes found.start found.end) found.count (moving store.old) (moving store.new)) }
     ensures start { start_of store.new ≡ start_of store.old }
     ensures operands { store.new.operands ≡ store.old.operands }
+    ensures keys { store.new.keys ≡ store.old.keys }
     ensures tape { tape.new ≡ record tape.old { consumed = tape.new.consumed } }
     ensures consumed { IfOk result (λ r. tape.new.consumed ≡ consumed_by r found.count tape.old.consumed) }
 {
@@ -160,6 +164,7 @@ pub fn read<R: Source + Drop>(
     ensures registers { IfOk result (λ r. KeepsRegisters (moving store.old) (moving store.new)) }
     ensures start { start_of store.new ≡ start_of store.old }
     ensures operands { store.new.operands ≡ store.old.operands }
+    ensures keys { store.new.keys ≡ store.old.keys }
     ensures consumed { OnOk result (tape.new.consumed ≡ store.new.registers.now.consumed) }
     ensures longer { length tape.old.bytes ≤ length tape.new.bytes }
     ensures quiet { IfOk result IsQuietReading }

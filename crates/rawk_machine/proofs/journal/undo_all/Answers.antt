@@ -1,8 +1,6 @@
 use Rattle.std.proofs.Common.{◌≡◌, ◌-◌, ◌≤◌, ◌∙◌, sym, subst, arith, get_or, length, take, reverse}
 use Rattle.std.proofs.lemmas.List.{length-set, take-set}
 use Rattle.rawk_store.specs.Layout.{Layout}
-use Rattle.rawk_store.specs.Stacked.{IsLive}
-use Rattle.rawk_store.specs.Growth.{IsLive-put_back}
 use Rattle.rawk_store.specs.Stores.{now_of}
 use Rattle.rawk_machine.specs.Closing.{FitAll}
 use Rattle.rawk_machine.proofs.Undos.{same_at, left_fits, done_one, globals_one, record_one, take_less}
@@ -35,7 +33,6 @@ loop-i-preserved c =
       left = take-set gs (i - 1) y ∙ take_less gs fn i (i - 1) (omega arith) v.left;
       now = c.undo.ensures.now ∙ done_one (now_of c.args.store.now) l fn i x pos v.within is v.now;
       rest = c.undo.ensures.rest;
-      live = subst (λ (m : Layout). IsLive m.operands) (sym c.undo.ensures.now) (IsLive-put_back l x fits.0);
       fits = subst (λ (m : Layout). FitAll m (reverse (take (i - 1) fn))) (sym c.undo.ensures.now) fits.1;
       globals = globals_one c.undo.new.self.globals.now c.loop-i.store.globals.now gs i y pos within c.undo.ensures.newer_globals ∙ v.globals;
       record_is = record_one c.undo.new.self.current.now c.loop-i.store.current.now gs i y pos within c.undo.ensures.newer_record ∙ v.record_is;

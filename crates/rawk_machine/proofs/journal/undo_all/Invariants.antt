@@ -1,5 +1,4 @@
 use Rattle.std.proofs.Common.{◌≡◌, ◌≤◌, length, take, drop, reverse}
-use Rattle.rawk_store.specs.Stacked.{IsLive}
 use Rattle.rawk_store.specs.Stores.{now_of, start_of}
 use Rattle.rawk_machine.specs.Closing.{FitAll}
 use Rattle.rawk_machine.specs.Kept.{all_back, globals_forth, record_forth}
@@ -12,7 +11,6 @@ invariant-loop-i l = record {
   left : take l.i l.groups.items ≡ take l.i l.fn.groups.items;
   now : now_of l.store ≡ all_back (now_of l.fn.store) (reverse (drop l.i l.fn.groups.items));
   rest : start_of l.store ≡ now_of l.store;
-  live : IsLive l.store.operands.now;
   fits : FitAll (now_of l.store) (reverse (take l.i l.fn.groups.items));
   globals : globals_forth l.store.globals.now (drop l.i l.groups.items) ≡ l.fn.store.globals.now;
   record_is : record_forth l.store.current.now (drop l.i l.groups.items) ≡ l.fn.store.current.now;

@@ -1,8 +1,7 @@
 use Rattle.std.proofs.Common.{◌≡◌, ℕ, ◌-◌, ◌∙◌, [], ap, sym, subst, refl, arith, length, drop, reverse, Some}
 use Rattle.rawk_value.specs.Values.{Bytes}
 use Rattle.rawk_tape.specs.Tapes.{Held}
-use Rattle.rawk_store.specs.Layout.{Layout}
-use Rattle.rawk_store.specs.Stacked.{IsLive}
+use Rattle.rawk_store.specs.Layout.{Layout, IsSound}
 use Rattle.rawk_store.specs.Stores.{now_of}
 use Rattle.rawk_machine.specs.Arrival.{ends_quietly}
 use Rattle.rawk_machine.specs.Standing.{Standing, dropped}
@@ -21,7 +20,7 @@ invariant_of-self g c =
     let rest = ap (λ (x : Layout). x.registers.consumed) is in
     record {
       rest = c.forget.ensures.rest ∙ sym is;
-      live = subst (λ (x : Layout). IsLive x.operands) (sym is) v.live;
+      sound = subst IsSound (sym is) (record { arrays = v.sound.arrays; frames = v.sound.frames; keys = v.sound.keys; operands = v.sound.operands });
       consumed = omega (arith, rest, c.forget-size.ensures.consumed, c.consumed-consumed.ensures.value);
       below = subst (λ (x : Layout). IsBelow x.registers i.point i.steps) (sym is) v.below;
       within = v.within;

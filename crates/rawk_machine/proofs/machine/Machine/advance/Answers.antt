@@ -1,9 +1,10 @@
 use Rattle.std.proofs.Common.{◌≡◌, ℕ, ◌+◌, List, [], length, reverse, refl, sym, ap, ◌∙◌, subst, arith, Option, None}
+use Rattle.rawk_value.specs.declared.value.Value.{Value}
+use Rattle.rawk_record.specs.Shown.{Shown}
 use Rattle.rawk_store.specs.declared.store.Group.{Group}
 use Rattle.rawk_store.specs.declared.keeper.Kept.{Kept}
 use Rattle.rawk_store.specs.declared.registers.Registers.{Registers}
 use Rattle.rawk_store.specs.Layout.{Layout}
-use Rattle.rawk_store.specs.Growth.{registers-grown}
 use Rattle.rawk_store.specs.Stores.{now_of}
 use Rattle.rawk_machine.specs.declared.last.Last.TheVariants.{On}
 use Rattle.rawk_travel.specs.Moving.{ending_of}
@@ -46,8 +47,8 @@ returns-in_ok-journaled-in-None-clause-moves g c = λ none.
     let l = now_of i.store in
     let n = now_of c.journaled.new.store in
     let placed : IsPlaced l i.point (length i.tape.bytes) = record { goes = c.in-None.is; here = (v.below c.in-None.is).0; consumed = c.journaled.ensures.within } in
-    let m = moved l n e.kept.0 i.point (length i.tape.bytes) (length c.journaled.new.tape.bytes) i.sets.items i.here.items (g.K.Keeper.kept i.keeper) (g.K.Keeper.kept c.journaled.new.keeper) (g.K.Keeper.limit i.keeper)
-    v.live placed c.journaled.ensures.longer e.kept.1 v.chain in
+    let m = moved l e.kept.0 n i.point (length i.tape.bytes) (length c.journaled.new.tape.bytes) i.sets.items i.here.items (g.K.Keeper.kept i.keeper) (g.K.Keeper.kept c.journaled.new.keeper) (g.K.Keeper.limit i.keeper)
+    v.sound c.journaled.ensures.sound e.kept.1 placed c.journaled.ensures.longer e.kept.2 v.chain in
     let old : Standing g.row.R.Denot = standing_of i.code i.settings i.steps i.sets.items i.point i.tape l i.executed (reverse i.here.items) (g.K.Keeper.kept i.keeper) (g.K.Keeper.limit i.keeper) i.last in
     let new = λ (gs : List Group). standing_of i.code i.settings i.steps i.sets.items (i.point + 1) c.journaled.new.tape n c.journaled.new.executed (reverse gs) (g.K.Keeper.kept c.journaled.new.keeper) (g.K.Keeper.limit c.journaled.new.keeper) On in
     let on : MovesOn old (new []) = record { point = refl; unset = refl; saved = m.saved; history = m.front; kept = m.count; before = λ any. m.before any } in
@@ -71,14 +72,14 @@ invariant_of-self g c =
     let e = c.in_err-journaled-in-None.ensures in
     let l = now_of i.store in
     let n = now_of c.journaled.new.store in
-    let same : n.registers ≡ l.registers = registers-grown l n e.grown in
+    let same : n.registers ≡ l.registers = e.grown.registers in
     let going : c.journaled.new.store.registers.now.ending ≡ None = ap (λ (r : Registers). r.ending) same ∙ c.in-None.is in
     let size = length c.journaled.new.tape.bytes in
     let chain : Chain l i.point size i.sets.items (reverse i.here.items) (g.K.Keeper.kept i.keeper) = chain-size l i.point (length i.tape.bytes) size i.sets.items (reverse i.here.items) (g.K.Keeper.kept i.keeper) c.journaled.ensures.longer v.chain in
-    let grew : Chain n i.point size i.sets.items (reverse i.here.items) (g.K.Keeper.kept i.keeper) = subst (λ (x : Layout). Chain x i.point size i.sets.items (reverse i.here.items) (g.K.Keeper.kept i.keeper)) (sym e.grown.is) (chain-grown l e.grown.more i.point size i.sets.items (reverse i.here.items) (g.K.Keeper.kept i.keeper) chain) in
+    let grew : Chain n i.point size i.sets.items (reverse i.here.items) (g.K.Keeper.kept i.keeper) = chain-grown l n i.point size i.sets.items (reverse i.here.items) (g.K.Keeper.kept i.keeper) e.grown chain in
     record {
       rest = c.journaled.ensures.rest;
-      live = c.journaled.ensures.live;
+      sound = c.journaled.ensures.sound;
       consumed = c.journaled.ensures.consumed;
       below = subst (λ (r : Registers). IsBelow r i.point i.steps) (sym same) v.below;
       within = v.within;
@@ -100,11 +101,11 @@ invariant_of-self-in-None g c =
     let size = length c.journaled.new.tape.bytes in
     let under = (v.below c.in-None.is).1 in
     let placed : IsPlaced l i.point (length i.tape.bytes) = record { goes = c.in-None.is; here = (v.below c.in-None.is).0; consumed = c.journaled.ensures.within } in
-    let m = moved l n e.kept.0 i.point (length i.tape.bytes) size i.sets.items i.here.items (g.K.Keeper.kept i.keeper) (g.K.Keeper.kept c.journaled.new.keeper) (g.K.Keeper.limit i.keeper)
-    v.live placed c.journaled.ensures.longer e.kept.1 v.chain in
+    let m = moved l e.kept.0 n i.point (length i.tape.bytes) size i.sets.items i.here.items (g.K.Keeper.kept i.keeper) (g.K.Keeper.kept c.journaled.new.keeper) (g.K.Keeper.limit i.keeper)
+    v.sound c.journaled.ensures.sound e.kept.1 placed c.journaled.ensures.longer e.kept.2 v.chain in
     record {
       rest = c.journaled.ensures.rest;
-      live = c.journaled.ensures.live;
+      sound = c.journaled.ensures.sound;
       consumed = c.journaled.ensures.consumed;
       below = λ none. let s = e.settled none in (s.0, omega (arith, under, s.1));
       within = omega (arith, under);
@@ -127,16 +128,14 @@ returns-in_err-journaled-in-None-clause-stood g c = λ input may stood.
     let here = reverse i.here.items in
     let kept = g.K.Keeper.kept i.keeper in
     let size = length i.tape.bytes in
-    let more = e.grown.more in
-    let moment = ap moment_in e.grown.is ∙ moment-grown l more v.live ∙ ap (λ (m : Standing g.row.R.Denot). moment_of m) c.self.view_is in
+    let sound = c.journaled.ensures.sound in
+    let moment = moment-grown l n e.grown v.sound sound ∙ ap (λ (m : Standing g.row.R.Denot). moment_of m) c.self.view_is in
     let unset = ap (λ (gs : List Group). unsets n i.sets.items (reverse gs)) e.stays
-    ∙ ap (λ (x : Layout). unsets x i.sets.items here) e.grown.is
-    ∙ unsets-grown l more i.point size i.sets.items here (fit_here l i.point size i.sets.items here kept v.chain)
+    ∙ unsets-grown l n i.point size i.sets.items here e.grown v.sound sound (fit_here l i.point size i.sets.items here kept v.chain)
     ∙ ap (λ (m : Standing g.row.R.Denot). m.unset) c.self.view_is in
     let history = ap (λ (gs : List Group). pasts n i.sets.items i.point (reverse gs) (g.K.Keeper.kept c.journaled.new.keeper)) e.stays
     ∙ ap (λ (ks : List Kept). pasts n i.sets.items i.point here ks) e.same
-    ∙ ap (λ (x : Layout). pasts x i.sets.items i.point here kept) e.grown.is
-    ∙ pasts-grown l more i.point size i.sets.items here kept v.chain
+    ∙ pasts-grown l n i.point size i.sets.items here kept e.grown v.sound sound v.chain
     ∙ ap (λ (m : Standing g.row.R.Denot). m.history) c.self.view_is in
     let new : Standing g.row.R.Denot =
     standing_of i.code i.settings i.steps i.sets.items i.point c.journaled.new.tape n c.journaled.new.executed (reverse c.journaled.new.here.items) (g.K.Keeper.kept c.journaled.new.keeper) (g.K.Keeper.limit c.journaled.new.keeper) i.last in
@@ -153,13 +152,12 @@ returns-in_err-journaled-in-None-clause-err g c =
     let here = reverse i.here.items in
     let kept = g.K.Keeper.kept i.keeper in
     let size = length i.tape.bytes in
-    let more = e.grown.more in
-    let same = ap moment_in e.grown.is ∙ moment-grown l more v.live in
+    let sound = c.journaled.ensures.sound in
+    let same = moment-grown l n e.grown v.sound sound in
     let past : pasts n i.sets.items i.point (reverse c.journaled.new.here.items) (g.K.Keeper.kept c.journaled.new.keeper) ≡ pasts l i.sets.items i.point here kept =
     ap (λ (gs : List Group). pasts n i.sets.items i.point (reverse gs) (g.K.Keeper.kept c.journaled.new.keeper)) e.stays
     ∙ ap (λ (ks : List Kept). pasts n i.sets.items i.point here ks) e.same
-    ∙ ap (λ (x : Layout). pasts x i.sets.items i.point here kept) e.grown.is
-    ∙ pasts-grown l more i.point size i.sets.items here kept v.chain in
+    ∙ pasts-grown l n i.point size i.sets.items here kept e.grown v.sound sound v.chain in
     on_err c.from_residual.result (record {
       point = ap (λ (m : Standing g.row.R.Denot). m.point) c.self.view_is;
       state = ap (λ (m : Moment). m.state) same ∙ ap (λ (m : Standing g.row.R.Denot). m.state) c.self.view_is;
@@ -169,11 +167,11 @@ returns-in_err-journaled-in-None-clause-err g c =
       ending = ap (λ (m : Moment). m.ending) same ∙ ap (λ (m : Standing g.row.R.Denot). m.ending) c.self.view_is;
       site = ap (λ (m : Moment). m.site) same ∙ ap (λ (m : Standing g.row.R.Denot). m.site) c.self.view_is;
       unset = ap (λ (gs : List Group). unsets n i.sets.items (reverse gs)) e.stays
-          ∙ ap (λ (x : Layout). unsets x i.sets.items here) e.grown.is
-          ∙ unsets-grown l more i.point size i.sets.items here (fit_here l i.point size i.sets.items here kept v.chain)
+          ∙ unsets-grown l n i.point size i.sets.items here e.grown v.sound sound (fit_here l i.point size i.sets.items here kept v.chain)
           ∙ ap (λ (m : Standing g.row.R.Denot). m.unset) c.self.view_is;
       history = past ∙ ap (λ (m : Standing g.row.R.Denot). m.history) c.self.view_is;
-      before = ap (λ (x : Layout). before_of i.last x.globals x.current (pasts n i.sets.items i.point (reverse c.journaled.new.here.items) (g.K.Keeper.kept c.journaled.new.keeper))) e.grown.is
+      before = ap (λ (xs : List Value). before_of i.last xs n.current (pasts n i.sets.items i.point (reverse c.journaled.new.here.items) (g.K.Keeper.kept c.journaled.new.keeper))) e.grown.globals
+          ∙ ap (λ (x : Shown). before_of i.last l.globals x (pasts n i.sets.items i.point (reverse c.journaled.new.here.items) (g.K.Keeper.kept c.journaled.new.keeper))) e.grown.current
           ∙ ap (λ (ps : List Past). before_of i.last l.globals l.current ps) past
           ∙ ap (λ (m : Standing g.row.R.Denot). m.before) c.self.view_is;
     })

@@ -3,8 +3,6 @@ use Rattle.rawk_tape.specs.Tapes.{Held}
 use Rattle.rawk_store.specs.declared.store.Group.{Group}
 use Rattle.rawk_store.specs.declared.keeper.Kept.{Kept}
 use Rattle.rawk_store.specs.Layout.{Layout}
-use Rattle.rawk_store.specs.Stacked.{IsLive}
-use Rattle.rawk_store.specs.Growth.{IsLive-put_back}
 use Rattle.rawk_store.specs.Stores.{now_of}
 use Rattle.rawk_code.specs.Actions.{SetAt}
 use Rattle.rawk_machine.specs.declared.last.Last.TheVariants.{Back}
@@ -58,7 +56,7 @@ invariant_of-self-2 g c =
     let chain3 : Chain (now_of c.go_back.new.store) (i.point - 1) size c.keep_below.new.sets.items (reverse c.go_back.new.here.items) items = subst (λ (gs : List Group). Chain (now_of c.go_back.new.store) (i.point - 1) size c.keep_below.new.sets.items (reverse gs) items) (sym c.go_back.ensures.here) chain2 in
     record {
       rest = c.go_back.ensures.rest;
-      live = subst (λ (x : Layout). IsLive x.operands) (sym is) (IsLive-put_back (all_back l here) item.step h.3);
+      sound = c.go_back.ensures.sound;
       consumed = ap (λ (t : Held g.row.R.Denot). t.consumed) c.consume.ensures.after;
       below = λ e. (at ∙ h.4.here, omega (arith, h.2, v.within));
       within = omega (arith, v.within);

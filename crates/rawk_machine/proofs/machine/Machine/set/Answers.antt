@@ -5,9 +5,7 @@ use Rattle.rawk_value.specs.declared.value.Value.{Value}
 use Rattle.rawk_store.specs.declared.store.Group.{Group}
 use Rattle.rawk_store.specs.declared.target.Target.{Target}
 use Rattle.rawk_store.specs.declared.target.Target.TheVariants.{Global}
-use Rattle.rawk_store.specs.Layout.{Layout}
-use Rattle.rawk_store.specs.Stacked.{IsLive}
-use Rattle.rawk_store.specs.Growth.{Grown-refl}
+use Rattle.rawk_store.specs.Layout.{Layout, IsSound}
 use Rattle.rawk_store.specs.Saving.{saved_in}
 use Rattle.rawk_store.specs.GroupBack.{put_back}
 use Rattle.rawk_store.specs.Stores.{now_of}
@@ -37,13 +35,12 @@ invariant_of-self-2 g c =
     let going = no_ending i.store.registers.now.ending (ap (λ (m : Standing g.row.R.Denot). m.ending) c.self.view_is ∙ c.requires) in
     let placed : IsPlaced l i.point size = record { goes = going; here = (v.below going).0; consumed = omega (arith, v.consumed, c.consumed-consumed.ensures.in_range, c.consumed-consumed.ensures.value) } in
     let last : reverse c.write_global.new.here.items ≡ x ∷ here = ap (λ (gs : List Group). reverse gs) w.back.1 ∙ reverse-append i.here.items (x ∷ []) in
-    let none = (Grown-refl l).is in
-    let chain : Chain n i.point size (i.sets.items ++ e ∷ []) (x ∷ here) kept = chain_set l n (Grown-refl l).more i.point size i.sets.items e x here kept placed (w.back.2 ∙ none) w.back.3 refl v.chain in
+    let chain : Chain n i.point size (i.sets.items ++ e ∷ []) (x ∷ here) kept = chain_set l n i.point size i.sets.items e x here kept placed w.back.2 w.back.3 refl v.chain in
     let pushed : c.push.new.self.items ≡ i.sets.items ++ e ∷ [] = c.in_ok-push.ensures.items ∙ ap (λ (xs : List SetAt). xs ++ e ∷ []) c.reserve.ensures.items in
     let chain2 = subst (λ (xs : List SetAt). Chain n i.point size xs (x ∷ here) kept) (sym pushed) chain in
     record {
       rest = c.write_global.ensures.rest;
-      live = subst (λ (m : Layout). IsLive m.operands) (sym w.did) v.live;
+      sound = subst IsSound (sym w.did) (record { arrays = v.sound.arrays; frames = v.sound.frames; keys = v.sound.keys; operands = v.sound.operands });
       consumed = v.consumed ∙ sym (ap (λ (m : Layout). m.registers.consumed) w.did);
       below = subst (λ (m : Layout). IsBelow m.registers i.point i.steps) (sym w.did) v.below;
       within = v.within;
@@ -81,7 +78,7 @@ returns-clause-made g c =
       ap (λ (xs : List SetAt). standing xs n (reverse c.write_global.new.here.items)) (pushed ∙ ap (λ (d : SetAt). i.sets.items ++ d ∷ []) is)
           ∙ ap (λ (gs : List Group). standing (i.sets.items ++ f ∷ []) n gs) last
           ∙ ap (λ (m : Layout). standing (i.sets.items ++ f ∷ []) m (x ∷ here)) did
-          ∙ set_is i.code i.settings i.steps i.sets.items i.point size i.tape l i.executed x here kept limit i.last number value v.live (ap (λ (m : Layout). put_back m x) (sym did) ∙ w.back.2) v.chain
+          ∙ set_is i.code i.settings i.steps i.sets.items i.point i.tape l i.executed x here kept limit i.last number value (ap (λ (m : Layout). put_back m x) (sym did) ∙ w.back.2)
           ∙ ap (λ (t : Target). set_made (saved_in x) t value (standing_of i.code i.settings i.steps i.sets.items i.point i.tape l i.executed here kept limit i.last)) (sym c.global_of-number.ensures)
           ∙ ap (set_made (saved_in x) c.args.target value) c.self.view_is,
     )

@@ -3,8 +3,6 @@ use Rattle.std.proofs.lemmas.List.{reverse-append}
 use Rattle.rawk_tape.specs.Tapes.{Held}
 use Rattle.rawk_store.specs.declared.store.Group.{Group}
 use Rattle.rawk_store.specs.Layout.{Layout}
-use Rattle.rawk_store.specs.Stacked.{IsLive}
-use Rattle.rawk_store.specs.Growth.{IsLive-put_back}
 use Rattle.rawk_store.specs.Stores.{now_of}
 use Rattle.rawk_code.specs.Actions.{SetAt}
 use Rattle.rawk_machine.specs.declared.last.Last.TheVariants.{Nothing}
@@ -60,7 +58,7 @@ invariant_of-self-2 g c =
     let chain2 : Chain (now_of c.undo.new.self) i.point size c.pop-last.new.self.items rest kept = subst (λ (xs : List SetAt). Chain (now_of c.undo.new.self) i.point size xs rest kept) (sym (c.pop-last.ensures.rest ∙ ap (λ (k : ℕ). take (k - 1) i.sets.items) i.sets.ok.0)) chain in
     record {
       rest = c.undo.ensures.rest;
-      live = subst (λ (m : Layout). IsLive m.operands) (sym is) (IsLive-put_back l x fits.0);
+      sound = c.undo.ensures.sound;
       consumed = ap (λ (t : Held g.row.R.Denot). t.consumed) c.consume.ensures.after;
       below = λ e. (at ∙ fits.1.here, under);
       within = v.within;

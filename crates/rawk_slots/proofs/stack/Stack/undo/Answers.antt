@@ -10,3 +10,6 @@ invariant_of-self g c =
     let start : length c.undo.new.self.start ≡ length s.slots.now = ap (λ j. length j.start) c.undo.ensures.now ∙ length-back s.slots.now e.slots.entries.items in
     let live : e.live ≤ length s.slots.now = rw (← ap (λ w. w.now) c.self.view_is) at c.requires.live in
     record { now = rw now live; start = rw start live }
+
+pub returns-clause-live : goal.returns-clause-live
+returns-clause-live g c = (invariant_of-self g c).now
