@@ -166,7 +166,7 @@ fn run_machine<R: Source + Drop, W: Sink>(
             Ok(()) => {}
             Err(_) => return stopped(Fault::WriteFailed, machine.point()),
         }
-        machine.drop_consumed();
+        machine.drop_consumed(alloc);
         let step = machine.step();
         let site = machine.site();
         if let Some(report) = told(lines, step, site, machine.point()) {

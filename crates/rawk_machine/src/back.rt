@@ -64,7 +64,6 @@ pub fn write_global(
     ensures err { OnErr result (now_of store.new ≡ now_of store.old) }
     ensures stays { OnErr result (here.new.items ≡ here.old.items) }
     ensures rest { start_of store.new ≡ now_of store.new }
-    ensures sound { IsSound (now_of store.new) }
 {
     here.reserve(1)?;
     store.globals.set(number, value)?;

@@ -1,7 +1,9 @@
 //! What a machine holds.
 
-ghost use Rattle.std.specs.Prelude.{◌≡◌, ◌≤◌, ◌<◌, ◌+◌, ◌-◌, ◌^◌, [], ◌∷◌, ◌++◌, List, ℕ, Some, length, slice_get, option_copied, option_map};
+ghost use Rattle.std.specs.Prelude.{◌≡◌, ◌≤◌, ◌<◌, ◌+◌, ◌-◌, ◌^◌, ◌∷◌, ◌++◌, List, ℕ, Some, length, slice_get, option_copied, option_map};
+ghost use Rattle.std.specs.FinMap.{len};
 ghost use Rattle.rawk_value.specs.Values.{Bytes};
+ghost use Rattle.rawk_arrays.specs.Elements.{array_at, element_at};
 ghost use Rattle.rawk_tape.specs.Records.{Input};
 ghost use Rattle.rawk_record.specs.FieldRefs.{ref_value};
 ghost use Rattle.rawk_travel.specs.Moving.{ending_of};
@@ -23,9 +25,36 @@ impl<R: Source + Drop, K: Keeper> Machine<R, K> {
         ensures sets { AllBelow (self.now.point + 1) self.now.sets }
         ensures made { LastMade self.now.point self.now.sets self.now.unset }
         ensures still { (gone : Bytes) → (input : Input) × MayCome R.may_give self.now gone input }
-        ensures alone { self.now.state.frames ≡ [] }
     {
         let _point = self.point;
+    }
+
+    /// How many activations there are.
+    pub fn depth(&self) -> usize
+        ensures { result ≡ length self.now.state.frames }
+    {
+        self.store.frames.depth()
+    }
+
+    /// How many arrays there are.
+    pub fn array_count(&self) -> usize
+        ensures { result ≡ length self.now.state.arrays }
+    {
+        self.store.arrays.len()
+    }
+
+    /// How many elements an array has, by its number from 0. It is linear in the slots of the array.
+    pub fn element_count(&self, array: usize) -> usize
+        ensures { result ≡ len (array_at array self.now.state.arrays) }
+    {
+        self.store.arrays.count(array)
+    }
+
+    /// An element by the number of its array and its key, if it is there. It is not made.
+    pub fn element(&self, array: usize, key: &[u8]) -> Option<&Value>
+        ensures { option_copied result ≡ element_at array key.now self.now.state.arrays }
+    {
+        self.store.arrays.element(array, key)
     }
 
     /// How the run ended, if the machine stands at the ending.

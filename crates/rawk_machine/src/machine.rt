@@ -362,15 +362,25 @@ impl<R: Source + Drop> Machine<R, Off> {
         size
     }
 
+    /// Removes slots of arrays that are empty, where most of them are: no contract sees it. Where memory for that is refused, they stay.
+    fn pack(&mut self, alloc: Global)
+        requires { self.old.unset ≡ [] }
+        ensures { self.new ≡ self.old }
+    {
+        self.store.pack(alloc);
+    }
+
     /// Lets consumed bytes of the input go, once they are half of those kept, and answers how many. Each byte is so moved once on
-    /// average. It takes no memory.
-    pub fn drop_consumed(&mut self) -> usize
+    /// average. Slots of arrays go that are empty, where most of them are; where memory for moving the others is refused, they stay.
+    pub fn drop_consumed(&mut self, alloc: Global) -> usize
         requires { self.old.unset ≡ [] }
         ensures dropped { self.new ≡ dropped result self.old }
         ensures fewer { 2 * self.new.tape.consumed ≤ length self.new.tape.bytes }
         ensures may { (gone : Bytes) (input : Input) → MayCome R.may_give self.new (gone ++ take result self.old.tape.bytes) input ↔ MayCome R.may_give self.old gone input }
         ensures stands { (input : Input) (gone told : Bytes) → IsAt self.new input (gone ++ take result self.old.tape.bytes) told ↔ IsAt self.old input gone told }
     {
-        self.drop_front()
+        let size = self.drop_front();
+        self.pack(alloc);
+        size
     }
 }

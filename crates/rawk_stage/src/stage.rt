@@ -92,8 +92,7 @@ impl<R: Source + Drop, K: Keeper> Stepper for Stage<R, K> {
     }
 
     fn depth(&self) -> usize {
-        self.machine.known();
-        0
+        self.machine.depth()
     }
 
     fn status(&self) -> u8 {

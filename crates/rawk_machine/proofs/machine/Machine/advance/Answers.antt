@@ -9,7 +9,7 @@ use Rattle.rawk_store.specs.Stores.{now_of}
 use Rattle.rawk_machine.specs.declared.last.Last.TheVariants.{On}
 use Rattle.rawk_travel.specs.Moving.{ending_of}
 use Rattle.std.specs.Option.{option_map}
-use Rattle.rawk_machine.specs.Standing.{Standing, Moment, Past, IsAt, MovesOn, ground_of, moment_of}
+use Rattle.rawk_machine.specs.Standing.{Standing, Moment, Past, IsAt, StandsAt, MovesOn, ground_of, moment_of}
 use Rattle.rawk_machine.specs.Kept.{IsPlaced, moment_in, unsets, pasts, before_of, Chain, Few}
 use Rattle.rawk_machine.specs.Stood.{standing_of, IsBelow}
 use Rattle.rawk_machine.specs.Arrival.{ends_quietly}
@@ -175,3 +175,9 @@ returns-in_err-journaled-in-None-clause-err g c =
           ∙ ap (λ (ps : List Past). before_of i.last l.globals l.current ps) past
           ∙ ap (λ (m : Standing g.row.R.Denot). m.before) c.self.view_is;
     })
+
+pub returns-in_err-journaled-in-None-clause-stands : goal.returns-in_err-journaled-in-None-clause-stands
+returns-in_err-journaled-in-None-clause-stands g c = λ input gone told may at.
+    let i = c.self.inside in
+    let same = moment-grown (now_of i.store) (now_of c.journaled.new.store) c.in_err-journaled-in-None.ensures.grown c.self.invariant.sound c.journaled.ensures.sound in
+    subst (λ (m : Moment). StandsAt (record { code = i.code; settings = i.settings; steps = i.steps; input = input }) i.sets.items i.point m gone told) (sym same) (subst (λ (m : Standing g.row.R.Denot). IsAt m input gone told) (sym c.self.view_is) at)

@@ -43,6 +43,3 @@ returns-clause-made g c =
 
 pub returns-clause-still : goal.returns-clause-still
 returns-clause-still g c = λ gone. come_some g.R.Source.may_give gone g.met.R.Source.gives_some
-
-pub returns-clause-alone : goal.returns-clause-alone
-returns-clause-alone g c = sym (ap (λ (m : Standing g.row.R.Denot). m.state.frames) c.self.view_is)

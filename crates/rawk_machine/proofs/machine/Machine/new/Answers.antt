@@ -39,3 +39,6 @@ returns-clause-stood g c = λ input may.
       unset = subst (λ (gs : List Group). AllStood ground 0 (unsets l c.new.result.items (reverse gs))) (sym c.new-2.ensures.items) tt;
       history = subst (λ (ks : List Kept). AllPassed ground 0 (pasts l c.new.result.items 0 (reverse c.new-2.result.items) ks)) (sym c.requires.empty) tt;
     }
+
+pub invariant_of-store : goal.invariant_of-store
+invariant_of-store g c = record { is = c.drop-in_err-step-23.inside.last.is }

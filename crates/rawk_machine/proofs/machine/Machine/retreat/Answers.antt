@@ -13,7 +13,7 @@ use Rattle.rawk_machine.specs.Arrival.{ends_quietly}
 use Rattle.rawk_machine.proofs.Chains.{fit_here}
 use Rattle.rawk_machine.proofs.Journals.{fit_groups, few_less}
 use Rattle.rawk_machine.proofs.Leads.{gone_is}
-use Rattle.rawk_machine.proofs.Stands.{stood_back}
+use Rattle.rawk_machine.proofs.Stands.{come_either, stood_back}
 use Rattle.rawk_machine.proofs.machine.Machine.retreat.Goals as goal
 
 pub go_back-requires-clause-fits_here : goal.go_back-requires-clause-fits_here
@@ -98,3 +98,8 @@ pub returns-clause-stood : goal.returns-clause-stood
 returns-clause-stood g c = λ input stood.
     let old = c.args.self.now in
     subst (λ (x : Standing g.row.R.Denot). Stood x input) (sym (returns-clause-back g c)) (stood_back old input old.history stood.history stood)
+
+pub returns-clause-may : goal.returns-clause-may
+returns-clause-may g c = λ gone input.
+    let k = c.go_back.new.store.registers.now.consumed in
+    come_either g.R.Source.may_give c.args.self.now _ gone input k (c.consume.ensures.after ∙ ap (λ (m : Standing g.row.R.Denot). record m.tape { consumed = k }) c.self.view_is)

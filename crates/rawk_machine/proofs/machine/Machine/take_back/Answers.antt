@@ -12,7 +12,7 @@ use Rattle.rawk_machine.specs.Stood.{standing_of}
 use Rattle.rawk_machine.specs.Arrival.{ends_quietly}
 use Rattle.rawk_machine.proofs.Chains.{fit_here, chain_unset}
 use Rattle.rawk_machine.proofs.Leads.{taken_is}
-use Rattle.rawk_machine.proofs.Stands.{stood_unset}
+use Rattle.rawk_machine.proofs.Stands.{come_either, stood_unset}
 use Rattle.rawk_machine.proofs.machine.Machine.take_back.Goals as goal
 
 pub undo-requires : goal.undo-requires
@@ -96,3 +96,8 @@ pub returns-clause-stood : goal.returns-clause-stood
 returns-clause-stood g c = λ input stood.
     let old = c.args.self.now in
     subst (λ (m : Standing g.row.R.Denot). Stood m input) (sym (returns-clause-back g c)) (stood_unset old input old.unset stood.unset stood)
+
+pub returns-clause-may : goal.returns-clause-may
+returns-clause-may g c = λ gone input.
+    let k = c.undo.new.self.registers.now.consumed in
+    come_either g.R.Source.may_give c.args.self.now _ gone input k (c.consume.ensures.after ∙ ap (λ (m : Standing g.row.R.Denot). record m.tape { consumed = k }) c.self.view_is)
