@@ -358,7 +358,7 @@ impl<R: Source + Drop> Machine<R, Off> {
         let consumed = self.tape.consumed();
         let size = self.tape.forget();
         self.store.registers.now.consumed = consumed - size;
-        self.store.forget();
+        self.store.registers.start.consumed = consumed - size;
         size
     }
 
