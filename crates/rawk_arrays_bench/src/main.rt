@@ -13,7 +13,7 @@ fn main(rt: HostRuntime) -> Result<()> {
     let alloc = rt.alloc();
     let mut arrays = Arrays::new(alloc);
     arrays.add()?;
-    arrays.forget(alloc);
+    rest(alloc, &mut arrays);
     for line in rt.lines(alloc) {
         let line = line?;
         let mut words = line.as_str().split_whitespace();
@@ -52,7 +52,7 @@ fn work(alloc: Global, arrays: &mut Arrays, verb: &str, first: u64, second: u64)
         "keys" => Ok(keys(alloc, arrays)?),
         "clear" => {
             arrays.clear(0)?;
-            arrays.forget(alloc);
+            rest(alloc, arrays);
             Ok(arrays.count(0) as u64)
         }
         "count" => Ok(arrays.count(0) as u64),
@@ -84,10 +84,16 @@ fn one(alloc: Global, arrays: &mut Arrays, verb: &str, first: u64, second: u64) 
     Ok(arrays.count(0) as u64)
 }
 
+/// Ends a step that is not kept.
+fn rest(alloc: Global, arrays: &mut Arrays) {
+    arrays.forget();
+    arrays.pack(alloc);
+}
+
 /// Ends a step, or puts it back.
 fn step(alloc: Global, arrays: &mut Arrays, verb: &str) -> Result<u64> {
     match verb {
-        "rest" => arrays.forget(alloc),
+        "rest" => rest(alloc, arrays),
         "back" => arrays.undo_step(),
         "undo" => {
             let mut group = arrays.finish(alloc);
@@ -117,7 +123,7 @@ fn bump(alloc: Global, arrays: &mut Arrays, times: u64, count: u64) -> Result<u6
             _ => 1,
         };
         arrays.set_at(place, Value::Number(value))?;
-        arrays.forget(alloc);
+        rest(alloc, arrays);
         sum = sum.wrapping_add(value.unsigned_abs());
         next = next.wrapping_add(1);
         if next >= count {
