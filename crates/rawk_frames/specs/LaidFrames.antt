@@ -36,6 +36,11 @@ pub record AreFrames (frames : Journaled (Stacked Activation)) (locals : Journal
   pub frames_live : IsLive frames.start
   pub locals_live : IsLive locals.start
 
+-- the live lengths are within the slots
+pub record AreFramesLive (l : LaidFrames) : Type 0 where
+  pub frames : IsLive l.frames
+  pub locals : IsLive l.locals
+
 -- slots were added beyond the live ones, and nothing else was done
 pub record GrownFrames (l m : LaidFrames) : Type 0 where
   pub frames : GrownStack l.frames m.frames

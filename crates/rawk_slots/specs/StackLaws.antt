@@ -41,10 +41,14 @@ FitsStack-grown s group more h =
 pub GrownStack-back : {T : Type 0} (s t : Stacked T) (group : StackGroup T) → GrownStack s t → FitsStack group s → GrownStack (stack_back s group) (stack_back t group)
 GrownStack-back {T} s t group g h = record { more = g.more; is = ap (λ (x : Stacked T). stack_back x group) g.is ∙ stack_back-grown s group g.more h }
 
+-- a group of a stack is one of a grown stack too
+pub FitsStack-over : {T : Type 0} (s t : Stacked T) (group : StackGroup T) → GrownStack s t → FitsStack group s → FitsStack group t
+FitsStack-over s t group g h = rw g.is (FitsStack-grown s group g.more h)
+
 -- a group that leads from a stack back to another leads there over more slots too
 pub leads_back-grown : {T : Type 0} (s t earlier : Stacked T) (group : StackGroup T) → FitsStack group s → GrownStack earlier (stack_back s group) → GrownStack s t → FitsStack group t × GrownStack earlier (stack_back t group)
 leads_back-grown s t earlier group h e g =
-    (rw g.is (FitsStack-grown s group g.more h), GrownStack-trans earlier (stack_back s group) (stack_back t group) e (GrownStack-back s t group g h))
+    (FitsStack-over s t group g h, GrownStack-trans earlier (stack_back s group) (stack_back t group) e (GrownStack-back s t group g h))
 
 pub IsLive-stack_back : {T : Type 0} (s : Stacked T) (group : StackGroup T) → FitsStack group s → IsLive (stack_back s group)
 IsLive-stack_back s group h = omega (arith, length-back s.slots group.slots.entries.items, h.live)

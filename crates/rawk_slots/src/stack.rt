@@ -191,7 +191,7 @@ impl<T: Drop> Stack<T> {
     }
 }
 
-/// A change of a stack. A number or a count beyond the values that there are is as in the calls of `Stack`.
+/// A change of a stack. A number that has no value changes nothing, and a count stands for as many values as there are at most.
 #[derive(Drop)]
 pub enum StackChange<T> {
     Push(T),
