@@ -52,5 +52,10 @@ GrownArrays-back l m group g h = record { names = g.names; slots = back_spread l
 pub FitsArrays-grown : (l m : Laid) (group : ArraysGroup) → GrownArrays l m → FitsArrays group l → FitsArrays group m
 FitsArrays-grown l m group g h = AreBelow-more (length l.slots) (length m.slots) group.slots.entries.items g.slots.longer h
 
+-- a group that leads from arrays back to others leads there over more names and slots too
+pub arrays_lead_back-grown : (l m earlier : Laid) (group : ArraysGroup) → FitsArrays group l → GrownArrays earlier (arrays_back l group) → GrownArrays l m → FitsArrays group m × GrownArrays earlier (arrays_back m group)
+arrays_lead_back-grown l m earlier group h e g =
+    (FitsArrays-grown l m group g h, GrownArrays-trans earlier (arrays_back l group) (arrays_back m group) e (GrownArrays-back l m group g h))
+
 pub IsLaid-back : (l : Laid) (group : ArraysGroup) → IsLaid l.names l.slots → IsLaid (arrays_back l group).names (arrays_back l group).slots
 IsLaid-back l group h = record { distinct = h.distinct; named = omega (arith, h.named, length-back l.slots group.slots.entries.items) }

@@ -1,11 +1,13 @@
 -- Arrays, each a finite map from keys to values.
-use Rattle.std.specs.Prelude.{ℕ, Bool, if◌then◌else◌, List, slice_index_or, slice_set, Option, None, Some}
+use Rattle.std.specs.Prelude.{ℕ, Bool, if◌then◌else◌, List, ◌++◌, replicate, slice_index_or, slice_set, take, Option, None, Some}
 use Rattle.std.specs.FinMap.{FinMap, empty, get, insert, remove, contains_key, keys}
 use Rattle.std.specs.Ordering.{nat_cmp}
 use Rattle.std.specs.Cmp.Lexicographic.{slice_cmp}
 use Rattle.rawk_value.specs.Values.{Bytes}
 use Rattle.rawk_value.specs.declared.value.Value.{Value}
 use Rattle.rawk_value.specs.declared.value.Value.TheVariants.{Uninitialized}
+use Rattle.rawk_arrays.specs.declared.arrays.ArraysChange.{ArraysChange}
+use Rattle.rawk_arrays.specs.declared.arrays.ArraysChange.TheVariants.{Set, Touch, Delete, Clear, AddEmpty, Truncate}
 
 -- the elements of an array, in byte order of their keys
 abbrev pub Elements : Type 0
@@ -55,3 +57,12 @@ map_keys m = keys m
 
 abbrev pub keys_at : ℕ → List Elements → List Bytes
 keys_at a arrays = map_keys (array_at a arrays)
+
+-- the arrays after a change
+abbrev pub changed_arrays : ArraysChange → List Elements → List Elements
+changed_arrays (Set a key value) arrays = with_element a key.items value arrays
+changed_arrays (Touch a key) arrays = touched a key.items arrays
+changed_arrays (Delete a key) arrays = without_element a key.items arrays
+changed_arrays (Clear a) arrays = cleared a arrays
+changed_arrays (AddEmpty count) arrays = arrays ++ replicate count no_elements
+changed_arrays (Truncate count) arrays = take count arrays

@@ -7,13 +7,13 @@ ghost use Rattle.std.specs.Option.{option_copied};
 ghost use Rattle.rawk_value.specs.Values.{Bytes};
 ghost use Rattle.rawk_slots.specs.Journaled.{at_rest};
 ghost use Rattle.rawk_slots.specs.Back.{back};
-ghost use Rattle.rawk_arrays.specs.Elements.{array_at, cleared, element_at, is_element, keys_at, no_elements, touched, with_element, with_put, without_element};
+ghost use Rattle.rawk_arrays.specs.Elements.{array_at, changed_arrays, cleared, element_at, is_element, keys_at, no_elements, touched, with_element, with_put, without_element};
 ghost use Rattle.rawk_arrays.specs.Laid.{GrownArrays, IsLaid, IsPlaceOf, arrays_of, no_arrays};
 ghost use Rattle.rawk_arrays.specs.ArraysBack.{FitsArrays, arrays_back};
 
 use crate::cells::{Cells, count, element, empty, filled, keys, pack, put, slot_for};
 use rawk_names::Names;
-use rawk_slots::{SlotGroup, Slots};
+use rawk_slots::{Reversible, SlotGroup, Slots};
 use rawk_value::Value;
 use std::alloc::{AllocError, Global};
 use std::marker::Model;
@@ -54,6 +54,31 @@ impl Model for Arrays {
 pub struct ArraysGroup {
     pub slots: SlotGroup<Option<Value>>,
     pub live: usize,
+}
+
+/// A change of the arrays. A number that has no array changes nothing.
+#[derive(Drop)]
+pub enum ArraysChange {
+    Set {
+        array: usize,
+        key: Vec<u8>,
+        value: Value,
+    },
+    Touch {
+        array: usize,
+        key: Vec<u8>,
+    },
+    Delete {
+        array: usize,
+        key: Vec<u8>,
+    },
+    Clear {
+        array: usize,
+    },
+    /// so many
+    AddEmpty(usize),
+    /// to so many at most
+    Truncate(usize),
 }
 
 impl Arrays {
@@ -313,5 +338,57 @@ impl Arrays {
         group.live = self.live;
         self.live = live;
         self.began = live;
+    }
+}
+
+impl Arrays {
+    // Makes a change within the step in progress. It fails where memory is refused.
+    fn change(&mut self, alloc: Global, change: ArraysChange) -> Result<(), AllocError>
+        ensures did { OnOk result (arrays_of self.new.now ≡ changed_arrays change (arrays_of self.old.now)) }
+        ensures start { GrownArrays self.old.start self.new.start }
+    {
+        match change {
+            ArraysChange::Set { array, key, value } => self.set(alloc, array, &key, value),
+            ArraysChange::Touch { array, key } => self.touch(alloc, array, &key),
+            ArraysChange::Delete { array, key } => self.delete(alloc, array, &key),
+            ArraysChange::Clear { array } => self.clear(array),
+            ArraysChange::AddEmpty(count) => self.add_empty(count),
+            ArraysChange::Truncate(count) => {
+                self.truncate(count);
+                Ok(())
+            }
+        }
+    }
+}
+
+impl Reversible for Arrays {
+    ghost use Rattle.std.specs.Prelude.{◌≡◌};
+    ghost use Rattle.rawk_arrays.specs.Elements.{changed_arrays};
+    ghost use Rattle.rawk_arrays.specs.Laid.{GrownArrays, arrays_of};
+    ghost use Rattle.rawk_arrays.specs.ArraysBack.{FitsArrays, arrays_back};
+
+    type Change = ArraysChange;
+
+    type Undo = ArraysGroup;
+
+    ghost grown = { λ old new. GrownArrays old.now new.now };
+
+    ghost makes = { λ old change new. arrays_of new.now ≡ changed_arrays change (arrays_of old.now) };
+
+    ghost leads_back = { λ now undo earlier. FitsArrays undo now.now × GrownArrays earlier.now (arrays_back now.now undo) };
+
+    fn apply(&mut self, alloc: Global, change: ArraysChange) -> Result<ArraysGroup, AllocError> {
+        self.forget();
+        match self.change(alloc, change) {
+            Ok(()) => Ok(self.finish(alloc)),
+            Err(error) => {
+                self.undo_step();
+                Err(error)
+            }
+        }
+    }
+
+    fn undo(&mut self, undo: &mut ArraysGroup) {
+        self.undo(undo);
     }
 }

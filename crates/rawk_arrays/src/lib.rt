@@ -4,4 +4,4 @@
 pub mod arrays;
 mod cells;
 
-pub use arrays::{Arrays, ArraysGroup};
+pub use arrays::{Arrays, ArraysChange, ArraysGroup};

@@ -39,6 +39,7 @@ pub record GrownKeys (l m : LaidKeys) : Type 0 where
   pub lists : GrownStack l.lists m.lists
   pub visited : GrownStack l.visited m.visited
 
+-- the live lengths are within the slots
 pub record AreKeysLive (l : LaidKeys) : Type 0 where
   pub lists : IsLive l.lists
   pub visited : IsLive l.visited

@@ -3,4 +3,5 @@ pub mod LaidFrames
 pub mod FramesBack
 pub mod LaidKeys
 pub mod KeysBack
+pub mod FramesChanges
 pub mod FramesLaws

@@ -5,10 +5,11 @@ ghost use Rattle.std.specs.Option.{option_copied};
 ghost use Rattle.rawk_slots.specs.Journaled.{at_rest};
 ghost use Rattle.rawk_slots.specs.Stacked.{live_slots, live_values};
 ghost use Rattle.rawk_frames.specs.Frame.{Frame, IsOf, locals_now, new_frame, with_local, with_more};
-ghost use Rattle.rawk_frames.specs.LaidFrames.{AreSoundFrames, GrownFrames, IsPlace, frames_from, frames_of, no_frames};
+ghost use Rattle.rawk_frames.specs.LaidFrames.{AreFramesLive, AreNested, GrownFrames, IsPlace, frames_from, frames_of, no_frames};
 ghost use Rattle.rawk_frames.specs.FramesBack.{FitsFrames, frames_back};
+ghost use Rattle.rawk_frames.specs.FramesChanges.{changed_frames};
 
-use rawk_slots::{Stack, StackGroup};
+use rawk_slots::{Reversible, Stack, StackGroup};
 use rawk_value::Value;
 use std::alloc::{AllocError, Global};
 use std::marker::Model;
@@ -56,6 +57,23 @@ impl Model for Frames {
 pub struct FramesGroup {
     pub frames: StackGroup<Activation>,
     pub locals: StackGroup<Local>,
+}
+
+/// A change of the activations.
+#[derive(Drop)]
+pub enum FramesChange {
+    Enter {
+        function: usize,
+        arrays_before: usize,
+        called_at: u64,
+    },
+    AddLocal(Local),
+    SetLocal {
+        number: usize,
+        local: Local,
+    },
+    Leave,
+    LeaveAll,
 }
 
 impl Frames {
@@ -153,7 +171,8 @@ impl Frames {
         ensures now { self.new ≡ at_rest self.old.now }
         ensures back { frames_back self.old.now result ≡ self.old.start }
         ensures fits { FitsFrames result self.old.now }
-        ensures sound { AreSoundFrames self.old.now }
+        ensures nested { AreNested self.old.now }
+        ensures live { AreFramesLive self.old.now }
     {
         FramesGroup {
             frames: self.frames.finish(alloc),
@@ -164,7 +183,8 @@ impl Frames {
     /// Ends the step, and forgets what it changed. It takes no memory.
     pub fn forget(&mut self)
         ensures now { self.new ≡ at_rest self.old.now }
-        ensures sound { AreSoundFrames self.old.now }
+        ensures nested { AreNested self.old.now }
+        ensures live { AreFramesLive self.old.now }
     {
         self.frames.forget();
         self.locals.forget();
@@ -173,7 +193,8 @@ impl Frames {
     /// Puts back what the step in progress changed. It takes no memory and always succeeds.
     pub fn undo_step(&mut self)
         ensures now { self.new ≡ at_rest self.old.start }
-        ensures sound { AreSoundFrames self.old.start }
+        ensures nested { AreNested self.old.start }
+        ensures live { AreFramesLive self.old.start }
     {
         self.frames.undo_step();
         self.locals.undo_step();
@@ -184,10 +205,66 @@ impl Frames {
         requires { FitsFrames group.old self.old.now }
         ensures now { self.new ≡ at_rest (frames_back self.old.now group.old) }
         ensures newer { frames_back self.new.now group.new ≡ self.old.now }
-        ensures sound { AreSoundFrames self.new.now }
+        ensures live { AreFramesLive self.new.now }
     {
         self.frames.undo(&mut group.frames);
         self.locals.undo(&mut group.locals);
+    }
+
+    // Makes a change within the step in progress. It fails where memory is refused.
+    fn change(&mut self, change: FramesChange) -> Result<(), AllocError>
+        ensures did { OnOk result (frames_of self.new.now ≡ changed_frames change (frames_of self.old.now)) }
+        ensures start { GrownFrames self.old.start self.new.start }
+    {
+        match change {
+            FramesChange::Enter {
+                function,
+                arrays_before,
+                called_at,
+            } => self.enter(function, arrays_before, called_at),
+            FramesChange::AddLocal(local) => self.add_local(local),
+            FramesChange::SetLocal { number, local } => self.set_local(number, local),
+            FramesChange::Leave => {
+                let _left = self.leave();
+                Ok(())
+            }
+            FramesChange::LeaveAll => {
+                self.leave_all();
+                Ok(())
+            }
+        }
+    }
+}
+
+impl Reversible for Frames {
+    ghost use Rattle.std.specs.Prelude.{◌≡◌};
+    ghost use Rattle.rawk_frames.specs.LaidFrames.{GrownFrames, frames_of};
+    ghost use Rattle.rawk_frames.specs.FramesBack.{FitsFrames, frames_back};
+    ghost use Rattle.rawk_frames.specs.FramesChanges.{changed_frames};
+
+    type Change = FramesChange;
+
+    type Undo = FramesGroup;
+
+    ghost grown = { λ old new. GrownFrames old.now new.now };
+
+    ghost makes = { λ old change new. frames_of new.now ≡ changed_frames change (frames_of old.now) };
+
+    ghost leads_back = { λ now undo earlier. FitsFrames undo now.now × GrownFrames earlier.now (frames_back now.now undo) };
+
+    fn apply(&mut self, alloc: Global, change: FramesChange) -> Result<FramesGroup, AllocError> {
+        self.forget();
+        match self.change(change) {
+            Ok(()) => Ok(self.finish(alloc)),
+            Err(error) => {
+                self.undo_step();
+                Err(error)
+            }
+        }
+    }
+
+    fn undo(&mut self, undo: &mut FramesGroup) {
+        self.undo(undo);
     }
 }
 

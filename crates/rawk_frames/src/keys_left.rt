@@ -6,8 +6,9 @@ ghost use Rattle.rawk_slots.specs.Journaled.{at_rest};
 ghost use Rattle.rawk_slots.specs.Stacked.{live_values};
 ghost use Rattle.rawk_frames.specs.LaidKeys.{AreKeysLive, GrownKeys, keys_now, keys_of, left_lists, no_keys, texts, without_first};
 ghost use Rattle.rawk_frames.specs.KeysBack.{FitsKeys, keys_back};
+ghost use Rattle.rawk_frames.specs.FramesChanges.{changed_keys};
 
-use rawk_slots::{SlotGroup, Slots, Stack, StackGroup};
+use rawk_slots::{Reversible, SlotGroup, Slots, Stack, StackGroup};
 use std::alloc::{AllocError, Global};
 use std::marker::Model;
 
@@ -43,6 +44,15 @@ impl Model for KeysLeft {
 pub struct KeysLeftGroup {
     pub lists: StackGroup<Vec<Vec<u8>>>,
     pub visited: StackGroup<usize>,
+}
+
+/// A change of the keys that are left.
+#[derive(Drop)]
+pub enum KeysChange {
+    Begin(Vec<Vec<u8>>),
+    Advance,
+    End(usize),
+    Clear,
 }
 
 impl KeysLeft {
@@ -138,6 +148,57 @@ impl KeysLeft {
     {
         self.lists.undo(&mut group.lists);
         self.visited.undo(&mut group.visited);
+    }
+
+    // Makes a change within the step in progress. It fails where memory is refused.
+    fn change(&mut self, change: KeysChange) -> Result<(), AllocError>
+        ensures did { OnOk result (keys_of self.new.now ≡ changed_keys change (keys_of self.old.now)) }
+        ensures start { GrownKeys self.old.start self.new.start }
+    {
+        match change {
+            KeysChange::Begin(keys) => self.begin(keys),
+            KeysChange::Advance => self.advance(),
+            KeysChange::End(count) => {
+                self.end(count);
+                Ok(())
+            }
+            KeysChange::Clear => {
+                self.clear();
+                Ok(())
+            }
+        }
+    }
+}
+
+impl Reversible for KeysLeft {
+    ghost use Rattle.std.specs.Prelude.{◌≡◌};
+    ghost use Rattle.rawk_frames.specs.LaidKeys.{GrownKeys, keys_of};
+    ghost use Rattle.rawk_frames.specs.KeysBack.{FitsKeys, keys_back};
+    ghost use Rattle.rawk_frames.specs.FramesChanges.{changed_keys};
+
+    type Change = KeysChange;
+
+    type Undo = KeysLeftGroup;
+
+    ghost grown = { λ old new. GrownKeys old.now new.now };
+
+    ghost makes = { λ old change new. keys_of new.now ≡ changed_keys change (keys_of old.now) };
+
+    ghost leads_back = { λ now undo earlier. FitsKeys undo now.now × GrownKeys earlier.now (keys_back now.now undo) };
+
+    fn apply(&mut self, alloc: Global, change: KeysChange) -> Result<KeysLeftGroup, AllocError> {
+        self.forget();
+        match self.change(change) {
+            Ok(()) => Ok(self.finish(alloc)),
+            Err(error) => {
+                self.undo_step();
+                Err(error)
+            }
+        }
+    }
+
+    fn undo(&mut self, undo: &mut KeysLeftGroup) {
+        self.undo(undo);
     }
 }
 

@@ -4,8 +4,8 @@
 pub mod frames;
 pub mod keys_left;
 
-pub use frames::{Activation, Frames, FramesGroup, Local};
-pub use keys_left::{KeysLeft, KeysLeftGroup, Ranges, RangesGroup};
+pub use frames::{Activation, Frames, FramesChange, FramesGroup, Local};
+pub use keys_left::{KeysChange, KeysLeft, KeysLeftGroup, Ranges, RangesGroup};
 
 #[cfg(test)]
 mod tests;

@@ -3,4 +3,5 @@ pub mod Back
 pub mod BackLaws
 pub mod Stacked
 pub mod StackBack
+pub mod StackChanges
 pub mod StackLaws

@@ -1,15 +1,18 @@
 -- Slots that were added beyond the live values of a stack change nothing, and putting back works over them.
 use Rattle.std.specs.Prelude.{◌≡◌, List, [], ◌++◌, length, reverse}
 use Rattle.std.proofs.Common.{sym, ap, ◌∙◌, arith, append_assoc}
-use Rattle.std.proofs.lemmas.List.{append-nil, length-append, take-append-le}
+use Rattle.std.proofs.lemmas.List.{append-nil, length-append, reverse-reverse, take-append-le}
 use Rattle.rawk_slots.specs.declared.stack.StackGroup.{StackGroup}
 use Rattle.rawk_slots.specs.BackLaws.{back_grow, AreBelow-more, length-back}
-use Rattle.rawk_slots.specs.Stacked.{Stacked, GrownStack, IsLive, live_values, with_slots}
+use Rattle.rawk_slots.specs.Stacked.{Stacked, GrownStack, IsLive, live_slots, live_values, with_slots}
 use Rattle.rawk_slots.specs.StackBack.{FitsStack, stack_back}
 
 -- a grown stack has the same live values
 pub live_values-grown : {T : Type 0} (s t : Stacked T) → GrownStack s t → IsLive s → live_values t ≡ live_values s
 live_values-grown {T} s t g h = ap (λ (x : Stacked T). live_values x) g.is ∙ ap (λ (xs : List T). reverse xs) (take-append-le s.live s.slots g.more h)
+
+pub live_slots-grown : {T : Type 0} (s t : Stacked T) → GrownStack s t → IsLive s → live_slots t ≡ live_slots s
+live_slots-grown {T} s t g h = sym (reverse-reverse (live_slots t)) ∙ (ap (λ (xs : List T). reverse xs) (live_values-grown s t g h) ∙ reverse-reverse (live_slots s))
 
 pub IsLive-grown : {T : Type 0} (s t : Stacked T) → GrownStack s t → IsLive s → IsLive t
 IsLive-grown s t g h = rw g.is (omega (arith, h, length-append s.slots g.more))
@@ -33,6 +36,19 @@ FitsStack-grown s group more h =
       places = AreBelow-more (length s.slots) (length (s.slots ++ more)) group.slots.entries.items (omega arith) h.places;
       live = omega (arith, h.live);
     }
+
+-- putting back, over more slots
+pub GrownStack-back : {T : Type 0} (s t : Stacked T) (group : StackGroup T) → GrownStack s t → FitsStack group s → GrownStack (stack_back s group) (stack_back t group)
+GrownStack-back {T} s t group g h = record { more = g.more; is = ap (λ (x : Stacked T). stack_back x group) g.is ∙ stack_back-grown s group g.more h }
+
+-- a group of a stack is one of a grown stack too
+pub FitsStack-over : {T : Type 0} (s t : Stacked T) (group : StackGroup T) → GrownStack s t → FitsStack group s → FitsStack group t
+FitsStack-over s t group g h = rw g.is (FitsStack-grown s group g.more h)
+
+-- a group that leads from a stack back to another leads there over more slots too
+pub leads_back-grown : {T : Type 0} (s t earlier : Stacked T) (group : StackGroup T) → FitsStack group s → GrownStack earlier (stack_back s group) → GrownStack s t → FitsStack group t × GrownStack earlier (stack_back t group)
+leads_back-grown s t earlier group h e g =
+    (FitsStack-over s t group g h, GrownStack-trans earlier (stack_back s group) (stack_back t group) e (GrownStack-back s t group g h))
 
 pub IsLive-stack_back : {T : Type 0} (s : Stacked T) (group : StackGroup T) → FitsStack group s → IsLive (stack_back s group)
 IsLive-stack_back s group h = omega (arith, length-back s.slots group.slots.entries.items, h.live)

@@ -11,4 +11,4 @@ pub use reversible::Reversible;
 pub use saved::Saved;
 pub use slot_group::{SlotGroup, led_to};
 pub use slots::Slots;
-pub use stack::{Stack, StackGroup};
+pub use stack::{Stack, StackChange, StackGroup};

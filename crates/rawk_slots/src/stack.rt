@@ -5,7 +5,9 @@ ghost use Rattle.std.specs.Option.{option_copied};
 ghost use Rattle.rawk_slots.specs.Journaled.{at_rest};
 ghost use Rattle.rawk_slots.specs.Stacked.{GrownStack, IsLive, empty_stack, live_slots, live_values};
 ghost use Rattle.rawk_slots.specs.StackBack.{FitsStack, stack_back};
+ghost use Rattle.rawk_slots.specs.StackChanges.{changed_values};
 
+use crate::reversible::Reversible;
 use crate::slot_group::SlotGroup;
 use crate::slots::Slots;
 use std::alloc::{AllocError, Global};
@@ -187,5 +189,79 @@ impl<T: Drop> Stack<T> {
         group.live = self.live;
         self.live = live;
         self.began = live;
+    }
+}
+
+/// A change of a stack. A number that has no value changes nothing, and a count stands for as many values as there are at most.
+#[derive(Drop)]
+pub enum StackChange<T> {
+    Push(T),
+    SetNewest(T),
+    /// a value by its number from the oldest, which is 0
+    SetOldest { number: usize, value: T },
+    DropNewest(usize),
+    KeepOldest(usize),
+    Clear,
+}
+
+impl<T: Drop> Stack<T> {
+    // Makes a change within the step in progress. It fails where memory is refused.
+    fn change(&mut self, change: StackChange<T>) -> Result<(), AllocError>
+        ensures did { OnOk result (live_values self.new.now ≡ changed_values change (live_values self.old.now)) }
+        ensures start { GrownStack self.old.start self.new.start }
+    {
+        match change {
+            StackChange::Push(value) => self.push(value),
+            StackChange::SetNewest(value) => self.set_newest(value),
+            StackChange::SetOldest { number, value } => self.set_oldest(number, value),
+            StackChange::DropNewest(count) => {
+                self.drop_newest(count);
+                Ok(())
+            }
+            StackChange::KeepOldest(count) => {
+                self.truncate(count);
+                Ok(())
+            }
+            StackChange::Clear => {
+                self.clear();
+                Ok(())
+            }
+        }
+    }
+}
+
+impl<T: Drop> Reversible for Stack<T> {
+    ghost use Rattle.std.specs.Prelude.{◌≡◌};
+    ghost use Rattle.rawk_slots.specs.Stacked.{GrownStack, live_values};
+    ghost use Rattle.rawk_slots.specs.StackBack.{FitsStack, stack_back};
+    ghost use Rattle.rawk_slots.specs.StackChanges.{changed_values};
+
+    type Change = StackChange<T>;
+
+    type Undo = StackGroup<T>;
+
+    ghost grown = { λ old new. GrownStack old.now new.now };
+
+    ghost makes = { λ old change new. live_values new.now ≡ changed_values change (live_values old.now) };
+
+    ghost leads_back = { λ now undo earlier. FitsStack undo now.now × GrownStack earlier.now (stack_back now.now undo) };
+
+    fn apply(
+        &mut self,
+        alloc: Global,
+        change: StackChange<T>,
+    ) -> Result<StackGroup<T>, AllocError> {
+        self.forget();
+        match self.change(change) {
+            Ok(()) => Ok(self.finish(alloc)),
+            Err(error) => {
+                self.undo_step();
+                Err(error)
+            }
+        }
+    }
+
+    fn undo(&mut self, undo: &mut StackGroup<T>) {
+        self.undo(undo);
     }
 }

@@ -6,14 +6,14 @@ use Rattle.rawk_value.specs.declared.value.Value.{Value}
 use Rattle.rawk_slots.specs.Back.{back, AreBelow}
 use Rattle.rawk_slots.specs.Stacked.{Stacked, GrownStack, live_values}
 use Rattle.rawk_slots.specs.StackBack.{FitsStack}
-use Rattle.rawk_slots.specs.StackLaws.{live_values-grown, GrownStack-refl, GrownStack-trans, FitsStack-grown, IsLive-stack_back}
+use Rattle.rawk_slots.specs.StackLaws.{live_values-grown, GrownStack-refl, GrownStack-trans, GrownStack-back, FitsStack-over, IsLive-stack_back}
 use Rattle.rawk_arrays.specs.Elements.{Elements}
 use Rattle.rawk_arrays.specs.Laid.{arrays_of}
 use Rattle.rawk_arrays.specs.ArraysLaws.{arrays_of-grown, GrownArrays-refl, GrownArrays-trans, GrownArrays-back, FitsArrays-grown, IsLaid-back}
 use Rattle.rawk_frames.specs.Frame.{Frame}
 use Rattle.rawk_frames.specs.LaidFrames.{frames_of}
 use Rattle.rawk_frames.specs.LaidKeys.{keys_of}
-use Rattle.rawk_frames.specs.FramesLaws.{frames_of-grown, keys_of-grown, GrownFrames-refl, GrownFrames-trans, GrownFrames-back, GrownKeys-refl, GrownKeys-trans, GrownKeys-back, GrownStack-back, FitsFrames-grown, FitsKeys-grown, AreSoundFrames-back, AreKeysLive-back}
+use Rattle.rawk_frames.specs.FramesLaws.{frames_of-grown, keys_of-grown, GrownFrames-refl, GrownFrames-trans, GrownFrames-back, GrownKeys-refl, GrownKeys-trans, GrownKeys-back, FitsFrames-grown, FitsKeys-grown, AreFramesLive-back, AreKeysLive-back}
 use Rattle.rawk_record.specs.Shown.{Shown, record_back}
 use Rattle.rawk_store.specs.declared.registers.Registers.{Registers}
 use Rattle.rawk_store.specs.declared.store.Group.{Group}
@@ -100,9 +100,6 @@ state-grown l m g h k =
     ∙ ap (λ (x : Bytes). made_of l.globals (arrays_of l.arrays) (frames_of l.frames) l.ranges l.current x m.registers) g.output
     ∙ ap (λ (x : Registers). made_of l.globals (arrays_of l.arrays) (frames_of l.frames) l.ranges l.current l.output x) g.registers
 
-fits_stack : (s t : Stacked Value) (group : Group) → GrownStack s t → FitsStack group.operands s → FitsStack group.operands t
-fits_stack s t group g h = subst (λ (x : Stacked Value). FitsStack group.operands x) (sym g.is) (FitsStack-grown s group.operands g.more h)
-
 -- putting back, over more slots
 pub Grown-put_back : (l m : Layout) (group : Group) → Grown l m → FitsIn group l → Grown (put_back l group) (put_back m group)
 Grown-put_back l m group g h = record {
@@ -124,14 +121,14 @@ FitsIn-grown l m group g h = record {
   frames = FitsFrames-grown l.frames m.frames group.frames g.frames h.frames;
   keys = FitsKeys-grown l.keys m.keys group.keys g.keys h.keys;
   ranges = subst (λ (xs : List Bool). AreBelow (length xs) group.ranges.entries.items) (sym g.ranges) h.ranges;
-  operands = fits_stack l.operands m.operands group g.operands h.operands;
+  operands = FitsStack-over l.operands m.operands group.operands g.operands h.operands;
   output = rw g.output h.output;
 }
 
 pub IsSound-put_back : (l : Layout) (group : Group) → FitsIn group l → IsSound l → IsSound (put_back l group)
 IsSound-put_back l group h s = record {
   arrays = IsLaid-back l.arrays group.arrays s.arrays;
-  frames = AreSoundFrames-back l.frames group.frames h.frames;
+  frames = AreFramesLive-back l.frames group.frames h.frames;
   keys = AreKeysLive-back l.keys group.keys h.keys;
   operands = IsLive-stack_back l.operands group.operands h.operands;
 }

@@ -1,7 +1,5 @@
-use Rattle.std.proofs.Common.{◌∙◌, ap, refl, List, Option}
-use Rattle.rawk_value.specs.declared.value.Value.{Value}
-use Rattle.rawk_slots.specs.Journaled.{Journaled}
-use Rattle.rawk_arrays.specs.Laid.{Laid, arrays_of, elements_of}
+use Rattle.std.proofs.Common.{◌∙◌, ap, refl}
+use Rattle.rawk_arrays.specs.Laid.{Laid, arrays_of}
 use Rattle.rawk_arrays.specs.ListLaws.{same_arrays}
 use Rattle.rawk_arrays.proofs.arrays.Arrays.pack.Goals as goal
 
