@@ -1,5 +1,7 @@
 //! The last move of a machine.
 
+ghost use Rattle.std.specs.Prelude.{◌≡◌};
+
 use rawk_store::Kept;
 
 /// The last move, from which what was seen before it can be told.
@@ -11,4 +13,16 @@ pub enum Last {
     On,
     /// a step back; the groups lead forward again
     Back(Kept),
+}
+
+impl Last {
+    /// The last move was an advance. Where it was one before, nothing is written: a step does not pay for the size of what a step back keeps.
+    pub(crate) fn turn_on(&mut self)
+        ensures { self.new ≡ Last.On }
+    {
+        match self {
+            Last::On => {}
+            _ => *self = Last::On,
+        }
+    }
 }

@@ -185,7 +185,7 @@ impl<R: Source + Drop, K: Keeper> Machine<R, K> {
                     self.steps,
                 )?;
                 self.point += 1;
-                self.last = Last::On;
+                self.last.turn_on();
                 Ok(answer(&self.store.registers.now))
             }
             Some(_) => Ok(answer(&self.store.registers.now)),

@@ -49,4 +49,4 @@ pub returns-clause-failures : goal.returns-clause-failures
 returns-clause-failures g c = subst (λ (n : ℕ). CountsUp (g.W.Sink.failures c.args.sink.now) (g.W.Sink.failures c.hold-over.new.sink) n) (same_failures c.hold-over.result) c.hold-over.ensures.failures
 
 pub invariant_of-session : goal.invariant_of-session
-invariant_of-session g c = record { is = c.drop-12.inside.last.is }
+invariant_of-session g c = record { is = c.drop-28.inside.last.is }

@@ -6,6 +6,7 @@ use Rattle.rawk_store.specs.declared.keeper.Kept.{Kept}
 use Rattle.rawk_store.specs.declared.registers.Registers.{Registers}
 use Rattle.rawk_store.specs.Layout.{Layout}
 use Rattle.rawk_store.specs.Stores.{now_of}
+use Rattle.rawk_machine.specs.declared.last.Last.{Last}
 use Rattle.rawk_machine.specs.declared.last.Last.TheVariants.{On}
 use Rattle.rawk_travel.specs.Moving.{ending_of}
 use Rattle.std.specs.Option.{option_map}
@@ -50,9 +51,10 @@ returns-in_ok-journaled-in-None-clause-moves g c = λ none.
     let m = moved l e.kept.0 n i.point (length i.tape.bytes) (length c.journaled.new.tape.bytes) i.sets.items i.here.items (g.K.Keeper.kept i.keeper) (g.K.Keeper.kept c.journaled.new.keeper) (g.K.Keeper.limit i.keeper)
     v.sound c.journaled.ensures.sound e.kept.1 placed c.journaled.ensures.longer e.kept.2 v.chain in
     let old : Standing g.row.R.Denot = standing_of i.code i.settings i.steps i.sets.items i.point i.tape l i.executed (reverse i.here.items) (g.K.Keeper.kept i.keeper) (g.K.Keeper.limit i.keeper) i.last in
-    let new = λ (gs : List Group). standing_of i.code i.settings i.steps i.sets.items (i.point + 1) c.journaled.new.tape n c.journaled.new.executed (reverse gs) (g.K.Keeper.kept c.journaled.new.keeper) (g.K.Keeper.limit c.journaled.new.keeper) On in
-    let on : MovesOn old (new []) = record { point = refl; unset = refl; saved = m.saved; history = m.front; kept = m.count; before = λ any. m.before any } in
-    subst (λ (x : Standing g.row.R.Denot). MovesOn x (new c.journaled.new.here.items)) c.self.view_is (subst (λ (gs : List Group). MovesOn old (new gs)) (sym e.here) on)
+    let new = λ (gs : List Group) (la : Last). standing_of i.code i.settings i.steps i.sets.items (i.point + 1) c.journaled.new.tape n c.journaled.new.executed (reverse gs) (g.K.Keeper.kept c.journaled.new.keeper) (g.K.Keeper.limit c.journaled.new.keeper) la in
+    let on : MovesOn old (new [] On) = record { point = refl; unset = refl; saved = m.saved; history = m.front; kept = m.count; before = λ any. m.before any } in
+    subst (λ (x : Standing g.row.R.Denot). MovesOn x (new c.journaled.new.here.items c.turn_on.new.self)) c.self.view_is
+    (subst (λ (la : Last). MovesOn old (new c.journaled.new.here.items la)) (sym c.turn_on.ensures) (subst (λ (gs : List Group). MovesOn old (new gs On)) (sym e.here) on))
 
 pub returns-in_ok-journaled-in-None-clause-stood : goal.returns-in_ok-journaled-in-None-clause-stood
 returns-in_ok-journaled-in-None-clause-stood g c = λ input may stood.
@@ -61,7 +63,7 @@ returns-in_ok-journaled-in-None-clause-stood g c = λ input may stood.
     let going : c.args.self.now.ending ≡ None = sym (ap (λ (m : Standing g.row.R.Denot). m.ending) c.self.view_is) ∙ ap (option_map ending_of) c.in-None.is in
     let on = returns-in_ok-journaled-in-None-clause-moves g c going in
     let new : Standing g.row.R.Denot =
-    standing_of i.code i.settings i.steps i.sets.items (i.point + 1) c.journaled.new.tape n c.journaled.new.executed (reverse c.journaled.new.here.items) (g.K.Keeper.kept c.journaled.new.keeper) (g.K.Keeper.limit c.journaled.new.keeper) On in
+    standing_of i.code i.settings i.steps i.sets.items (i.point + 1) c.journaled.new.tape n c.journaled.new.executed (reverse c.journaled.new.here.items) (g.K.Keeper.kept c.journaled.new.keeper) (g.K.Keeper.limit c.journaled.new.keeper) c.turn_on.new.self in
     stood_step on.saved c.args.self.now new input on.point on.unset on.history (ap (λ (m : Standing g.row.R.Denot). ground_of m input) c.self.view_is)
     (returns-in_ok-journaled-in-None-clause-stands g c input [] [] may stood.now) stood
 
