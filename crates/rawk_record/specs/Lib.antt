@@ -5,5 +5,6 @@ pub mod Shown
 pub mod FieldRefs
 pub mod Separators
 pub mod Changed
+pub mod Changes
 pub mod Drafts
 pub mod Laws

@@ -1,19 +1,17 @@
 //! A record: the bytes of `$0` once, and its fields as places in them.
 
-ghost use Rattle.std.specs.Prelude.{◌≡◌, ◌<◌, ◌-◌, ◌^◌, OnOk, length, slice_get};
+ghost use Rattle.std.specs.Prelude.{◌≡◌, ◌<◌, ◌-◌, ◌^◌, IfOk, OnOk, length, slice_get};
 ghost use Rattle.std.specs.Option.{option_map};
 ghost use Rattle.rawk_record.specs.Changed.{rebuilt, resized, with_value};
 ghost use Rattle.rawk_record.specs.Shown.{no_record, split_record};
 ghost use Rattle.rawk_record.specs.FieldRefs.{ref_value};
 
 use crate::build::{build_with_count, build_with_value};
-use crate::parts::{FieldRef, Parts, field_at, no_parts};
+use crate::parts::{FieldRef, Parts, copy_parts, field_at, no_parts};
 use crate::pieces::{Separator, cut};
-use crate::reversible::Reversible;
 use rawk_value::Value;
 use std::alloc::{AllocError, Global};
 use std::marker::Model;
-use std::mem;
 
 /// A record and its fields.
 #[derive(Debug, Drop)]
@@ -40,6 +38,15 @@ impl Record {
         Record {
             parts: no_parts(alloc),
         }
+    }
+
+    /// A copy. It fails where memory is refused.
+    pub fn copy(&self, alloc: Global) -> Result<Record, AllocError>
+        ensures { IfOk result (λ copied. copied ≡ self.now) }
+    {
+        Ok(Record {
+            parts: copy_parts(alloc, &self.parts)?,
+        })
     }
 
     /// The bytes of `$0`.
@@ -148,23 +155,5 @@ impl Record {
                 Err(refused)
             }
         }
-    }
-}
-
-impl Reversible for Record {
-    type Change = Record;
-
-    type Undo = Record;
-
-    ghost makes = { λ old change new. new ≡ change };
-
-    ghost leads_back = { λ now undo earlier. undo ≡ earlier };
-
-    fn apply(&mut self, change: Record) -> Result<Record, AllocError> {
-        Ok(mem::replace(self, change))
-    }
-
-    fn undo(&mut self, undo: &mut Record) {
-        mem::swap(self, undo);
     }
 }

@@ -1,7 +1,8 @@
 //! The calls with ample memory, once each.
 
-use crate::{Record, Reversible, Separator, fields_of, pieces_between};
+use crate::{Record, RecordChange, Separator, fields_of, pieces_between};
 use rawk_ere::Ere;
+use rawk_slots::Reversible;
 use rawk_value::Value;
 use std::test::Fail;
 
@@ -21,14 +22,31 @@ fn fields_by_each_separator(rt: HostRuntime) -> Result<(), Fail> {
 
 #[test]
 fn a_record_changes_back(rt: HostRuntime) -> Result<(), Fail> {
-    let mut record = Record::new(rt.alloc());
-    let mut next = Record::new(rt.alloc());
-    next.refill(rt.alloc(), b"a b c", Separator::Blanks, false)?;
-    let mut earlier = record.apply(next)?;
-    assert_eq!(rt; record.field_count(), 3);
+    let alloc = rt.alloc();
+    let mut record = Record::new(alloc);
+    let mut next = Record::new(alloc);
+    next.refill(alloc, b"a b c", Separator::Blanks, false)?;
+    let _ = record.apply(alloc, RecordChange::Becomes(next))?;
+    let mut earlier = record.apply(
+        alloc,
+        RecordChange::Field {
+            number: 2,
+            value: Value::Number(7),
+            separator: b"-".to_vec(alloc)?,
+        },
+    )?;
+    assert_eq!(rt; record.text(), b"a-7-c".as_slice());
     record.undo(&mut earlier);
-    assert_eq!(rt; record.field_count(), 0);
-    assert_eq!(rt; earlier.text(), b"a b c".as_slice());
+    assert_eq!(rt; record.text(), b"a b c".as_slice());
+    assert_eq!(rt; earlier.text(), b"a-7-c".as_slice());
+    let _ = record.apply(
+        alloc,
+        RecordChange::Count {
+            count: 1,
+            separator: b"-".to_vec(alloc)?,
+        },
+    )?;
+    assert_eq!(rt; record.text(), b"a".as_slice());
     Ok(())
 }
 

@@ -4,7 +4,8 @@ use Rattle.std.proofs.lemmas.List.{length-append, append_assoc, append-nil, drop
 use Rattle.rawk_tape.specs.Records.{Input}
 use Rattle.rawk_tape.specs.Inputs.{before, CountsUp}
 use Rattle.rawk_tape.specs.declared.source.Ending.{Ending}
-use Rattle.rawk_tape.specs.Tapes.{Held, MayBe, ReadsOn, ReadsAhead, LastRead, IsUnsettled}
+use Rattle.rawk_tape.specs.Tapes.{Held, MayBe, ReadsOn, ReadsAhead, LeadsBack, LastRead, IsUnsettled}
+use Rattle.rawk_tape.specs.Laws.{MayBe-consumed}
 use Rattle.rawk_tape.proofs.Handed.{counts_more}
 
 -- what may be after a read might have been before it
@@ -56,3 +57,17 @@ read_behind_unsettled separator consumed old bytes chunk new none earlier grown 
 pub last_read : {S : Type 0} (may_give : S → Input → Type 0) (over : S → Option Ending) (handed : S → ℕ) (old now new : Held S) (separator : List ℕ) (consumed : ℕ) → ReadsAhead may_give over handed old now → (now ≡ old) ⊎ LastRead separator consumed old.bytes now.bytes → ReadsOn may_give over handed now.source now.bytes new.source new.bytes → IsUnsettled separator now.bytes consumed → (new ≡ old) ⊎ LastRead separator consumed old.bytes new.bytes
 last_read {S = S} may_give over handed old now new separator consumed a earlier r unsettled =
     read_behind_unsettled {A = now ≡ old} {B = new ≡ old} separator consumed old.bytes now.bytes r.chunk new.bytes (λ same. ap (λ (t : Held S). t.bytes) same) earlier a.grown r.grown r.bounded unsettled
+
+-- another count of consumed bytes is taken back, whatever is read ahead after it
+pub count_back : {S : Type 0} (may_give : S → Input → Type 0) (over : S → Option Ending) (handed : S → ℕ) (old more : Held S) (count : ℕ) → old.consumed ≤ length old.bytes → ReadsAhead may_give over handed (record old { consumed = count }) more → LeadsBack may_give over handed more old.consumed old
+count_back {S = S} may_give over handed old more count fits a = record {
+  fits = omega (arith, fits, a.longer);
+  ahead = record {
+    input = λ input may. MayBe-consumed may_give old count input (a.input input (MayBe-consumed may_give more old.consumed input may));
+    consumed = refl;
+    grown = a.grown;
+    longer = a.longer;
+    counted = a.counted;
+    closed = λ ending is. ap (λ (t : Held S). record t { consumed = old.consumed }) (a.closed ending is);
+  };
+}

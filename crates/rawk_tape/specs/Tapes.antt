@@ -1,5 +1,5 @@
 -- What is held of an input, and what an answer of places in it means.
-use Rattle.std.specs.Prelude.{true, ◌≡◌, ◌≢◌, ◌≤◌, ◌<◌, ℕ, ◌+◌, ◌-◌, ◌++◌, max, drop, length, Option, None, Some, Result, Ok, Err, slice_range}
+use Rattle.std.specs.Prelude.{true, ◌≡◌, ◌≢◌, ◌≤◌, ◌<◌, ℕ, ◌+◌, ◌-◌, ◌++◌, max, nat_le, if◌then◌else◌, drop, length, Option, None, Some, Result, Ok, Err, slice_range}
 use Rattle.rawk_value.specs.Values.{Bytes}
 use Rattle.rawk_value.specs.declared.fault.Fault.{Fault}
 use Rattle.rawk_value.specs.declared.fault.Fault.TheVariants.{ReadFailed, OutOfMemory}
@@ -40,6 +40,15 @@ pub record ReadsAhead {S : Type 0} (may_give : S → Input → Type 0) (over : S
   pub longer : length old.bytes ≤ length new.bytes
   pub counted : CountsUp (handed old.source) (handed new.source) (length new.bytes - length old.bytes)
   pub closed : (ending : Ending) → over old.source ≡ Some ending → new ≡ old
+
+-- how many bytes are consumed once a count is: of more than are kept, as many as before
+abbrev pub consumed_by : {S : Type 0} → Held S → ℕ → ℕ
+consumed_by tape count = if nat_le count (length tape.bytes) then count else tape.consumed
+
+-- with so many of its bytes consumed the tape is the earlier one, but for bytes read ahead
+pub record LeadsBack {S : Type 0} (may_give : S → Input → Type 0) (over : S → Option Ending) (handed : S → ℕ) (now : Held S) (count : ℕ) (earlier : Held S) : Type 0 where
+  pub fits : count ≤ length now.bytes
+  pub ahead : ReadsAhead may_give over handed earlier (record now { consumed = count })
 
 -- bytes do not settle the next record: an input that failed behind them would have none
 abbrev pub IsUnsettled : Bytes → Bytes → ℕ → Type 0

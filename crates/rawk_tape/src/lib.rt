@@ -4,6 +4,7 @@
 mod buffer;
 mod bytes_sink;
 mod bytes_source;
+mod consumption;
 mod found;
 mod last;
 mod matches;
@@ -18,6 +19,7 @@ mod tests;
 
 pub use bytes_sink::BytesSink;
 pub use bytes_source::BytesSource;
+pub use consumption::Consumption;
 pub use found::Found;
 pub use sink::{Sink, write_all};
 pub use source::{DeviceFault, Ending, Source};

@@ -62,7 +62,7 @@ impl<R: Source + Drop> Tape<R> {
     }
 
     /// How many bytes are kept.
-    fn size(&self) -> usize
+    pub(crate) fn size(&self) -> usize
         ensures value { result ≡ length self.now.bytes }
         ensures small { result < 2 ^ 63 }
         ensures in_range { self.now.consumed ≤ result }

@@ -2,7 +2,8 @@
 
 ghost use Rattle.std.specs.Prelude.{◌≡◌, None};
 
-use crate::{BytesSink, BytesSource, Source, StdSink, StdSource, Tape, write_all};
+use crate::{BytesSink, BytesSource, Consumption, Source, StdSink, StdSource, Tape, write_all};
+use rawk_slots::Reversible;
 use rawk_value::Fault;
 use std::alloc::{AllocError, Global};
 use std::test::Fail;
@@ -126,5 +127,20 @@ fn a_source_is_lent_and_read_as_little_as_needed(rt: HostRuntime) -> Result<(), 
         first_line(rt.alloc(), StdSource::new(text.as_slice()))?.as_slice(),
         b"ab".as_slice()
     );
+    Ok(())
+}
+
+#[test]
+fn a_consumption_is_taken_back(rt: HostRuntime) -> Result<(), Fail> {
+    let bytes = Vec::from_slice(rt.alloc(), b"a\nb\n")?;
+    let source = BytesSource::new(bytes, [2, 2].to_vec(rt.alloc())?, None);
+    let mut tape = Tape::new(rt.alloc(), source);
+    assert!(rt; tape.next(b"\n").is_ok());
+    let mut earlier = tape.apply(rt.alloc(), Consumption { count: 2 })?;
+    assert!(rt; tape.next(b"\n").is_ok());
+    tape.undo(&mut earlier);
+    assert_eq!(rt; tape.consumed(), 0);
+    assert_eq!(rt; tape.held(), 4);
+    assert_eq!(rt; earlier.count, 2);
     Ok(())
 }
