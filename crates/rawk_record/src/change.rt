@@ -2,7 +2,7 @@
 
 ghost use Rattle.std.specs.Prelude.{◌≡◌, IfOk};
 ghost use Rattle.rawk_record.specs.Changes.{changed_by};
-ghost use Rattle.rawk_record.specs.Shown.{Shown};
+ghost use Rattle.rawk_record.specs.Shown.{Shown, record_back};
 
 use crate::record::Record;
 use rawk_slots::Reversible;
@@ -28,28 +28,32 @@ pub enum RecordChange {
     },
 }
 
-/// The record that a change makes of another.
-fn changed(alloc: Global, old: &Record, change: RecordChange) -> Result<Record, AllocError>
-    ensures { IfOk result (λ new. new ≡ changed_by old.now change) }
+/// The record that a change makes of another, where it is another one.
+fn changed(
+    alloc: Global,
+    old: &Record,
+    change: RecordChange,
+) -> Result<Option<Record>, AllocError>
+    ensures { IfOk result (λ new. record_back old.now new ≡ changed_by old.now change) }
 {
     match change {
-        RecordChange::Becomes(new) => Ok(new),
+        RecordChange::Becomes(new) => Ok(Some(new)),
         RecordChange::Field {
             number,
             value,
             separator,
         } => {
             if number == 0 {
-                return old.copy(alloc);
+                return Ok(None);
             }
             let mut new = Record::new(alloc);
             new.rebuild_with_field(alloc, old, number, value, &separator)?;
-            Ok(new)
+            Ok(Some(new))
         }
         RecordChange::Count { count, separator } => {
             let mut new = Record::new(alloc);
             new.rebuild_with_count(alloc, old, count, &separator)?;
-            Ok(new)
+            Ok(Some(new))
         }
     }
 }
@@ -57,28 +61,38 @@ fn changed(alloc: Global, old: &Record, change: RecordChange) -> Result<Record, 
 impl Reversible for Record {
     ghost use Rattle.std.specs.Prelude.{◌≡◌};
     ghost use Rattle.rawk_record.specs.Changes.{changed_by};
+    ghost use Rattle.rawk_record.specs.Shown.{record_back};
 
     type Change = RecordChange;
 
-    type Undo = Record;
+    type Undo = Option<Record>;
 
     ghost grown = { λ old new. new ≡ old };
 
     ghost makes = { λ old change new. new ≡ changed_by old change };
 
-    ghost leads_back = { λ now undo earlier. undo ≡ earlier };
+    ghost leads_back = { λ now undo earlier. record_back now undo ≡ earlier };
 
-    /// The new record is built beside the old one, and they change places: the entry is the old record.
-    fn apply(&mut self, alloc: Global, change: RecordChange) -> Result<Record, AllocError> {
-        let new = changed(alloc, self, change)?;
-        Ok(mem::replace(self, new))
+    /// The new record is built beside the old one, and they change places: the entry is the old record, where it is another one.
+    fn apply(
+        &mut self,
+        alloc: Global,
+        change: RecordChange,
+    ) -> Result<Option<Record>, AllocError> {
+        let mut entry = changed(alloc, self, change)?;
+        if let Some(record) = &mut entry {
+            mem::swap(self, record);
+        }
+        Ok(entry)
     }
 
     /// The records change places: the entry is then the newer record.
-    fn undo(&mut self, undo: &mut Record)
-        ensures back { (earlier : Shown) → undo.old ≡ earlier → self.new ≡ earlier }
-        ensures newer { undo.new ≡ self.old }
+    fn undo(&mut self, undo: &mut Option<Record>)
+        ensures back { (earlier : Shown) → record_back self.old undo.old ≡ earlier → self.new ≡ earlier }
+        ensures newer { record_back self.new undo.new ≡ self.old }
     {
-        mem::swap(self, undo);
+        if let Some(record) = undo {
+            mem::swap(self, record);
+        }
     }
 }

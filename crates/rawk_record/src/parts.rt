@@ -1,6 +1,6 @@
 //! What a record is made of.
 
-ghost use Rattle.std.specs.Prelude.{◌≡◌, ◌<◌, [], IfOk, None, slice_index_or, vec_len};
+ghost use Rattle.std.specs.Prelude.{◌≡◌, ◌<◌, [], None, slice_index_or, vec_len};
 ghost use Rattle.std.specs.Option.{option_copied};
 ghost use Rattle.rawk_value.specs.declared.value.Value.{Value};
 ghost use Rattle.rawk_record.specs.Drafts.{IsPlaced, values_of};
@@ -8,7 +8,7 @@ ghost use Rattle.rawk_record.specs.FieldRefs.{ref_value};
 
 use crate::pieces::Piece;
 use rawk_value::Value;
-use std::alloc::{AllocError, Global};
+use std::alloc::Global;
 
 /// A text, the places of its fields, and the fields with values of their own. A record that was read has none of those.
 #[derive(Debug, Drop)]
@@ -62,38 +62,4 @@ pub(crate) fn no_parts(alloc: Global) -> Parts
         pieces: Vec::new(alloc),
         kept: Vec::new(alloc),
     }
-}
-
-/// A copy of a field's own value, where it has one.
-fn copy_own(alloc: Global, own: &Option<Value>) -> Result<Option<Value>, AllocError>
-    ensures { IfOk result (λ copied. copied ≡ own.now) }
-{
-    match own {
-        Some(value) => Ok(Some(value.copy(alloc)?)),
-        None => Ok(None),
-    }
-}
-
-/// A copy of fields' own values.
-fn copy_kept(alloc: Global, kept: &[Option<Value>]) -> Result<Vec<Option<Value>>, AllocError>
-    ensures { IfOk result (λ copied. copied.items ≡ kept.now) }
-{
-    let mut copied = Vec::new(alloc);
-    for own in kept {
-        copied.push(copy_own(alloc, own)?)?;
-    }
-    Ok(copied)
-}
-
-/// A copy.
-pub(crate) fn copy_parts(alloc: Global, parts: &Parts) -> Result<Parts, AllocError>
-    ensures text { IfOk result (λ copied. copied.text.items ≡ parts.now.text.items) }
-    ensures pieces { IfOk result (λ copied. copied.pieces.items ≡ parts.now.pieces.items) }
-    ensures kept { IfOk result (λ copied. copied.kept.items ≡ parts.now.kept.items) }
-{
-    Ok(Parts {
-        text: Vec::from_slice(alloc, &parts.text)?,
-        pieces: Vec::from_slice(alloc, &parts.pieces)?,
-        kept: copy_kept(alloc, &parts.kept)?,
-    })
 }

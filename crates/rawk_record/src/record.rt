@@ -1,13 +1,13 @@
 //! A record: the bytes of `$0` once, and its fields as places in them.
 
-ghost use Rattle.std.specs.Prelude.{◌≡◌, ◌<◌, ◌-◌, ◌^◌, IfOk, OnOk, length, slice_get};
+ghost use Rattle.std.specs.Prelude.{◌≡◌, ◌<◌, ◌-◌, ◌^◌, OnOk, length, slice_get};
 ghost use Rattle.std.specs.Option.{option_map};
 ghost use Rattle.rawk_record.specs.Changed.{rebuilt, resized, with_value};
 ghost use Rattle.rawk_record.specs.Shown.{no_record, split_record};
 ghost use Rattle.rawk_record.specs.FieldRefs.{ref_value};
 
 use crate::build::{build_with_count, build_with_value};
-use crate::parts::{FieldRef, Parts, copy_parts, field_at, no_parts};
+use crate::parts::{FieldRef, Parts, field_at, no_parts};
 use crate::pieces::{Separator, cut};
 use rawk_value::Value;
 use std::alloc::{AllocError, Global};
@@ -38,15 +38,6 @@ impl Record {
         Record {
             parts: no_parts(alloc),
         }
-    }
-
-    /// A copy. It fails where memory is refused.
-    pub fn copy(&self, alloc: Global) -> Result<Record, AllocError>
-        ensures { IfOk result (λ copied. copied ≡ self.now) }
-    {
-        Ok(Record {
-            parts: copy_parts(alloc, &self.parts)?,
-        })
     }
 
     /// The bytes of `$0`.

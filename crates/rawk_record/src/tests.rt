@@ -38,7 +38,7 @@ fn a_record_changes_back(rt: HostRuntime) -> Result<(), Fail> {
     assert_eq!(rt; record.text(), b"a-7-c".as_slice());
     record.undo(&mut earlier);
     assert_eq!(rt; record.text(), b"a b c".as_slice());
-    assert_eq!(rt; earlier.text(), b"a-7-c".as_slice());
+    assert_eq!(rt; earlier.as_ref().map(|newer| newer.field_count()), Some(3));
     let _ = record.apply(
         alloc,
         RecordChange::Count {

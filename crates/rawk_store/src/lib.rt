@@ -18,7 +18,9 @@ pub use rawk_arrays::{Arrays, ArraysGroup};
 pub use rawk_frames::{
     Activation, Frames, FramesGroup, KeysLeft, KeysLeftGroup, Local, Ranges, RangesGroup,
 };
-pub use rawk_record::{FieldRef, Fields, Piece, Record, Separator, fields_of, pieces_between};
+pub use rawk_record::{
+    FieldRef, Fields, Piece, Record, RecordChange, Separator, fields_of, pieces_between,
+};
 pub use rawk_slots::{Reversible, Saved, SlotGroup, Slots, Stack, StackGroup, led_to};
 pub use registers::{Bank, Ending, Phase, Registers};
 pub use saving::{saved_by_all, saved_in_groups};
