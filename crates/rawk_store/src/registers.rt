@@ -62,12 +62,19 @@ impl Bank {
         mem::replace(&mut self.start, self.now)
     }
 
-    /// Ends the step, and forgets how it began.
+    /// Ends the step, and forgets how it began. Each register is copied by itself: some were just written, and a copy of several at once would wait for them.
     pub fn forget(&mut self)
         ensures now { self.new.now ≡ self.old.now }
         ensures start { self.new.start ≡ self.old.now }
     {
-        self.start = self.now;
+        let now = &self.now;
+        self.start.place = now.place;
+        self.start.phase = now.phase;
+        self.start.status = now.status;
+        self.start.here = now.here;
+        self.start.site = now.site;
+        self.start.consumed = now.consumed;
+        self.start.ending = now.ending;
     }
 
     /// Puts back what the step in progress changed.
