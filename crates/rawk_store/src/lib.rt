@@ -15,9 +15,9 @@ pub use keeper::{Full, Keeper, Kept, Off};
 pub use numbering::field_number;
 pub use output::Output;
 pub use rawk_record::{
-    FieldRef, Fields, Piece, Record, Reversible, Separator, fields_of, pieces_between,
+    FieldRef, Fields, Piece, Record, RecordChange, Separator, fields_of, pieces_between,
 };
-pub use rawk_slots::{Saved, SlotGroup, Slots, Stack, StackGroup, led_to};
+pub use rawk_slots::{Reversible, Saved, SlotGroup, Slots, Stack, StackGroup, led_to};
 pub use registers::{Bank, Ending, Phase, Registers};
 pub use saving::{saved_by_all, saved_in_groups};
 pub use store::{Cells, Group, Operands, OperandsGroup, Store};

@@ -4,6 +4,7 @@ ghost use Rattle.std.specs.Prelude.{◌≡◌, ◌≤◌, ◌++◌, [], OnErr, O
 ghost use Rattle.rawk_value.specs.Values.{int_text, text_of};
 ghost use Rattle.rawk_slots.specs.Journaled.{at_rest};
 
+use rawk_slots::Reversible;
 use rawk_value::{Value, push_number, push_text};
 use std::alloc::{AllocError, Global};
 use std::marker::Model;
@@ -113,5 +114,30 @@ impl Output {
     {
         self.bytes.truncate(count);
         self.began = count;
+    }
+}
+
+impl Reversible for Output {
+    ghost use Rattle.std.specs.Prelude.{◌≡◌, ◌≤◌, ◌++◌, length, take};
+
+    type Change = Vec<u8>;
+
+    type Undo = usize;
+
+    ghost grown = { λ old new. new.now ≡ old.now };
+
+    ghost makes = { λ old change new. new.now ≡ old.now ++ change.items };
+
+    ghost leads_back = { λ now undo earlier. (undo ≤ length now.now) × (take undo now.now ≡ earlier.now) };
+
+    /// Adds the bytes; the entry is how many there were.
+    fn apply(&mut self, alloc: Global, change: Vec<u8>) -> Result<usize, AllocError> {
+        self.forget();
+        self.push(&change)?;
+        Ok(self.finish())
+    }
+
+    fn undo(&mut self, undo: &mut usize) {
+        self.undo(*undo);
     }
 }
