@@ -31,9 +31,9 @@ moment_by s vs ks r = record {
   site = r.site;
 }
 
-pub moment-grown : (l m : Layout) → Grown l m → IsSound l → IsSound m → moment_in m ≡ moment_in l
-moment-grown l m g h k =
-    ap (λ (s : State). moment_by s (operands m) (keys m) m.registers) (state-grown l m g h k)
+pub moment-grown : (l m : Layout) → Grown l m → IsSound l → moment_in m ≡ moment_in l
+moment-grown l m g h =
+    ap (λ (s : State). moment_by s (operands m) (keys m) m.registers) (state-grown l m g h)
     ∙ ap (λ (vs : List Value). moment_by (state l) vs (keys m) m.registers) (operands-grown l m g h)
     ∙ ap (λ (ks : List (List Bytes)). moment_by (state l) (operands l) ks m.registers) (keys-grown l m g h)
     ∙ ap (λ (r : Registers). moment_by (state l) (operands l) (keys l) r) g.registers
@@ -55,16 +55,15 @@ pub sound-all_back : (l : Layout) (point size : ℕ) (here : List Group) → Fit
 sound-all_back l point size [] h sound = sound
 sound-all_back l point size (g ∷ gs) (f, p, h) sound = sound-all_back (put_back l g) point size gs h (IsSound-put_back l g f sound)
 
-pub unsets-grown : (l m : Layout) (point size : ℕ) (sets : List SetAt) (here : List Group) → Grown l m → IsSound l → IsSound m → FitHere l point size here → unsets m sets here ≡ unsets l sets here
-unsets-grown l m point size sets [] grew sl sm h = refl
-unsets-grown l m point size sets (g ∷ gs) grew sl sm (f, p, h) =
+pub unsets-grown : (l m : Layout) (point size : ℕ) (sets : List SetAt) (here : List Group) → Grown l m → IsSound l → FitHere l point size here → unsets m sets here ≡ unsets l sets here
+unsets-grown l m point size sets [] grew sl h = refl
+unsets-grown l m point size sets (g ∷ gs) grew sl (f, p, h) =
     let a = put_back l g in
     let b = put_back m g in
     let next = Grown-put_back l m g grew f in
     let sa = IsSound-put_back l g f sl in
-    let sb = IsSound-put_back m g (FitsIn-grown l m g grew f) sm in
-    ap (λ (x : Moment). record { moment = x; sets = but_last sets; saved = saved_in g } ∷ unsets b (but_last sets) gs) (moment-grown a b next sa sb)
-    ∙ ap (λ (xs : List Earlier). record { moment = moment_in a; sets = but_last sets; saved = saved_in g } ∷ xs) (unsets-grown a b point size (but_last sets) gs next sa sb h)
+    ap (λ (x : Moment). record { moment = x; sets = but_last sets; saved = saved_in g } ∷ unsets b (but_last sets) gs) (moment-grown a b next sa)
+    ∙ ap (λ (xs : List Earlier). record { moment = moment_in a; sets = but_last sets; saved = saved_in g } ∷ xs) (unsets-grown a b point size (but_last sets) gs next sa h)
 
 pub fit_here : (l : Layout) (point size : ℕ) (sets : List SetAt) (here : List Group) (items : List Kept) → Chain l point size sets here items → FitHere l point size here
 fit_here l point size sets here [] h = h.0
@@ -94,20 +93,19 @@ chain-grown l m point size sets here (item ∷ items) grew (h, e, z, f, p, c) =
       chain-grown a b (point - 1) size (below point sets) (newest_first item) items next c,
     )
 
-pub pasts-grown : (l m : Layout) (point size : ℕ) (sets : List SetAt) (here : List Group) (items : List Kept) → Grown l m → IsSound l → IsSound m → Chain l point size sets here items → pasts m sets point here items ≡ pasts l sets point here items
-pasts-grown l m point size sets here [] grew sl sm c = refl
-pasts-grown l m point size sets here (item ∷ items) grew sl sm (h, e, z, f, p, c) =
+pub pasts-grown : (l m : Layout) (point size : ℕ) (sets : List SetAt) (here : List Group) (items : List Kept) → Grown l m → IsSound l → Chain l point size sets here items → pasts m sets point here items ≡ pasts l sets point here items
+pasts-grown l m point size sets here [] grew sl c = refl
+pasts-grown l m point size sets here (item ∷ items) grew sl (h, e, z, f, p, c) =
     let a = back_in l here item in
     let b = back_in m here item in
     let s = below point sets in
     let new = newest_first item in
     let next = back_in-grown l m point size here item grew h f in
     let sa = sound-back_in l point size here item h f sl in
-    let sb = sound-back_in m point size here item (here-grown l m point size here grew h) (FitsIn-grown (all_back l here) (all_back m here) item.step (all_back-grown l m point size here grew h) f) sm in
     let past = λ (x : Moment) (u : List Earlier) (ps : List Past). let y : Past = record { last = record { moment = x; sets = s; saved = saved_in item.step }; unset = u } in y ∷ ps in
-    ap (λ (x : Moment). past x (unsets b s new) (pasts b s (point - 1) new items)) (moment-grown a b next sa sb)
-    ∙ ap (λ (u : List Earlier). past (moment_in a) u (pasts b s (point - 1) new items)) (unsets-grown a b (point - 1) size s new next sa sb (fit_here a (point - 1) size s new items c))
-    ∙ ap (λ (ps : List Past). past (moment_in a) (unsets a s new) ps) (pasts-grown a b (point - 1) size s new items next sa sb c)
+    ap (λ (x : Moment). past x (unsets b s new) (pasts b s (point - 1) new items)) (moment-grown a b next sa)
+    ∙ ap (λ (u : List Earlier). past (moment_in a) u (pasts b s (point - 1) new items)) (unsets-grown a b (point - 1) size s new next sa (fit_here a (point - 1) size s new items c))
+    ∙ ap (λ (ps : List Past). past (moment_in a) (unsets a s new) ps) (pasts-grown a b (point - 1) size s new items next sa c)
 
 here-size : (l : Layout) (point m n : ℕ) (here : List Group) → m ≤ n → FitHere l point m here → FitHere l point n here
 here-size l point m n [] le h = tt
@@ -166,9 +164,9 @@ chain_step l n point size sets item items placed grew fits c =
           (subst (λ (xs : List SetAt). Chain back point size xs here items) (sym (below_next point (length here) sets ends)) (chain-grown l back point size sets here items grew c)),
     )
 
-pub pasts_step : (l n : Layout) (point size : ℕ) (sets : List SetAt) (item : Kept) (items : List Kept) → IsSound l → IsSound (put_back n item.step) → Grown l (put_back n item.step) → Chain l point size sets (newest_first item) items →
+pub pasts_step : (l n : Layout) (point size : ℕ) (sets : List SetAt) (item : Kept) (items : List Kept) → IsSound l → Grown l (put_back n item.step) → Chain l point size sets (newest_first item) items →
     pasts n sets (point + 1) [] (item ∷ items) ≡ record { last = record { moment = moment_in l; sets = sets; saved = saved_in item.step }; unset = unsets l sets (newest_first item) } ∷ pasts l sets point (newest_first item) items
-pasts_step l n point size sets item items sl sb grew c =
+pasts_step l n point size sets item items sl grew c =
     let here = newest_first item in
     let back = put_back n item.step in
     let same = below_next point (length here) sets (ends_with l point size sets here items c) in
@@ -176,9 +174,9 @@ pasts_step l n point size sets item items sl sb grew c =
     let past = λ (x : Moment) (s : List SetAt) (u : List Earlier) (ps : List Past). let y : Past = record { last = record { moment = x; sets = s; saved = saved_in item.step }; unset = u } in y ∷ ps in
     ap (λ (s : List SetAt). past (moment_in back) s (unsets back s here) (pasts back s (point + 1 - 1) here items)) same
     ∙ ap (λ (k : ℕ). past (moment_in back) sets (unsets back sets here) (pasts back sets k here items)) less
-    ∙ ap (λ (x : Moment). past x sets (unsets back sets here) (pasts back sets point here items)) (moment-grown l back grew sl sb)
-    ∙ ap (λ (u : List Earlier). past (moment_in l) sets u (pasts back sets point here items)) (unsets-grown l back point size sets here grew sl sb (fit_here l point size sets here items c))
-    ∙ ap (λ (ps : List Past). past (moment_in l) sets (unsets l sets here) ps) (pasts-grown l back point size sets here items grew sl sb c)
+    ∙ ap (λ (x : Moment). past x sets (unsets back sets here) (pasts back sets point here items)) (moment-grown l back grew sl)
+    ∙ ap (λ (u : List Earlier). past (moment_in l) sets u (pasts back sets point here items)) (unsets-grown l back point size sets here grew sl (fit_here l point size sets here items c))
+    ∙ ap (λ (ps : List Past). past (moment_in l) sets (unsets l sets here) ps) (pasts-grown l back point size sets here items grew sl c)
 
 -- a set
 pub chain_set : (l n : Layout) (point size : ℕ) (sets : List SetAt) (e : SetAt) (g : Group) (here : List Group) (items : List Kept) → IsPlaced l point size → put_back n g ≡ l → FitsIn g n → e.point ≡ point →

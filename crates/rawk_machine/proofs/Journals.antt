@@ -6,7 +6,7 @@ use Rattle.rawk_store.specs.declared.store.Group.{Group}
 use Rattle.rawk_store.specs.declared.keeper.Kept.{Kept}
 use Rattle.rawk_store.specs.Keeping.{IsFront, room, keeps_any}
 use Rattle.rawk_store.specs.Layout.{Layout, Grown, IsSound, state}
-use Rattle.rawk_store.specs.Growth.{Grown-then_same, IsSound-put_back}
+use Rattle.rawk_store.specs.Growth.{Grown-then_same}
 use Rattle.rawk_store.specs.Saving.{saved_in}
 use Rattle.rawk_store.specs.GroupBack.{put_back}
 use Rattle.rawk_code.specs.Actions.{SetAt}
@@ -65,18 +65,17 @@ first_of (p ∷ ps) q qs front h = ap (λ (x : Past). Some (seen x.last.moment.s
     head_is : (p : Past) (ps : List Past) (q : Past) (qs rest : List Past) → q ∷ qs ≡ (p ∷ ps) ++ rest → q ≡ p
     head_is p ps q qs rest e = ap (head_or q) e
 
-kept_on : (l s n : Layout) (point old_size size : ℕ) (sets : List SetAt) (here : List Group) (old new : List Kept) (limit : Option ℕ) → IsSound l → IsSound n → Grown l s → IsPlaced l point old_size → old_size ≤ size →
+kept_on : (l s n : Layout) (point old_size size : ℕ) (sets : List SetAt) (here : List Group) (old new : List Kept) (limit : Option ℕ) → IsSound l → Grown l s → IsPlaced l point old_size → old_size ≤ size →
     KeepsStep s n old new here limit → Chain l point old_size sets (reverse here) old → Moved l n point size sets (reverse here) old new limit
-kept_on l s n point old_size size sets here old new limit sound sound_new grew placed le k c =
+kept_on l s n point old_size size sets here old new limit sound grew placed le k c =
     let item = k.item in
     let grew2 : Grown l (put_back n item.step) = Grown-then_same l s (put_back n item.step) grew k.back in
-    let sound_back = IsSound-put_back n item.step k.fits sound_new in
     let mine : reverse here ≡ newest_first item = ap (λ (gs : List Group). reverse gs) (sym k.sets) in
     let c2 : Chain l point size sets (newest_first item) old = subst (λ (gs : List Group). Chain l point size sets gs old) mine (chain-size l point old_size size sets (reverse here) old le c) in
     let placed2 : IsPlaced l point size = record { goes = placed.goes; here = placed.here; consumed = omega (arith, placed.consumed, le) } in
     let whole = chain_step l n point size sets item old placed2 grew2 k.fits c2 in
     let same : pasts n sets (point + 1) [] (item ∷ old) ≡ left_past (saved_in item.step) l sets (reverse here) ∷ pasts l sets point (reverse here) old =
-    pasts_step l n point size sets item old sound sound_back grew2 c2 ∙ ap (λ (gs : List Group). left_past (saved_in item.step) l sets gs ∷ pasts l sets point gs old) (sym mine) in
+    pasts_step l n point size sets item old sound grew2 c2 ∙ ap (λ (gs : List Group). left_past (saved_in item.step) l sets gs ∷ pasts l sets point gs old) (sym mine) in
     let front : IsFront (pasts n sets (point + 1) [] new) (left_past (saved_in item.step) l sets (reverse here) ∷ pasts l sets point (reverse here) old) =
     subst (λ (ps : List Past). IsFront (pasts n sets (point + 1) [] new) ps) same (pasts_front n sets (point + 1) [] new (item ∷ old) k.front) in
     let count : length (pasts n sets (point + 1) [] new) ≡ room limit (length (pasts l sets point (reverse here) old) + 1) =
@@ -105,12 +104,12 @@ forgotten_on l n point old_size size sets here old new limit none empty c =
     true_false : true ≡ false → ⊥
     true_false e = cc e
 
-moved_by : (b : Bool) (l s n : Layout) (point old_size size : ℕ) (sets : List SetAt) (here : List Group) (old new : List Kept) (limit : Option ℕ) → keeps_any limit ≡ b → IsSound l → IsSound n → Grown l s → IsPlaced l point old_size → old_size ≤ size →
+moved_by : (b : Bool) (l s n : Layout) (point old_size size : ℕ) (sets : List SetAt) (here : List Group) (old new : List Kept) (limit : Option ℕ) → keeps_any limit ≡ b → IsSound l → Grown l s → IsPlaced l point old_size → old_size ≤ size →
     Closes b s n old new here limit → Chain l point old_size sets (reverse here) old → Moved l n point size sets (reverse here) old new limit
-moved_by true l s n point old_size size sets here old new limit is sound sound_new grew placed le k c = kept_on l s n point old_size size sets here old new limit sound sound_new grew placed le k c
-moved_by false l s n point old_size size sets here old new limit is sound sound_new grew placed le k c = forgotten_on l n point old_size size sets (reverse here) old new limit is k c
+moved_by true l s n point old_size size sets here old new limit is sound grew placed le k c = kept_on l s n point old_size size sets here old new limit sound grew placed le k c
+moved_by false l s n point old_size size sets here old new limit is sound grew placed le k c = forgotten_on l n point old_size size sets (reverse here) old new limit is k c
 
-pub moved : (l s n : Layout) (point old_size size : ℕ) (sets : List SetAt) (here : List Group) (old new : List Kept) (limit : Option ℕ) → IsSound l → IsSound n → Grown l s → IsPlaced l point old_size → old_size ≤ size →
+pub moved : (l s n : Layout) (point old_size size : ℕ) (sets : List SetAt) (here : List Group) (old new : List Kept) (limit : Option ℕ) → IsSound l → Grown l s → IsPlaced l point old_size → old_size ≤ size →
     Closes (keeps_any limit) s n old new here limit → Chain l point old_size sets (reverse here) old → Moved l n point size sets (reverse here) old new limit
 moved l s n point old_size size sets here old new limit = moved_by (keeps_any limit) l s n point old_size size sets here old new limit refl
 

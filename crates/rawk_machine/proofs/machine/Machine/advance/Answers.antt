@@ -49,7 +49,7 @@ returns-in_ok-journaled-in-None-clause-moves g c = λ none.
     let n = now_of c.journaled.new.store in
     let placed : IsPlaced l i.point (length i.tape.bytes) = record { goes = c.in-None.is; here = (v.below c.in-None.is).0; consumed = c.journaled.ensures.within } in
     let m = moved l e.kept.0 n i.point (length i.tape.bytes) (length c.journaled.new.tape.bytes) i.sets.items i.here.items (g.K.Keeper.kept i.keeper) (g.K.Keeper.kept c.journaled.new.keeper) (g.K.Keeper.limit i.keeper)
-    v.sound c.journaled.ensures.sound e.kept.1 placed c.journaled.ensures.longer e.kept.2 v.chain in
+    v.sound e.kept.1 placed c.journaled.ensures.longer e.kept.2 v.chain in
     let old : Standing g.row.R.Denot = standing_of i.code i.settings i.steps i.sets.items i.point i.tape l i.executed (reverse i.here.items) (g.K.Keeper.kept i.keeper) (g.K.Keeper.limit i.keeper) i.last in
     let new = λ (gs : List Group) (la : Last). standing_of i.code i.settings i.steps i.sets.items (i.point + 1) c.journaled.new.tape n c.journaled.new.executed (reverse gs) (g.K.Keeper.kept c.journaled.new.keeper) (g.K.Keeper.limit c.journaled.new.keeper) la in
     let on : MovesOn old (new [] On) = record { point = refl; unset = refl; saved = m.saved; history = m.front; kept = m.count; before = λ any. m.before any } in
@@ -104,7 +104,7 @@ invariant_of-self-in-None g c =
     let under = (v.below c.in-None.is).1 in
     let placed : IsPlaced l i.point (length i.tape.bytes) = record { goes = c.in-None.is; here = (v.below c.in-None.is).0; consumed = c.journaled.ensures.within } in
     let m = moved l e.kept.0 n i.point (length i.tape.bytes) size i.sets.items i.here.items (g.K.Keeper.kept i.keeper) (g.K.Keeper.kept c.journaled.new.keeper) (g.K.Keeper.limit i.keeper)
-    v.sound c.journaled.ensures.sound e.kept.1 placed c.journaled.ensures.longer e.kept.2 v.chain in
+    v.sound e.kept.1 placed c.journaled.ensures.longer e.kept.2 v.chain in
     record {
       rest = c.journaled.ensures.rest;
       sound = c.journaled.ensures.sound;
@@ -130,14 +130,13 @@ returns-in_err-journaled-in-None-clause-stood g c = λ input may stood.
     let here = reverse i.here.items in
     let kept = g.K.Keeper.kept i.keeper in
     let size = length i.tape.bytes in
-    let sound = c.journaled.ensures.sound in
-    let moment = moment-grown l n e.grown v.sound sound ∙ ap (λ (m : Standing g.row.R.Denot). moment_of m) c.self.view_is in
+    let moment = moment-grown l n e.grown v.sound ∙ ap (λ (m : Standing g.row.R.Denot). moment_of m) c.self.view_is in
     let unset = ap (λ (gs : List Group). unsets n i.sets.items (reverse gs)) e.stays
-    ∙ unsets-grown l n i.point size i.sets.items here e.grown v.sound sound (fit_here l i.point size i.sets.items here kept v.chain)
+    ∙ unsets-grown l n i.point size i.sets.items here e.grown v.sound (fit_here l i.point size i.sets.items here kept v.chain)
     ∙ ap (λ (m : Standing g.row.R.Denot). m.unset) c.self.view_is in
     let history = ap (λ (gs : List Group). pasts n i.sets.items i.point (reverse gs) (g.K.Keeper.kept c.journaled.new.keeper)) e.stays
     ∙ ap (λ (ks : List Kept). pasts n i.sets.items i.point here ks) e.same
-    ∙ pasts-grown l n i.point size i.sets.items here kept e.grown v.sound sound v.chain
+    ∙ pasts-grown l n i.point size i.sets.items here kept e.grown v.sound v.chain
     ∙ ap (λ (m : Standing g.row.R.Denot). m.history) c.self.view_is in
     let new : Standing g.row.R.Denot =
     standing_of i.code i.settings i.steps i.sets.items i.point c.journaled.new.tape n c.journaled.new.executed (reverse c.journaled.new.here.items) (g.K.Keeper.kept c.journaled.new.keeper) (g.K.Keeper.limit c.journaled.new.keeper) i.last in
@@ -154,12 +153,11 @@ returns-in_err-journaled-in-None-clause-err g c =
     let here = reverse i.here.items in
     let kept = g.K.Keeper.kept i.keeper in
     let size = length i.tape.bytes in
-    let sound = c.journaled.ensures.sound in
-    let same = moment-grown l n e.grown v.sound sound in
+    let same = moment-grown l n e.grown v.sound in
     let past : pasts n i.sets.items i.point (reverse c.journaled.new.here.items) (g.K.Keeper.kept c.journaled.new.keeper) ≡ pasts l i.sets.items i.point here kept =
     ap (λ (gs : List Group). pasts n i.sets.items i.point (reverse gs) (g.K.Keeper.kept c.journaled.new.keeper)) e.stays
     ∙ ap (λ (ks : List Kept). pasts n i.sets.items i.point here ks) e.same
-    ∙ pasts-grown l n i.point size i.sets.items here kept e.grown v.sound sound v.chain in
+    ∙ pasts-grown l n i.point size i.sets.items here kept e.grown v.sound v.chain in
     on_err c.from_residual.result (record {
       point = ap (λ (m : Standing g.row.R.Denot). m.point) c.self.view_is;
       state = ap (λ (m : Moment). m.state) same ∙ ap (λ (m : Standing g.row.R.Denot). m.state) c.self.view_is;
@@ -169,7 +167,7 @@ returns-in_err-journaled-in-None-clause-err g c =
       ending = ap (λ (m : Moment). m.ending) same ∙ ap (λ (m : Standing g.row.R.Denot). m.ending) c.self.view_is;
       site = ap (λ (m : Moment). m.site) same ∙ ap (λ (m : Standing g.row.R.Denot). m.site) c.self.view_is;
       unset = ap (λ (gs : List Group). unsets n i.sets.items (reverse gs)) e.stays
-          ∙ unsets-grown l n i.point size i.sets.items here e.grown v.sound sound (fit_here l i.point size i.sets.items here kept v.chain)
+          ∙ unsets-grown l n i.point size i.sets.items here e.grown v.sound (fit_here l i.point size i.sets.items here kept v.chain)
           ∙ ap (λ (m : Standing g.row.R.Denot). m.unset) c.self.view_is;
       history = past ∙ ap (λ (m : Standing g.row.R.Denot). m.history) c.self.view_is;
       before = ap (λ (xs : List Value). before_of i.last xs n.current (pasts n i.sets.items i.point (reverse c.journaled.new.here.items) (g.K.Keeper.kept c.journaled.new.keeper))) e.grown.globals
@@ -181,5 +179,5 @@ returns-in_err-journaled-in-None-clause-err g c =
 pub returns-in_err-journaled-in-None-clause-stands : goal.returns-in_err-journaled-in-None-clause-stands
 returns-in_err-journaled-in-None-clause-stands g c = λ input gone told may at.
     let i = c.self.inside in
-    let same = moment-grown (now_of i.store) (now_of c.journaled.new.store) c.in_err-journaled-in-None.ensures.grown c.self.invariant.sound c.journaled.ensures.sound in
+    let same = moment-grown (now_of i.store) (now_of c.journaled.new.store) c.in_err-journaled-in-None.ensures.grown c.self.invariant.sound in
     subst (λ (m : Moment). StandsAt (record { code = i.code; settings = i.settings; steps = i.steps; input = input }) i.sets.items i.point m gone told) (sym same) (subst (λ (m : Standing g.row.R.Denot). IsAt m input gone told) (sym c.self.view_is) at)
