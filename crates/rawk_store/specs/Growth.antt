@@ -93,7 +93,7 @@ made_of globals arrays frames ranges current output registers = record {
 pub state-grown : (l m : Layout) → Grown l m → IsSound l → IsSound m → state m ≡ state l
 state-grown l m g h k =
     ap (λ (x : List Value). made_of x (arrays_of m.arrays) (frames_of m.frames) m.ranges m.current m.output m.registers) g.globals
-    ∙ ap (λ (x : List Elements). made_of l.globals x (frames_of m.frames) m.ranges m.current m.output m.registers) (arrays_of-grown l.arrays m.arrays g.arrays h.arrays k.arrays)
+    ∙ ap (λ (x : List Elements). made_of l.globals x (frames_of m.frames) m.ranges m.current m.output m.registers) (arrays_of-grown l.arrays m.arrays g.arrays h.arrays)
     ∙ ap (λ (x : List Frame). made_of l.globals (arrays_of l.arrays) x m.ranges m.current m.output m.registers) (frames_of-grown l.frames m.frames g.frames h.frames.frames h.frames.locals)
     ∙ ap (λ (x : List Bool). made_of l.globals (arrays_of l.arrays) (frames_of l.frames) x m.current m.output m.registers) g.ranges
     ∙ ap (λ (x : Shown). made_of l.globals (arrays_of l.arrays) (frames_of l.frames) l.ranges x m.output m.registers) g.current
