@@ -67,7 +67,7 @@ slot_more live names slots name s size d = go s refl
     le2 = omega (arith, size, length-append slots (None ∷ []), length-append names (name ∷ []))
 
     same : (b : ℕ) → elements_of b (names ++ name ∷ []) (slots ++ None ∷ []) ≡ elements_of b names slots
-    same b = spread_same b names (name ∷ []) slots (slots ++ None ∷ []) (omega (arith, size)) le2 spread
+    same b = spread_same b names (name ∷ []) slots (slots ++ None ∷ []) (omega (arith, size)) spread
 
     go : (o : Option Value) → s ≡ o → IsPacked live name s names slots (names ++ name ∷ []) (slots ++ s ∷ [])
     go None e = λ b lt. ap (λ (o : Option Value). elements_of b (names ++ name ∷ []) (slots ++ o ∷ [])) e ∙ (same b ∙ ap (λ (o : Option Value). with_slot b name o (elements_of b names slots)) (sym e))
@@ -105,4 +105,4 @@ packed_all b names slots n e le =
     let size : length (take n names) ≡ n = length-take-le n names (omega (arith, e, le)) in
     let cut : take n names ++ drop n names ≡ names = take-append-drop n names in
     ap (λ (ss : List (Option Value)). elements_of b (take n names) ss) all
-    ∙ (sym (spread_same b (take n names) (drop n names) slots slots (omega (arith, size, e)) (omega (arith, le, ap length cut)) (record { longer = omega arith; same = λ i. refl })) ∙ ap (λ (ns : List Name). elements_of b ns slots) cut)
+    ∙ (sym (spread_same b (take n names) (drop n names) slots slots (omega (arith, size, e)) (record { longer = omega arith; same = λ i. refl })) ∙ ap (λ (ns : List Name). elements_of b ns slots) cut)

@@ -9,12 +9,12 @@ use Rattle.rawk_slots.specs.declared.saved.Saved.{Saved}
 use Rattle.rawk_slots.specs.Back.{back, AreBelow}
 use Rattle.rawk_slots.specs.BackLaws.{AreBelow-more, length-back}
 use Rattle.rawk_arrays.specs.declared.arrays.ArraysGroup.{ArraysGroup}
-use Rattle.rawk_arrays.specs.Laid.{Laid, GrownArrays, IsLaid, IsSpread, arrays_of, slot}
+use Rattle.rawk_arrays.specs.Laid.{Laid, GrownArrays, IsLaid, IsSameArrays, IsSpread, arrays_of, slot}
 use Rattle.rawk_arrays.specs.ArraysBack.{FitsArrays, arrays_back}
 use Rattle.rawk_arrays.specs.ListLaws.{spread_arrays}
 
-pub arrays_of-grown : (l m : Laid) → GrownArrays l m → IsLaid l.names l.slots → IsLaid m.names m.slots → arrays_of m ≡ arrays_of l
-arrays_of-grown l m g h k = spread_arrays l m g.live h.named k.named g.names g.slots
+pub arrays_of-grown : (l m : Laid) → GrownArrays l m → IsLaid l.names l.slots → arrays_of m ≡ arrays_of l
+arrays_of-grown l m g h = spread_arrays l m g.live h.named g.names g.slots
 
 pub GrownArrays-refl : (l : Laid) → GrownArrays l l
 GrownArrays-refl l = record {
@@ -52,10 +52,24 @@ GrownArrays-back l m group g h = record { names = g.names; slots = back_spread l
 pub FitsArrays-grown : (l m : Laid) (group : ArraysGroup) → GrownArrays l m → FitsArrays group l → FitsArrays group m
 FitsArrays-grown l m group g h = AreBelow-more (length l.slots) (length m.slots) group.slots.entries.items g.slots.longer h
 
--- a group that leads from arrays back to others leads there over more names and slots too
-pub arrays_lead_back-grown : (l m earlier : Laid) (group : ArraysGroup) → FitsArrays group l → GrownArrays earlier (arrays_back l group) → GrownArrays l m → FitsArrays group m × GrownArrays earlier (arrays_back m group)
-arrays_lead_back-grown l m earlier group h e g =
-    (FitsArrays-grown l m group g h, GrownArrays-trans earlier (arrays_back l group) (arrays_back m group) e (GrownArrays-back l m group g h))
-
 pub IsLaid-back : (l : Laid) (group : ArraysGroup) → IsLaid l.names l.slots → IsLaid (arrays_back l group).names (arrays_back l group).slots
 IsLaid-back l group h = record { distinct = h.distinct; named = omega (arith, h.named, length-back l.slots group.slots.entries.items) }
+
+pub IsSameArrays-refl : (l : Laid) → IsSameArrays l l
+IsSameArrays-refl l = record { grown = GrownArrays-refl l; same = refl }
+
+pub IsSameArrays-trans : (l m n : Laid) → IsSameArrays l m → IsSameArrays m n → IsSameArrays l n
+IsSameArrays-trans l m n a b = record { grown = GrownArrays-trans l m n a.grown b.grown; same = b.same ∙ a.same }
+
+-- arrays that lie as the type keeps them, and have grown, are the same arrays
+pub IsSameArrays-grown : (l m : Laid) → GrownArrays l m → IsLaid l.names l.slots → IsSameArrays l m
+IsSameArrays-grown l m g h = record { grown = g; same = arrays_of-grown l m g h }
+
+-- putting back, over more names and slots
+pub IsSameArrays-back : (l m : Laid) (group : ArraysGroup) → GrownArrays l m → FitsArrays group l → IsLaid l.names l.slots → IsSameArrays (arrays_back l group) (arrays_back m group)
+IsSameArrays-back l m group g h laid = IsSameArrays-grown (arrays_back l group) (arrays_back m group) (GrownArrays-back l m group g h) (IsLaid-back l group laid)
+
+-- a group that leads from arrays back to others leads there over more names and slots too
+pub arrays_lead_back-grown : (l m earlier : Laid) (group : ArraysGroup) → FitsArrays group l → IsLaid l.names l.slots → IsSameArrays earlier (arrays_back l group) → IsSameArrays l m → FitsArrays group m × IsSameArrays earlier (arrays_back m group)
+arrays_lead_back-grown l m earlier group h laid e g =
+    (FitsArrays-grown l m group g.grown h, IsSameArrays-trans earlier (arrays_back l group) (arrays_back m group) e (IsSameArrays-back l m group g.grown h laid))

@@ -87,3 +87,8 @@ pub record GrownArrays (l m : Laid) : Type 0 where
   pub names : Longer l.names m.names
   pub slots : IsSpread l.slots m.slots
   pub live : m.live ≡ l.live
+
+-- names and empty slots were added, and the arrays are the same
+pub record IsSameArrays (l m : Laid) : Type 0 where
+  pub grown : GrownArrays l m
+  pub same : arrays_of m ≡ arrays_of l

@@ -74,9 +74,8 @@ taken_arrays names slots live count =
     ]
 
 -- added names and slots change no array
-pub spread_arrays : (l m : Laid) → m.live ≡ l.live → length l.slots ≤ length l.names → length m.slots ≤ length m.names → Longer l.names m.names → IsSpread l.slots m.slots → arrays_of m ≡ arrays_of l
-spread_arrays l m live le le2 more s = same_arrays l m live (λ b lt.
-    ap (λ (ns : List Name). elements_of b ns m.slots) more.is ∙ spread_same b l.names more.more l.slots m.slots le (omega (arith, le2, ap length more.is)) s)
+pub spread_arrays : (l m : Laid) → m.live ≡ l.live → length l.slots ≤ length l.names → Longer l.names m.names → IsSpread l.slots m.slots → arrays_of m ≡ arrays_of l
+spread_arrays l m live le more s = same_arrays l m live (λ b lt. ap (λ (ns : List Name). elements_of b ns m.slots) more.is ∙ spread_same b l.names more.more l.slots m.slots le s)
 
 pub laid_back : (names : List Name) (slots new : Journaled (List (Option Value))) (es : List (Saved (Option Value))) → AreLaid names slots → new ≡ at_rest (back slots.now es) → AreLaid names new
 laid_back names slots new es h e =

@@ -15,7 +15,7 @@ use Rattle.rawk_value.specs.Values.{Bytes}
 use Rattle.rawk_value.specs.declared.value.Value.{Value}
 use Rattle.rawk_slots.specs.Journaled.{Journaled, Longer}
 use Rattle.rawk_names.specs.Name.{Name, named, IsAbsent}
-use Rattle.rawk_arrays.specs.Elements.{Elements, put}
+use Rattle.rawk_arrays.specs.Elements.{Elements, no_elements, put}
 use Rattle.rawk_arrays.specs.Place.{same_key, is_here, place}
 use Rattle.rawk_arrays.specs.Laid.{AreDistinct, AreLaid, IsLaid, IsCovered, IsSpread, IsPut, elements_of, slot}
 
@@ -128,16 +128,34 @@ put_at a k v names slots i d le h lt =
           ne (ap (λ (n : Name). n.array) (same_Some (named b q) (named a k) (sym there ∙ h)))));
     }
 
--- added names and empty slots change no array
-pub spread_same : (b : ℕ) (names more : List Name) (slots slots2 : List (Option Value)) → length slots ≤ length names → length slots2 ≤ length (names ++ more) → IsSpread slots slots2 → elements_of b (names ++ more) slots2 ≡ elements_of b names slots
-spread_same b names more slots slots2 le le2 s = elements_same b names (names ++ more) slots slots2 le le2 (λ q.
-    s.same (place b q (names ++ more))
-    ∙ elim (cases_lt (place b q names) (length names)) [
-      | inl lt ↦ ap (slot slots) ((place_more b q names more).0 lt)
-      | inr ge ↦
-          get_or_past slots (place b q (names ++ more)) None (let past : length names ≤ place b q (names ++ more) = (place_more b q names more).1 ge in omega (arith, le))
-          ∙ sym (get_or_past slots (place b q names) None (omega (arith, le, ge)))
-    ])
+nothing_put : (b : Bool) (k : Bytes) → cond b (put no_elements k None) no_elements ≡ no_elements
+nothing_put true k = same_map nat_list_cmp_total exact_bytes (put no_elements k None) no_elements (λ q. get-put no_elements k None q ∙ nothing_at (same_key q k) q)
+  where
+    nothing_at : (c : Bool) (q : Bytes) → cond c None (get no_elements q) ≡ get no_elements q
+    nothing_at true q = sym (get-empty (slice_cmp nat_cmp) q)
+    nothing_at false q = refl
+nothing_put false k = refl
+
+-- empty slots hold no element
+empty_slots : (a : ℕ) (names : List Name) (slots : List (Option Value)) → ((i : ℕ) → slot slots i ≡ None) → elements_of a names slots ≡ no_elements
+empty_slots a [] slots h = refl
+empty_slots a (name ∷ names) [] h = refl
+empty_slots a (name ∷ names) (s ∷ slots) h =
+    ap (λ (e : Elements). cond (name.array == a) (put e name.key s) e) (empty_slots a names slots (λ i. h (suc i)))
+    ∙ (ap (λ (o : Option Value). cond (name.array == a) (put no_elements name.key o) no_elements) (h 0) ∙ nothing_put (name.array == a) name.key)
+
+same_slots : (a : ℕ) (names more : List Name) (slots slots2 : List (Option Value)) → length slots ≤ length names → ((i : ℕ) → slot slots2 i ≡ slot slots i) → elements_of a (names ++ more) slots2 ≡ elements_of a names slots
+same_slots a [] more [] slots2 le h = empty_slots a more slots2 h
+same_slots a [] more (s ∷ slots) slots2 le h = absurd (omega (arith, le))
+same_slots a (name ∷ names) more [] slots2 le h = empty_slots a (name ∷ names ++ more) slots2 h
+same_slots a (name ∷ names) more (s ∷ slots) [] le h = sym (empty_slots a (name ∷ names) (s ∷ slots) (λ i. sym (h i)))
+same_slots a (name ∷ names) more (s ∷ slots) (s2 ∷ slots2) le h =
+    ap (λ (e : Elements). cond (name.array == a) (put e name.key s2) e) (same_slots a names more slots slots2 (omega (arith, le)) (λ i. h (suc i)))
+    ∙ ap (λ (o : Option Value). cond (name.array == a) (put (elements_of a names slots) name.key o) (elements_of a names slots)) (h 0)
+
+-- added names and empty slots change no array, also where a name was added twice
+pub spread_same : (b : ℕ) (names more : List Name) (slots slots2 : List (Option Value)) → length slots ≤ length names → IsSpread slots slots2 → elements_of b (names ++ more) slots2 ≡ elements_of b names slots
+spread_same b names more slots slots2 le s = same_slots b names more slots slots2 le s.same
 
 pub found_slot : (a : ℕ) (q : Bytes) (names : List Name) (slots : List (Option Value)) (i : ℕ) → IsLaid names slots → slice_get names i ≡ Some (named a q) → get (elements_of a names slots) q ≡ slot slots i
 found_slot a q names slots i h e = get_at a q names slots h.named ∙ ap (slot slots) (place_is a q names i h.distinct e)
@@ -210,7 +228,7 @@ pub put_done : (a : ℕ) (k : Bytes) (v : Option Value) (names names2 : List Nam
 put_done a k v names names2 slots mid new i le more d le2 s h lt e =
     let p : IsPut a k v names2 mid names2 (set mid i v) = put_at a k v names2 mid i d le2 h lt in
     let same : (b : ℕ) → elements_of b names2 mid ≡ elements_of b names slots = λ b.
-    ap (λ (ns : List Name). elements_of b ns mid) more.is ∙ spread_same b names more.more slots mid le (omega (arith, le2, ap length more.is)) s in
+    ap (λ (ns : List Name). elements_of b ns mid) more.is ∙ spread_same b names more.more slots mid le s in
     record {
       here = ap (elements_of a names2) e ∙ (p.here ∙ ap (λ (m : Elements). put m k v) (same a));
       other = λ b ne. ap (elements_of b names2) e ∙ (p.other b ne ∙ same b);

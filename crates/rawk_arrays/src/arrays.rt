@@ -364,18 +364,21 @@ impl Arrays {
 impl Reversible for Arrays {
     ghost use Rattle.std.specs.Prelude.{◌≡◌};
     ghost use Rattle.rawk_arrays.specs.Elements.{changed_arrays};
-    ghost use Rattle.rawk_arrays.specs.Laid.{GrownArrays, arrays_of};
+    ghost use Rattle.rawk_arrays.specs.Laid.{IsSameArrays, arrays_of};
     ghost use Rattle.rawk_arrays.specs.ArraysBack.{FitsArrays, arrays_back};
+    ghost use Rattle.rawk_arrays.specs.ArraysLaws.{IsSameArrays-refl};
 
     type Change = ArraysChange;
 
     type Undo = ArraysGroup;
 
-    ghost grown = { λ old new. GrownArrays old.now new.now };
+    ghost grown = { λ old new. IsSameArrays old.now new.now };
 
     ghost makes = { λ old change new. arrays_of new.now ≡ changed_arrays change (arrays_of old.now) };
 
-    ghost leads_back = { λ now undo earlier. FitsArrays undo now.now × GrownArrays earlier.now (arrays_back now.now undo) };
+    ghost leads_back = { λ now undo earlier. FitsArrays undo now.now × IsSameArrays earlier.now (arrays_back now.now undo) };
+
+    ghost grown_same = { λ part. IsSameArrays-refl part.now };
 
     fn apply(&mut self, alloc: Global, change: ArraysChange) -> Result<ArraysGroup, AllocError> {
         self.forget();

@@ -1,5 +1,5 @@
 -- Slots that were added beyond the live ones change no activation and no key, and putting back works over them.
-use Rattle.std.specs.Prelude.{◌≡◌, ℕ, List}
+use Rattle.std.specs.Prelude.{◌≡◌, ℕ, List, refl}
 use Rattle.std.proofs.Common.{ap, ◌∙◌}
 use Rattle.std.specs.Global.{Vec}
 use Rattle.rawk_slots.specs.Stacked.{IsLive, live_slots, live_values}
@@ -8,9 +8,9 @@ use Rattle.rawk_frames.specs.declared.frames.Local.{Local}
 use Rattle.rawk_frames.specs.declared.frames.Activation.{Activation}
 use Rattle.rawk_frames.specs.declared.frames.FramesGroup.{FramesGroup}
 use Rattle.rawk_frames.specs.declared.keys_left.KeysLeftGroup.{KeysLeftGroup}
-use Rattle.rawk_frames.specs.LaidFrames.{LaidFrames, AreFramesLive, AreNested, GrownFrames, frames_from, frames_of}
+use Rattle.rawk_frames.specs.LaidFrames.{LaidFrames, AreFramesLive, AreNested, GrownFrames, IsSameFrames, frames_from, frames_of}
 use Rattle.rawk_frames.specs.FramesBack.{FitsFrames, frames_back}
-use Rattle.rawk_frames.specs.LaidKeys.{LaidKeys, AreKeysLive, GrownKeys, keys_of, left_lists}
+use Rattle.rawk_frames.specs.LaidKeys.{LaidKeys, AreKeysLive, GrownKeys, IsSameKeys, keys_of, left_lists}
 use Rattle.rawk_frames.specs.KeysBack.{FitsKeys, keys_back}
 
 -- ---- activations
@@ -50,10 +50,24 @@ FitsFrames-grown l m group g h = record {
   nested = AreNested-grown (frames_back l group) (frames_back m group) (GrownFrames-back l m group g h) (AreFramesLive-back l group h) h.nested;
 }
 
+pub IsSameFrames-refl : (l : LaidFrames) → IsSameFrames l l
+IsSameFrames-refl l = record { grown = GrownFrames-refl l; same = refl }
+
+pub IsSameFrames-trans : (l m n : LaidFrames) → IsSameFrames l m → IsSameFrames m n → IsSameFrames l n
+IsSameFrames-trans l m n a b = record { grown = GrownFrames-trans l m n a.grown b.grown; same = b.same ∙ a.same }
+
+-- live activations that have grown are the same activations
+pub IsSameFrames-grown : (l m : LaidFrames) → GrownFrames l m → AreFramesLive l → IsSameFrames l m
+IsSameFrames-grown l m g h = record { grown = g; same = frames_of-grown l m g h.frames h.locals }
+
+-- putting back, over more slots
+pub IsSameFrames-back : (l m : LaidFrames) (group : FramesGroup) → GrownFrames l m → FitsFrames group l → IsSameFrames (frames_back l group) (frames_back m group)
+IsSameFrames-back l m group g h = IsSameFrames-grown (frames_back l group) (frames_back m group) (GrownFrames-back l m group g h) (AreFramesLive-back l group h)
+
 -- a group that leads from activations back to others leads there over more slots too
-pub frames_lead_back-grown : (l m earlier : LaidFrames) (group : FramesGroup) → FitsFrames group l → GrownFrames earlier (frames_back l group) → GrownFrames l m → FitsFrames group m × GrownFrames earlier (frames_back m group)
+pub frames_lead_back-grown : (l m earlier : LaidFrames) (group : FramesGroup) → FitsFrames group l → IsSameFrames earlier (frames_back l group) → IsSameFrames l m → FitsFrames group m × IsSameFrames earlier (frames_back m group)
 frames_lead_back-grown l m earlier group h e g =
-    (FitsFrames-grown l m group g h, GrownFrames-trans earlier (frames_back l group) (frames_back m group) e (GrownFrames-back l m group g h))
+    (FitsFrames-grown l m group g.grown h, IsSameFrames-trans earlier (frames_back l group) (frames_back m group) e (IsSameFrames-back l m group g.grown h))
 
 -- ---- keys
 
@@ -88,7 +102,21 @@ FitsKeys-grown l m group g h = record {
   visited = FitsStack-over l.visited m.visited group.visited g.visited h.visited;
 }
 
+pub IsSameKeys-refl : (l : LaidKeys) → IsSameKeys l l
+IsSameKeys-refl l = record { grown = GrownKeys-refl l; same = refl }
+
+pub IsSameKeys-trans : (l m n : LaidKeys) → IsSameKeys l m → IsSameKeys m n → IsSameKeys l n
+IsSameKeys-trans l m n a b = record { grown = GrownKeys-trans l m n a.grown b.grown; same = b.same ∙ a.same }
+
+-- live lists that have grown have the same keys
+pub IsSameKeys-grown : (l m : LaidKeys) → GrownKeys l m → AreKeysLive l → IsSameKeys l m
+IsSameKeys-grown l m g h = record { grown = g; same = keys_of-grown l m g h }
+
+-- putting back, over more slots
+pub IsSameKeys-back : (l m : LaidKeys) (group : KeysLeftGroup) → GrownKeys l m → FitsKeys group l → IsSameKeys (keys_back l group) (keys_back m group)
+IsSameKeys-back l m group g h = IsSameKeys-grown (keys_back l group) (keys_back m group) (GrownKeys-back l m group g h) (AreKeysLive-back l group h)
+
 -- a group that leads from keys back to others leads there over more slots too
-pub keys_lead_back-grown : (l m earlier : LaidKeys) (group : KeysLeftGroup) → FitsKeys group l → GrownKeys earlier (keys_back l group) → GrownKeys l m → FitsKeys group m × GrownKeys earlier (keys_back m group)
+pub keys_lead_back-grown : (l m earlier : LaidKeys) (group : KeysLeftGroup) → FitsKeys group l → IsSameKeys earlier (keys_back l group) → IsSameKeys l m → FitsKeys group m × IsSameKeys earlier (keys_back m group)
 keys_lead_back-grown l m earlier group h e g =
-    (FitsKeys-grown l m group g h, GrownKeys-trans earlier (keys_back l group) (keys_back m group) e (GrownKeys-back l m group g h))
+    (FitsKeys-grown l m group g.grown h, IsSameKeys-trans earlier (keys_back l group) (keys_back m group) e (IsSameKeys-back l m group g.grown h))

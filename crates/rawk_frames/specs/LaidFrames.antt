@@ -46,6 +46,11 @@ pub record GrownFrames (l m : LaidFrames) : Type 0 where
   pub frames : GrownStack l.frames m.frames
   pub locals : GrownStack l.locals m.locals
 
+-- slots were added beyond the live ones, and the activations are the same
+pub record IsSameFrames (l m : LaidFrames) : Type 0 where
+  pub grown : GrownFrames l m
+  pub same : frames_of m ≡ frames_of l
+
 -- where a local of the newest activation stands among all locals
 pub record IsPlace (number : ℕ) (activations : List Activation) (locals : List Local) (place : ℕ) : Type 0 where
   pub newest : Activation

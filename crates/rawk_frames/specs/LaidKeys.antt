@@ -1,5 +1,5 @@
 -- Keys that loops still visit: on one stack their lists, on another how many of each were visited.
-use Rattle.std.specs.Prelude.{ℕ, List, [], ◌∷◌, drop, map}
+use Rattle.std.specs.Prelude.{◌≡◌, ℕ, List, [], ◌∷◌, drop, map}
 use Rattle.std.specs.Global.{Vec}
 use Rattle.rawk_value.specs.Values.{Bytes}
 use Rattle.rawk_slots.specs.Stacked.{Stacked, GrownStack, IsLive, empty_stack, live_values}
@@ -38,6 +38,11 @@ without_first (keys ∷ rest) = drop 1 keys ∷ rest
 pub record GrownKeys (l m : LaidKeys) : Type 0 where
   pub lists : GrownStack l.lists m.lists
   pub visited : GrownStack l.visited m.visited
+
+-- slots were added beyond the live ones, and the keys that are left are the same
+pub record IsSameKeys (l m : LaidKeys) : Type 0 where
+  pub grown : GrownKeys l m
+  pub same : keys_of m ≡ keys_of l
 
 -- the live lengths are within the slots
 pub record AreKeysLive (l : LaidKeys) : Type 0 where

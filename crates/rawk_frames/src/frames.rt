@@ -238,19 +238,22 @@ impl Frames {
 
 impl Reversible for Frames {
     ghost use Rattle.std.specs.Prelude.{◌≡◌};
-    ghost use Rattle.rawk_frames.specs.LaidFrames.{GrownFrames, frames_of};
+    ghost use Rattle.rawk_frames.specs.LaidFrames.{IsSameFrames, frames_of};
     ghost use Rattle.rawk_frames.specs.FramesBack.{FitsFrames, frames_back};
     ghost use Rattle.rawk_frames.specs.FramesChanges.{changed_frames};
+    ghost use Rattle.rawk_frames.specs.FramesLaws.{IsSameFrames-refl};
 
     type Change = FramesChange;
 
     type Undo = FramesGroup;
 
-    ghost grown = { λ old new. GrownFrames old.now new.now };
+    ghost grown = { λ old new. IsSameFrames old.now new.now };
 
     ghost makes = { λ old change new. frames_of new.now ≡ changed_frames change (frames_of old.now) };
 
-    ghost leads_back = { λ now undo earlier. FitsFrames undo now.now × GrownFrames earlier.now (frames_back now.now undo) };
+    ghost leads_back = { λ now undo earlier. FitsFrames undo now.now × IsSameFrames earlier.now (frames_back now.now undo) };
+
+    ghost grown_same = { λ part. IsSameFrames-refl part.now };
 
     fn apply(&mut self, alloc: Global, change: FramesChange) -> Result<FramesGroup, AllocError> {
         self.forget();

@@ -172,19 +172,22 @@ impl KeysLeft {
 
 impl Reversible for KeysLeft {
     ghost use Rattle.std.specs.Prelude.{◌≡◌};
-    ghost use Rattle.rawk_frames.specs.LaidKeys.{GrownKeys, keys_of};
+    ghost use Rattle.rawk_frames.specs.LaidKeys.{IsSameKeys, keys_of};
     ghost use Rattle.rawk_frames.specs.KeysBack.{FitsKeys, keys_back};
     ghost use Rattle.rawk_frames.specs.FramesChanges.{changed_keys};
+    ghost use Rattle.rawk_frames.specs.FramesLaws.{IsSameKeys-refl};
 
     type Change = KeysChange;
 
     type Undo = KeysLeftGroup;
 
-    ghost grown = { λ old new. GrownKeys old.now new.now };
+    ghost grown = { λ old new. IsSameKeys old.now new.now };
 
     ghost makes = { λ old change new. keys_of new.now ≡ changed_keys change (keys_of old.now) };
 
-    ghost leads_back = { λ now undo earlier. FitsKeys undo now.now × GrownKeys earlier.now (keys_back now.now undo) };
+    ghost leads_back = { λ now undo earlier. FitsKeys undo now.now × IsSameKeys earlier.now (keys_back now.now undo) };
+
+    ghost grown_same = { λ part. IsSameKeys-refl part.now };
 
     fn apply(&mut self, alloc: Global, change: KeysChange) -> Result<KeysLeftGroup, AllocError> {
         self.forget();

@@ -1,7 +1,7 @@
 //! Activations and keys that are left, with ample memory.
 
 use crate::{Frames, FramesChange, KeysChange, KeysLeft, Local};
-use rawk_slots::Reversible;
+use rawk_slots::{Reversible, there_and_back};
 use rawk_value::Value;
 use std::test::Fail;
 
@@ -54,5 +54,16 @@ fn a_change_of_keys_and_back(rt: HostRuntime) -> Result<(), Fail> {
     assert!(rt; left.next().is_none());
     Reversible::undo(&mut left, &mut visited);
     assert_eq!(rt; left.next(), Some(b"a".as_slice()));
+    Ok(())
+}
+
+#[test]
+fn a_call_there_and_back(rt: HostRuntime) -> Result<(), Fail> {
+    let mut frames = Frames::new(rt.alloc());
+    frames.enter(8, 3, 101)?;
+    frames.add_local(Local::Holds(Value::Number(1)))?;
+    there_and_back(&mut frames, rt.alloc(), FramesChange::LeaveAll)?;
+    assert_eq!(rt; frames.depth(), 1);
+    assert!(rt; frames.local(0).is_some());
     Ok(())
 }

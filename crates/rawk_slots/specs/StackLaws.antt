@@ -1,10 +1,10 @@
 -- Slots that were added beyond the live values of a stack change nothing, and putting back works over them.
-use Rattle.std.specs.Prelude.{◌≡◌, List, [], ◌++◌, length, reverse}
+use Rattle.std.specs.Prelude.{◌≡◌, List, [], ◌++◌, length, refl, reverse}
 use Rattle.std.proofs.Common.{sym, ap, ◌∙◌, arith, append_assoc}
 use Rattle.std.proofs.lemmas.List.{append-nil, length-append, reverse-reverse, take-append-le}
 use Rattle.rawk_slots.specs.declared.stack.StackGroup.{StackGroup}
 use Rattle.rawk_slots.specs.BackLaws.{back_grow, AreBelow-more, length-back}
-use Rattle.rawk_slots.specs.Stacked.{Stacked, GrownStack, IsLive, live_slots, live_values, with_slots}
+use Rattle.rawk_slots.specs.Stacked.{Stacked, GrownStack, IsLive, IsSameStack, live_slots, live_values, with_slots}
 use Rattle.rawk_slots.specs.StackBack.{FitsStack, stack_back}
 
 -- a grown stack has the same live values
@@ -45,10 +45,24 @@ GrownStack-back {T} s t group g h = record { more = g.more; is = ap (λ (x : Sta
 pub FitsStack-over : {T : Type 0} (s t : Stacked T) (group : StackGroup T) → GrownStack s t → FitsStack group s → FitsStack group t
 FitsStack-over s t group g h = rw g.is (FitsStack-grown s group g.more h)
 
--- a group that leads from a stack back to another leads there over more slots too
-pub leads_back-grown : {T : Type 0} (s t earlier : Stacked T) (group : StackGroup T) → FitsStack group s → GrownStack earlier (stack_back s group) → GrownStack s t → FitsStack group t × GrownStack earlier (stack_back t group)
-leads_back-grown s t earlier group h e g =
-    (FitsStack-over s t group g h, GrownStack-trans earlier (stack_back s group) (stack_back t group) e (GrownStack-back s t group g h))
-
 pub IsLive-stack_back : {T : Type 0} (s : Stacked T) (group : StackGroup T) → FitsStack group s → IsLive (stack_back s group)
 IsLive-stack_back s group h = omega (arith, length-back s.slots group.slots.entries.items, h.live)
+
+pub IsSameStack-refl : {T : Type 0} (s : Stacked T) → IsSameStack s s
+IsSameStack-refl s = record { grown = GrownStack-refl s; same = refl }
+
+pub IsSameStack-trans : {T : Type 0} (s t u : Stacked T) → IsSameStack s t → IsSameStack t u → IsSameStack s u
+IsSameStack-trans s t u a b = record { grown = GrownStack-trans s t u a.grown b.grown; same = b.same ∙ a.same }
+
+-- a live stack that has grown is the same stack
+pub IsSameStack-grown : {T : Type 0} (s t : Stacked T) → GrownStack s t → IsLive s → IsSameStack s t
+IsSameStack-grown s t g h = record { grown = g; same = live_values-grown s t g h }
+
+-- putting back, over more slots
+pub IsSameStack-back : {T : Type 0} (s t : Stacked T) (group : StackGroup T) → GrownStack s t → FitsStack group s → IsSameStack (stack_back s group) (stack_back t group)
+IsSameStack-back s t group g h = IsSameStack-grown (stack_back s group) (stack_back t group) (GrownStack-back s t group g h) (IsLive-stack_back s group h)
+
+-- a group that leads from a stack back to another leads there over more slots too
+pub leads_back-grown : {T : Type 0} (s t earlier : Stacked T) (group : StackGroup T) → FitsStack group s → IsSameStack earlier (stack_back s group) → IsSameStack s t → FitsStack group t × IsSameStack earlier (stack_back t group)
+leads_back-grown s t earlier group h e g =
+    (FitsStack-over s t group g.grown h, IsSameStack-trans earlier (stack_back s group) (stack_back t group) e (IsSameStack-back s t group g.grown h))

@@ -34,3 +34,8 @@ with_slots s more = record s { slots = s.slots ++ more }
 pub record GrownStack {T : Type 0} (s t : Stacked T) : Type 0 where
   pub more : List T
   pub is : t ≡ with_slots s more
+
+-- slots were added beyond the live ones, and the live values are the same
+pub record IsSameStack {T : Type 0} (s t : Stacked T) : Type 0 where
+  pub grown : GrownStack s t
+  pub same : live_values t ≡ live_values s

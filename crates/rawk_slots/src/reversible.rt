@@ -31,4 +31,7 @@ pub trait Reversible {
     fn undo(&mut self, undo: &mut Self::Undo)
         requires { (earlier : Self) × leads_back self.old undo.old earlier }
         ensures { (earlier : Self) → leads_back self.old undo.old earlier → grown earlier self.new };
+
+    // A part is itself, with nothing more.
+    ghost grown_same: { (part : Self) → grown part part };
 }

@@ -166,7 +166,7 @@ pub struct Write<T> {
 }
 
 impl<T: Drop> Reversible for Slots<T> {
-    ghost use Rattle.std.specs.Prelude.{◌≡◌, length, slice_set};
+    ghost use Rattle.std.specs.Prelude.{◌≡◌, length, refl, slice_set};
     ghost use Rattle.rawk_slots.specs.Back.{back, AreBelow};
 
     type Change = Write<T>;
@@ -178,6 +178,8 @@ impl<T: Drop> Reversible for Slots<T> {
     ghost makes = { λ old change new. new.now ≡ slice_set old.now change.place change.value };
 
     ghost leads_back = { λ now undo earlier. AreBelow (length now.now) undo.entries.items × (back now.now undo.entries.items ≡ earlier.now) };
+
+    ghost grown_same = { λ part. refl };
 
     fn apply(&mut self, alloc: Global, change: Write<T>) -> Result<SlotGroup<T>, AllocError> {
         self.forget();

@@ -232,19 +232,22 @@ impl<T: Drop> Stack<T> {
 
 impl<T: Drop> Reversible for Stack<T> {
     ghost use Rattle.std.specs.Prelude.{◌≡◌};
-    ghost use Rattle.rawk_slots.specs.Stacked.{GrownStack, live_values};
+    ghost use Rattle.rawk_slots.specs.Stacked.{IsSameStack, live_values};
     ghost use Rattle.rawk_slots.specs.StackBack.{FitsStack, stack_back};
     ghost use Rattle.rawk_slots.specs.StackChanges.{changed_values};
+    ghost use Rattle.rawk_slots.specs.StackLaws.{IsSameStack-refl};
 
     type Change = StackChange<T>;
 
     type Undo = StackGroup<T>;
 
-    ghost grown = { λ old new. GrownStack old.now new.now };
+    ghost grown = { λ old new. IsSameStack old.now new.now };
 
     ghost makes = { λ old change new. live_values new.now ≡ changed_values change (live_values old.now) };
 
-    ghost leads_back = { λ now undo earlier. FitsStack undo now.now × GrownStack earlier.now (stack_back now.now undo) };
+    ghost leads_back = { λ now undo earlier. FitsStack undo now.now × IsSameStack earlier.now (stack_back now.now undo) };
+
+    ghost grown_same = { λ part. IsSameStack-refl part.now };
 
     fn apply(
         &mut self,

@@ -14,11 +14,11 @@ returns-in_err-place-clause-same c =
     let s = c.self.inside in
     let l : Laid = record { names = s.names; slots = s.cells.now; live = s.live } in
     let m : Laid = record { names = c.slot_for.new.names; slots = c.slot_for.new.cells.now; live = s.live } in
-    spread_arrays l m refl c.self.invariant.named c.slot_for.ensures.laid.named c.slot_for.ensures.more c.slot_for.ensures.now ∙ ap (λ w. arrays_of w.now) c.self.view_is
+    spread_arrays l m refl c.self.invariant.named c.slot_for.ensures.more c.slot_for.ensures.now ∙ ap (λ w. arrays_of w.now) c.self.view_is
 
 pub returns-clause-same : goal.returns-clause-same
 returns-clause-same c =
     let s = c.self.inside in
     let l : Laid = record { names = s.names; slots = s.cells.now; live = s.live } in
     let m : Laid = record { names = c.slot_for.new.names; slots = c.slot_for.new.cells.now; live = s.live } in
-    spread_arrays l m refl c.self.invariant.named c.slot_for.ensures.laid.named c.slot_for.ensures.more c.slot_for.ensures.now ∙ ap (λ w. arrays_of w.now) c.self.view_is
+    spread_arrays l m refl c.self.invariant.named c.slot_for.ensures.more c.slot_for.ensures.now ∙ ap (λ w. arrays_of w.now) c.self.view_is

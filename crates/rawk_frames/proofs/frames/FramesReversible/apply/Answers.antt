@@ -1,8 +1,9 @@
 use Rattle.std.proofs.Common.{ap}
-use Rattle.rawk_frames.specs.FramesLaws.{frames_lead_back-grown}
+use Rattle.rawk_frames.specs.FramesLaws.{IsSameFrames-grown, frames_lead_back-grown}
 use Rattle.rawk_frames.proofs.frames.FramesReversible.apply.Goals as goal
 
 pub returns-in-Ok-clause-back : goal.returns-in-Ok-clause-back
 returns-in-Ok-clause-back c = λ more h.
     let start = rw (ap (λ w. w.start) c.forget.ensures.now) at c.change.ensures.start in
-    frames_lead_back-grown c.change.new.self.now more.now c.args.self.now.now c.finish.result c.finish.ensures.fits (rw c.finish.ensures.back start) (rw (ap (λ w. w.now) c.finish.ensures.now) at h)
+    let same = IsSameFrames-grown c.args.self.now.now c.change.new.self.start start c.forget.ensures.live in
+    frames_lead_back-grown c.change.new.self.now more.now c.args.self.now.now c.finish.result c.finish.ensures.fits (rw c.finish.ensures.back same) (rw (ap (λ w. w.now) c.finish.ensures.now) at h)

@@ -1,8 +1,9 @@
 use Rattle.std.proofs.Common.{ap}
-use Rattle.rawk_slots.specs.StackLaws.{leads_back-grown}
+use Rattle.rawk_slots.specs.StackLaws.{IsSameStack-grown, leads_back-grown}
 use Rattle.rawk_slots.proofs.stack.StackReversible.apply.Goals as goal
 
 pub returns-in-Ok-clause-back : goal.returns-in-Ok-clause-back
 returns-in-Ok-clause-back g c = λ more h.
     let start = rw (ap (λ w. w.start) c.forget.ensures.now) at c.change.ensures.start in
-    leads_back-grown c.change.new.self.now more.now c.args.self.now.now c.finish.result c.finish.ensures.fits (rw c.finish.ensures.back start) (rw (ap (λ w. w.now) c.finish.ensures.now) at h)
+    let same = IsSameStack-grown c.args.self.now.now c.change.new.self.start start c.forget.ensures.live in
+    leads_back-grown c.change.new.self.now more.now c.args.self.now.now c.finish.result c.finish.ensures.fits (rw c.finish.ensures.back same) (rw (ap (λ w. w.now) c.finish.ensures.now) at h)
