@@ -29,11 +29,7 @@ pub enum RecordChange {
 }
 
 /// The record that a change makes of another, where it is another one.
-fn changed(
-    alloc: Global,
-    old: &Record,
-    change: RecordChange,
-) -> Result<Option<Record>, AllocError>
+fn changed(alloc: Global, old: &Record, change: RecordChange) -> Result<Option<Record>, AllocError>
     ensures { IfOk result (λ new. record_back old.now new ≡ changed_by old.now change) }
 {
     match change {
@@ -59,7 +55,7 @@ fn changed(
 }
 
 impl Reversible for Record {
-    ghost use Rattle.std.specs.Prelude.{◌≡◌};
+    ghost use Rattle.std.specs.Prelude.{◌≡◌, refl};
     ghost use Rattle.rawk_record.specs.Changes.{changed_by};
     ghost use Rattle.rawk_record.specs.Shown.{record_back};
 
@@ -73,12 +69,10 @@ impl Reversible for Record {
 
     ghost leads_back = { λ now undo earlier. record_back now undo ≡ earlier };
 
+    ghost grown_same = { λ part. refl };
+
     /// The new record is built beside the old one, and they change places: the entry is the old record, where it is another one.
-    fn apply(
-        &mut self,
-        alloc: Global,
-        change: RecordChange,
-    ) -> Result<Option<Record>, AllocError> {
+    fn apply(&mut self, alloc: Global, change: RecordChange) -> Result<Option<Record>, AllocError> {
         let mut entry = changed(alloc, self, change)?;
         if let Some(record) = &mut entry {
             mem::swap(self, record);

@@ -1,18 +1,16 @@
 -- Slots that were added and that no program sees change no state, and putting back works over them.
-use Rattle.std.specs.Prelude.{◌≡◌, Bool, List, [], length, take, refl}
+use Rattle.std.specs.Prelude.{◌≡◌, Bool, List, length, take, refl}
 use Rattle.std.proofs.Common.{sym, ap, ◌∙◌, subst}
 use Rattle.rawk_value.specs.Values.{Bytes}
 use Rattle.rawk_value.specs.declared.value.Value.{Value}
 use Rattle.rawk_slots.specs.Back.{back, AreBelow}
-use Rattle.rawk_slots.specs.Stacked.{Stacked, GrownStack, live_values}
-use Rattle.rawk_slots.specs.StackBack.{FitsStack}
+use Rattle.rawk_slots.specs.Stacked.{Stacked, GrownStack}
 use Rattle.rawk_slots.specs.StackLaws.{live_values-grown, GrownStack-refl, GrownStack-trans, GrownStack-back, FitsStack-over, IsLive-stack_back}
 use Rattle.rawk_arrays.specs.Elements.{Elements}
 use Rattle.rawk_arrays.specs.Laid.{arrays_of}
 use Rattle.rawk_arrays.specs.ArraysLaws.{arrays_of-grown, GrownArrays-refl, GrownArrays-trans, GrownArrays-back, FitsArrays-grown, IsLaid-back}
 use Rattle.rawk_frames.specs.Frame.{Frame}
 use Rattle.rawk_frames.specs.LaidFrames.{frames_of}
-use Rattle.rawk_frames.specs.LaidKeys.{keys_of}
 use Rattle.rawk_frames.specs.FramesLaws.{frames_of-grown, keys_of-grown, GrownFrames-refl, GrownFrames-trans, GrownFrames-back, GrownKeys-refl, GrownKeys-trans, GrownKeys-back, FitsFrames-grown, FitsKeys-grown, AreFramesLive-back, AreKeysLive-back}
 use Rattle.rawk_record.specs.Shown.{Shown, record_back}
 use Rattle.rawk_store.specs.declared.registers.Registers.{Registers}

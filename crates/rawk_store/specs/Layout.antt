@@ -1,5 +1,5 @@
 -- How a state lies in its parts.
-use Rattle.std.specs.Prelude.{◌≡◌, Bool, List, []}
+use Rattle.std.specs.Prelude.{◌≡◌, Bool, List}
 use Rattle.rawk_value.specs.Values.{Bytes}
 use Rattle.rawk_value.specs.declared.value.Value.{Value}
 use Rattle.rawk_store.specs.State.{State}

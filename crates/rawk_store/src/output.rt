@@ -118,7 +118,7 @@ impl Output {
 }
 
 impl Reversible for Output {
-    ghost use Rattle.std.specs.Prelude.{◌≡◌, ◌≤◌, ◌++◌, length, take};
+    ghost use Rattle.std.specs.Prelude.{◌≡◌, ◌≤◌, ◌++◌, length, refl, take};
 
     type Change = Vec<u8>;
 
@@ -129,6 +129,8 @@ impl Reversible for Output {
     ghost makes = { λ old change new. new.now ≡ old.now ++ change.items };
 
     ghost leads_back = { λ now undo earlier. (undo ≤ length now.now) × (take undo now.now ≡ earlier.now) };
+
+    ghost grown_same = { λ part. refl };
 
     /// Adds the bytes; the entry is how many there were.
     fn apply(&mut self, alloc: Global, change: Vec<u8>) -> Result<usize, AllocError> {

@@ -16,17 +16,6 @@ MayBe-back may_give old new chunk grown comes input may = record {
   whole = may.whole ∙ (ap (λ (x : List ℕ). before x may.rest) grown ∙ ap (λ (x : List ℕ). record { bytes = x; fails = may.rest.fails }) (append_assoc old.bytes chunk may.rest.bytes));
 }
 
--- nothing was read
-pub ahead_none : {S : Type 0} (may_give : S → Input → Type 0) (over : S → Option Ending) (handed : S → ℕ) (tape : Held S) → ReadsAhead may_give over handed tape tape
-ahead_none may_give over handed tape = record {
-  input = λ input may. may;
-  consumed = refl;
-  grown = sym (ap (λ (x : List ℕ). tape.bytes ++ x) (drop_all (length tape.bytes) tape.bytes (omega arith)) ∙ append-nil tape.bytes);
-  longer = omega arith;
-  counted = λ small. omega arith;
-  closed = λ ending is. refl;
-}
-
 -- one read more
 pub ahead_more : {S : Type 0} (may_give : S → Input → Type 0) (over : S → Option Ending) (handed : S → ℕ) (old now new : Held S) → ReadsAhead may_give over handed old now → over now.source ≡ None → ReadsOn may_give over handed now.source now.bytes new.source new.bytes → new.consumed ≡ now.consumed → ReadsAhead may_give over handed old new
 ahead_more {S = S} may_give over handed old now new a still r same =

@@ -1,7 +1,7 @@
 -- Laws of inputs and tapes, for the crates above: an input that may be, before and after bytes are let go, and records behind them.
-use Rattle.std.specs.Prelude.{◌≡◌, ℕ, ◌+◌, Bool, true, false, cond, [], ◌∷◌, ◌++◌, length, take, drop, Option, None, Some, Result, Ok, Err}
+use Rattle.std.specs.Prelude.{◌≡◌, ℕ, ◌+◌, List, Bool, true, false, cond, [], ◌∷◌, ◌++◌, length, take, drop, Option, None, Some, Result, Ok, Err}
 use Rattle.std.proofs.Common.{refl, sym, ap, subst, ◌∙◌, arith}
-use Rattle.std.proofs.lemmas.List.{append_assoc, take-append-drop}
+use Rattle.std.proofs.lemmas.List.{append_assoc, append-nil, drop_all, take-append-drop}
 use Rattle.std.proofs.Math.Seq.{drop-append-add}
 use Rattle.rawk_value.specs.Values.{Bytes, is_empty}
 use Rattle.rawk_value.specs.declared.fault.Fault.{Fault}
@@ -11,7 +11,8 @@ use Rattle.rawk_match.specs.declared.span.Span.{Span}
 use Rattle.rawk_match.specs.Expressions.{ere_of}
 use Rattle.rawk_tape.specs.Records.{Input, Found, found, next_line, next_paragraph, separator_in, ended_by, next_match, next_record}
 use Rattle.rawk_tape.specs.Inputs.{before}
-use Rattle.rawk_tape.specs.Tapes.{Held, MayBe}
+use Rattle.rawk_tape.specs.Tapes.{Held, MayBe, ReadsAhead}
+use Rattle.rawk_tape.specs.declared.source.Ending.{Ending}
 
 -- some input may always be the tape's, where its source always gives some
 pub some_input : {S : Type 0} (may_give : S → Input → Type 0) (gives_some : (s : S) → (rest : Input) × may_give s rest) (tape : Held S) → (input : Input) × MayBe may_give tape input
@@ -22,6 +23,17 @@ some_input may_give gives_some tape =
 -- what may be is the same with another count of consumed bytes
 pub MayBe-consumed : {S : Type 0} (may_give : S → Input → Type 0) (tape : Held S) (count : ℕ) (input : Input) → MayBe may_give (record tape { consumed = count }) input → MayBe may_give tape input
 MayBe-consumed may_give tape count input may = record { rest = may.rest; comes = may.comes; whole = may.whole }
+
+-- nothing was read
+pub ReadsAhead-refl : {S : Type 0} (may_give : S → Input → Type 0) (over : S → Option Ending) (handed : S → ℕ) (tape : Held S) → ReadsAhead may_give over handed tape tape
+ReadsAhead-refl may_give over handed tape = record {
+  input = λ input may. may;
+  consumed = refl;
+  grown = sym (ap (λ (x : List ℕ). tape.bytes ++ x) (drop_all (length tape.bytes) tape.bytes (omega arith)) ∙ append-nil tape.bytes);
+  longer = omega arith;
+  counted = λ small. omega arith;
+  closed = λ ending is. refl;
+}
 
 pub before-before : (front back : Bytes) (input : Input) → before front (before back input) ≡ before (front ++ back) input
 before-before front back input = ap (λ (x : Bytes). record { bytes = x; fails = input.fails }) (sym (append_assoc front back input.bytes))

@@ -16,6 +16,7 @@ pub struct Consumption {
 impl<R: Source + Drop> Reversible for Tape<R> {
     ghost use Rattle.std.specs.Prelude.{◌≡◌};
     ghost use Rattle.rawk_tape.specs.Tapes.{LeadsBack, ReadsAhead, consumed_by};
+    ghost use Rattle.rawk_tape.specs.Laws.{ReadsAhead-refl};
 
     type Change = Consumption;
 
@@ -27,6 +28,8 @@ impl<R: Source + Drop> Reversible for Tape<R> {
     ghost makes = { λ old change new. new ≡ record old { consumed = consumed_by old change.count } };
 
     ghost leads_back = { λ now undo earlier. LeadsBack R.may_give R.over R.handed now undo.count earlier };
+
+    ghost grown_same = { λ part. ReadsAhead-refl R.may_give R.over R.handed part };
 
     /// Consumes bytes up to a count. It takes no memory, always succeeds and asks the source for nothing; the entry is the count before.
     fn apply(&mut self, alloc: Global, change: Consumption) -> Result<Consumption, AllocError>

@@ -1,4 +1,4 @@
-use Rattle.std.proofs.Common.{◌≡◌, List, [], ◌∷◌, ◌++◌, reverse, sym, ap, ◌∙◌}
+use Rattle.std.proofs.Common.{◌≡◌, List, [], ◌∷◌, reverse, sym, ap, ◌∙◌}
 use Rattle.std.proofs.lemmas.List.{append-nil, reverse-append}
 use Rattle.rawk_store.specs.declared.keeper.Kept.{Kept}
 use Rattle.rawk_store.proofs.keeper.FullKeeper.keep.Goals as goal
