@@ -1,4 +1,4 @@
-use Rattle.std.proofs.Common.{◌≡◌, ℕ, ◌-◌, ◌∙◌, [], ap, sym, subst, refl, arith, length, drop, reverse, Some}
+use Rattle.std.proofs.Common.{◌≡◌, ℕ, ◌-◌, ◌∙◌, [], ap, refl, arith, length, drop, reverse, Some}
 use Rattle.rawk_value.specs.Values.{Bytes}
 use Rattle.rawk_tape.specs.Tapes.{Held}
 use Rattle.rawk_store.specs.Layout.{Layout}

@@ -1,4 +1,4 @@
-use Rattle.std.proofs.Common.{◌≡◌, ◌∙◌, [], ap, sym, subst, refl, length, reverse, Some}
+use Rattle.std.proofs.Common.{◌≡◌, ◌∙◌, [], ap, sym, subst, length, reverse, Some}
 use Rattle.rawk_store.specs.State.{State}
 use Rattle.rawk_store.specs.Layout.{Layout, state}
 use Rattle.rawk_store.specs.Stores.{now_of}

@@ -1,4 +1,4 @@
-use Rattle.std.proofs.Common.{◌≤◌, ◌+◌, length, reverse, ap, sym, subst, arith}
+use Rattle.std.proofs.Common.{◌≤◌, ◌+◌, length, reverse, sym, subst, arith}
 use Rattle.rawk_store.specs.Stores.{now_of}
 use Rattle.rawk_machine.specs.Kept.{AllBelow, Few}
 use Rattle.rawk_machine.specs.Standing.{Standing, LastMade}

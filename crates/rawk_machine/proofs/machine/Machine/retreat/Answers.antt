@@ -7,7 +7,7 @@ use Rattle.rawk_store.specs.Stores.{now_of}
 use Rattle.rawk_code.specs.Actions.{SetAt}
 use Rattle.rawk_machine.specs.declared.last.Last.TheVariants.{Back}
 use Rattle.rawk_machine.specs.Standing.{Standing, Stood, gone_back}
-use Rattle.rawk_machine.specs.Kept.{below, all_back, back_in, newest_first, pasts, globals_forth, record_forth, Chain, Few}
+use Rattle.rawk_machine.specs.Kept.{below, back_in, newest_first, pasts, globals_forth, record_forth, Chain, Few}
 use Rattle.rawk_machine.specs.Stood.{standing_of}
 use Rattle.rawk_machine.specs.Arrival.{ends_quietly}
 use Rattle.rawk_machine.proofs.Chains.{fit_here}
