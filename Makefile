@@ -1,6 +1,6 @@
 # make           proves and builds, and leaves bin/rawk
-# make check     the gate: proves every crate from nothing, tries the wrong edits, runs the tests and programs
-# make install   PREFIX=/usr/local
+# make check     the gate: proves every crate from nothing, tries the wrong edits of must-fail/, runs the programs
+# make install   the program and its manual page, below PREFIX=/usr/local
 
 RT ?= rt
 PREFIX ?= /usr/local
@@ -8,7 +8,7 @@ PREFIX ?= /usr/local
 .PHONY: all check install bench clean
 
 all:
-	cd crates/rawk_main && $(RT) run -- --help > /dev/null
+	tools/build rawk_main
 	mkdir -p bin
 	cp crates/rawk_main/out/rawk_main bin/rawk
 
@@ -17,6 +17,7 @@ check:
 
 install: all
 	install -D -m 755 bin/rawk $(DESTDIR)$(PREFIX)/bin/rawk
+	install -D -m 644 docs/rawk.1 $(DESTDIR)$(PREFIX)/share/man/man1/rawk.1
 
 bench: all
 	bench/run.sh

@@ -1,13 +1,13 @@
 #!/usr/bin/env bash
 # Times one array beside mawk and gawk on one machine in one run: user + system seconds, the best of three, and the bytes
 # that an element takes. `bump` looks an element up and increments it; mawk is timed with subscripts that are numbers (for
-# which it has tables of their own) and that are texts. Nothing here is a test: make check runs crates/rawk_arrays_bench on
+# which it has tables of their own) and that are texts. Nothing here is a test: make check runs crates/bench_arrays on
 # a few lines.
 set -u
 cd "$(dirname "$0")/.." || exit 2
 export LC_ALL=C
-bench=$PWD/crates/rawk_arrays_bench/out/rawk_arrays_bench
-[ -x "$bench" ] || (cd crates/rawk_arrays_bench && rt run < stdin > /dev/null) || exit 2
+bench=$PWD/crates/bench_arrays/out/bench_arrays
+[ -x "$bench" ] || (cd crates/bench_arrays && rt run < stdin > /dev/null) || exit 2
 folder=$(mktemp -d)
 trap 'rm -rf "$folder"' EXIT
 

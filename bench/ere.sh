@@ -1,12 +1,12 @@
 #!/usr/bin/env bash
 # Times the search for extended regular expressions beside the other awks on one machine in one run: user + system
 # seconds, the best of three, on 50 MB of lines made here from a fixed seed. Nothing here is a test: make check runs
-# crates/rawk_ere_bench on a few lines.
+# crates/bench_ere on a few lines.
 set -u
 cd "$(dirname "$0")/.." || exit 2
 export LC_ALL=C
-bench=$PWD/crates/rawk_ere_bench/out/rawk_ere_bench
-[ -x "$bench" ] || (cd crates/rawk_ere_bench && rt run < stdin > /dev/null) || exit 2
+bench=$PWD/crates/bench_ere/out/bench_ere
+[ -x "$bench" ] || (cd crates/bench_ere && rt run -- "$(cat args)" < stdin > /dev/null) || exit 2
 folder=$(mktemp -d)
 trap 'rm -rf "$folder"' EXIT
 bench/make_lines.sh "${LINES_OF_INPUT:-1160000}" > "$folder/lines"

@@ -1,11 +1,11 @@
 #!/usr/bin/env bash
 # Measures the memory that one expression holds once it is read, and the most while it is read, in bytes as the allocator counts
-# them, without the 64 KiB in which crates/rawk_ere_bench reads its input. It wants a C compiler. Nothing here is a test.
+# them, without the 64 KiB in which crates/bench_ere reads its input. It wants a C compiler. Nothing here is a test.
 set -u
 cd "$(dirname "$0")/.." || exit 2
 export LC_ALL=C
-bench=$PWD/crates/rawk_ere_bench/out/rawk_ere_bench
-[ -x "$bench" ] || (cd crates/rawk_ere_bench && rt run < stdin > /dev/null) || exit 2
+bench=$PWD/crates/bench_ere/out/bench_ere
+[ -x "$bench" ] || (cd crates/bench_ere && rt run < stdin > /dev/null) || exit 2
 folder=$(mktemp -d)
 trap 'rm -rf "$folder"' EXIT
 cc -shared -fPIC -O1 -o "$folder/held.so" bench/held.c -ldl || exit 2

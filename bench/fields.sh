@@ -1,12 +1,12 @@
 #!/usr/bin/env bash
 # Times the reading of records and the splitting of their fields beside the other awks on one machine in one run: user + system
 # seconds, the best of three, on 100 MB of lines of eight fields made here from a fixed seed. Nothing here is a test: make check runs
-# crates/rawk_record_bench on a few lines.
+# crates/bench_record on a few lines.
 set -u
 cd "$(dirname "$0")/.." || exit 2
 export LC_ALL=C
-bench=$PWD/crates/rawk_record_bench/out/rawk_record_bench
-[ -x "$bench" ] || (cd crates/rawk_record_bench && rt run -- : < stdin > /dev/null) || exit 2
+bench=$PWD/crates/bench_record/out/bench_record
+[ -x "$bench" ] || (cd crates/bench_record && rt run -- : < stdin > /dev/null) || exit 2
 folder=$(mktemp -d)
 trap 'rm -rf "$folder"' EXIT
 bench/make_input.sh "${LINES_OF_INPUT:-1400000}" > "$folder/lines"

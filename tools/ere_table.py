@@ -1,5 +1,5 @@
 #!/usr/bin/env python3
-"""Writes the table of ERE cases of crates/rawk_part_rows: ere_table.py stdin|stdout.
+"""Writes the table of ERE cases of crates/rows_ere: ere_table.py stdin|stdout.
 
 The expected places come from `match()` of `LC_ALL=C gawk --posix`: 'begin,end' counted from 0, or 'none'. In RULED stand
 refusals, and cases where this product's rules (docs/LANGUAGE.md) differ."""

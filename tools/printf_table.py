@@ -1,5 +1,5 @@
 #!/usr/bin/env python3
-"""Writes the table of printf cases of crates/rawk_part_rows: printf_table.py stdin|stdout|compare.
+"""Writes the table of printf cases of crates/rows_ere: printf_table.py stdin|stdout|compare.
 
 The expected texts come from `LC_ALL=C gawk --posix` on the same format and arguments, where gawk follows this product's
 rules; the few cases in RULED differ, and their texts follow from the rules in docs/LANGUAGE.md.

@@ -1,3 +1,4 @@
 mod SoFar
-mod Told
-mod Held
+mod DialogSoFar
+mod Runs
+mod Sessions

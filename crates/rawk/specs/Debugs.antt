@@ -1,45 +1,42 @@
--- What a session tells, of any text, first values, source, commands and sink.
-use Rattle.std.specs.Prelude.{◌≡◌, ℕ, ◌≤◌, ◌++◌, true, false, List, [], length, Option}
+-- What is reported of a session, of any text, first values, source, commands and sink.
+use Rattle.std.specs.Prelude.{◌≡◌, ℕ, ◌≤◌, ◌++◌, true, false, List, [], Option}
+use Rattle.std.specs.Option.{ForSome}
 use Rattle.rawk_value.specs.Values.{Bytes}
 use Rattle.rawk_tape.specs.Records.{Input}
-use Rattle.rawk_syntax.specs.declared.draft.Item.{Item}
 use Rattle.rawk_syntax.specs.declared.tree.Program.{Program}
 use Rattle.rawk_syntax.specs.declared.refusal.Refusal.{Refusal}
-use Rattle.rawk_syntax.specs.declared.refusal.RefusalKind.TheVariants.{OutOfMemory}
-use Rattle.rawk_syntax.specs.Texts.{IsText, IsProgram}
+use Rattle.rawk_syntax.specs.Texts.{IsProgram}
 use Rattle.rawk_value.specs.declared.fault.Fault.TheVariants as fault
 use Rattle.rawk_code.specs.Trace.{FirstValue}
 use Rattle.rawk_code.specs.Settings.{settings_fit}
 use Rattle.rawk_debug.specs.Positions.{Position}
 use Rattle.rawk_debug.specs.Moves.{Stand}
-use Rattle.rawk_dialog.specs.declared.dialog.Over.{Over}
-use Rattle.rawk_dialog.specs.declared.dialog.Over.TheVariants.{Ended, Unread, Unwritten, NoMemory}
-use Rattle.rawk_dialog.specs.Dialogs.{IsDialog}
+use Rattle.rawk.specs.declared.dialog.Over.{Over}
+use Rattle.rawk.specs.Dialogs.{IsDialog, report_over}
 use Rattle.rawk.specs.declared.report.Report.{Report}
 use Rattle.rawk.specs.declared.report.Cause.TheVariants as cause
-use Rattle.rawk.specs.Runs.{stopped_by}
-use Rattle.rawk.specs.Tells.{refused_by}
+use Rattle.rawk.specs.Reports.{stopped_by, refused_by}
+use Rattle.rawk.specs.Preparing.{IsRefusedText}
 
--- a session before its first command: at point 0, with no sets, no breakpoints and no watches
+-- how many steps a session may keep, where there is a limit
+abbrev pub IsHistory : Option ℕ → Type 0
+IsHistory history = ForSome history (λ h. (1 ≤ h) × (h ≤ 1000000))
+
+-- a machine before its first command: at point 0, with no sets
+abbrev pub first_position : Program → List FirstValue → ℕ → Option ℕ → Position
+first_position p settings steps history = record { program = p; settings = settings; steps = steps; history = history; point = 0; sets = []; oldest = 0 }
+
+-- a session before its first command, with no breakpoints and no watches, by where its machine stands
+abbrev pub stand_at : Position → Stand
+stand_at position = record { machine = position; stops = []; made = 0 }
+
 abbrev pub first_stand : Program → List FirstValue → ℕ → Option ℕ → Stand
-first_stand p settings steps history = record {
-  machine = record { program = p; settings = settings; steps = steps; history = history; point = 0; sets = []; oldest = 0 };
-  stops = [];
-  made = 0;
-}
+first_stand p settings steps history = stand_at (first_position p settings steps history)
 
--- the report of a session, by how its dialog was over
-abbrev pub report_over : Over → Report
-report_over Ended = record { status = 0; cause = cause.Ended; line = 0; point = 0 }
-report_over Unread = stopped_by (cause.Faulted fault.ReadFailed) 0
-report_over Unwritten = stopped_by (cause.Faulted fault.WriteFailed) 0
-report_over NoMemory = stopped_by (cause.Faulted fault.OutOfMemory) 0
-
--- what a report tells of a session, with what the sink took
+-- what a report says of a session, with what the sink took
 pub data Debugs {S C V : Type 0} (may_give : S → Input → Type 0) (may_ask : C → Input → Type 0) (may_hold : V → Bytes → Type 0) (text : Bytes) (settings : List FirstValue) (source : S) (commands : C) (steps : ℕ) (history : Option ℕ) (sink now : V) : Report → Type 0 where
   -- The text was refused, and nothing was written. A text that has a tree by the grammar, within the limits, is refused for want of memory alone.
-  text_refused : (refusal : Refusal) → ((items : List Item) → length text ≤ 1048576 → IsText text items → refusal.kind ≡ OutOfMemory) → now ≡ sink
-      → Debugs may_give may_ask may_hold text settings source commands steps history sink now (refused_by refusal)
+  text_refused : (refusal : Refusal) → IsRefusedText text refusal → now ≡ sink → Debugs may_give may_ask may_hold text settings source commands steps history sink now (refused_by refusal)
   -- a first value can't be assigned: nothing was written
   settings_refused : (p : Program) → IsProgram text p → settings_fit p settings ≡ false → now ≡ sink
       → Debugs may_give may_ask may_hold text settings source commands steps history sink now (stopped_by cause.BadAssignment 0)

@@ -1,3 +1,6 @@
+pub mod Reports
+pub mod Preparing
 pub mod Runs
 pub mod Tells
+pub mod Dialogs
 pub mod Debugs

@@ -1,18 +1,19 @@
 -- What a report says of a run.
-use Rattle.std.specs.Prelude.{◌≡◌, ℕ, zero, suc, ◌<◌, ◌≤◌, ◌++◌, List, [], length, Option, None, Some, slice_get}
+use Rattle.std.specs.Prelude.{◌≡◌, ℕ, zero, suc, ◌<◌, ◌≤◌, ◌++◌, List, [], length, take, Option, None, Some, slice_get}
 use Rattle.rawk_value.specs.Values.{Bytes}
 use Rattle.rawk_value.specs.declared.fault.Fault.TheVariants.{StepLimit, WriteFailed, OutOfMemory}
 use Rattle.rawk_syntax.specs.declared.tree.Program.{Program}
 use Rattle.rawk_code.specs.Actions.{Point, Ending, Ended, Faulted, Limited}
 use Rattle.rawk_code.specs.Laws.{IsBeginning}
-use Rattle.rawk_code.specs.Trace.{Trace, trace, out, number, status, line_of, line_at}
+use Rattle.rawk_code.specs.Trace.{FirstValue, Trace, trace, out, number, status, line_of, line_at}
 use Rattle.rawk_tape.specs.Records.{Input}
-use Rattle.rawk_machine.specs.Standing.{Standing, MayCome, given_of}
+use Rattle.rawk_machine.specs.Standing.{Standing, MayCome, IsAt, given_of}
 use Rattle.rawk_machine.specs.declared.step.Step.{Step}
 use Rattle.rawk_machine.specs.declared.step.Step.TheVariants as step
 use Rattle.rawk.specs.declared.report.Report.{Report}
 use Rattle.rawk.specs.declared.report.Cause.{Cause}
 use Rattle.rawk.specs.declared.report.Cause.TheVariants as cause
+use Rattle.rawk.specs.Reports.{stopped_by}
 
 -- the limit is a fault of its own
 abbrev pub cause_of : Ending → Cause
@@ -24,15 +25,11 @@ cause_of (Limited site) = cause.Faulted StepLimit
 abbrev pub report_of : Program → Trace → Report
 report_of p t = record { status = status t; cause = cause_of t.ending; line = line_of p t; point = number t }
 
--- the report where something outside the program stopped it at a point, or where nothing ran
-abbrev pub stopped_by : Cause → ℕ → Report
-stopped_by cause point = record { status = 2; cause = cause; line = 0; point = point }
-
--- what is told where a machine answers this step at a site: nothing where it goes on
-abbrev pub told_of : List ℕ → Step → Option ℕ → ℕ → Option Report
-told_of lines step.At site point = None
-told_of lines (step.Ended status) site point = Some (record { status = status; cause = cause.Ended; line = line_at lines site; point = point })
-told_of lines (step.Faulted fault) site point = Some (record { status = 2; cause = cause.Faulted fault; line = line_at lines site; point = point })
+-- what is reported where a machine answers this step at a site: nothing where it goes on
+abbrev pub step_report : List ℕ → Step → Option ℕ → ℕ → Option Report
+step_report lines step.At site point = None
+step_report lines (step.Ended status) site point = Some (record { status = status; cause = cause.Ended; line = line_at lines site; point = point })
+step_report lines (step.Faulted fault) site point = Some (record { status = 2; cause = cause.Faulted fault; line = line_at lines site; point = point })
 
 -- the report of a run that was refused memory behind a point with this site
 abbrev pub refused_behind : Program → ℕ → Option ℕ → Report
@@ -52,7 +49,7 @@ abbrev pub output_before : Trace → ℕ → Bytes
 output_before t zero = []
 output_before t (suc k) = output_at t k
 
--- a run of this trace, of which the sink took these bytes and of which this is told
+-- a run of this trace, of which the sink took these bytes and of which this is reported
 pub data IsRunOf (p : Program) (t : Trace) : Report → Bytes → Type 0 where
   -- nothing disturbed it: all of its output was taken
   whole : IsRunOf p t (report_of p t) (out t)
@@ -67,12 +64,37 @@ pub data IsRunOf (p : Program) (t : Trace) : Report → Bytes → Type 0 where
 abbrev pub trace_of : {S : Type 0} → Program → Standing S → Input → Trace
 trace_of p machine input = trace p machine.settings (given_of machine input)
 
--- a report, and what a sink took, are those of a run of this program on an input that might have come
-abbrev pub Runs : {S V : Type 0} → (S → Input → Type 0) → (V → Bytes → Type 0) → Program → Standing S → V → V → Report → Type 0
-Runs may_give may_hold p start sink now report =
-    (input : Input) × MayCome may_give start [] input × ((held : Bytes) → may_hold sink held → (taken : Bytes) × may_hold now (held ++ taken) × IsRunOf p (trace_of p start input) report taken)
+-- a report, and what a sink took, are those of a run of this program from where a machine stands, on an input that might have come
+pub record Runs {S V : Type 0} (may_give : S → Input → Type 0) (may_hold : V → Bytes → Type 0) (p : Program) (start : Standing S) (sink now : V) (report : Report) : Type 0 where
+  pub input : Input
+  pub may : MayCome may_give start [] input
+  pub taken : (held : Bytes) → may_hold sink held → (taken : Bytes) × may_hold now (held ++ taken) × IsRunOf p (trace_of p start input) report taken
 
--- how many failures of the sink a cause tells
-abbrev pub write_failures : Cause → ℕ
-write_failures (cause.Faulted WriteFailed) = 1
-write_failures _ = 0
+-- the same with these first values and at most so many steps, on an input that might be
+pub record IsRun {V : Type 0} (may_be : Input → Type 0) (may_hold : V → Bytes → Type 0) (p : Program) (settings : List FirstValue) (steps : ℕ) (sink now : V) (report : Report) : Type 0 where
+  pub input : Input
+  pub may : may_be input
+  pub taken : (held : Bytes) → may_hold sink held → (taken : Bytes) × may_hold now (held ++ taken) × IsRunOf p (trace p settings (record { input = input; sets = []; steps = steps })) report taken
+
+-- a machine runs the same code, with the same first values, sets and limit
+pub record SameRun {S : Type 0} (old new : Standing S) : Type 0 where
+  pub code : new.code ≡ old.code
+  pub settings : new.settings ≡ old.settings
+  pub sets : new.sets ≡ old.sets
+  pub steps : new.steps ≡ old.steps
+
+-- a machine gave its output, which the sink took, and let go what it needs no more of the input
+pub record HandsOn {S V : Type 0} (may_give : S → Input → Type 0) (may_hold : V → Bytes → Type 0) (old : Standing S) (sink : V) (new : Standing S) (now : V) : Type 0 where
+  pub same : SameRun old new
+  pub point : new.point ≡ old.point
+  pub unset : new.unset ≡ old.unset
+  pub none : new.state.output ≡ []
+  pub dropped : Bytes
+  pub back : (gone : Bytes) (input : Input) → MayCome may_give new (gone ++ dropped) input → MayCome may_give old gone input
+  pub forth : (gone : Bytes) (input : Input) → MayCome may_give old gone input → MayCome may_give new (gone ++ dropped) input
+  pub stands : (input : Input) (gone handed : Bytes) → IsAt old input gone handed → IsAt new input (gone ++ dropped) (handed ++ old.state.output)
+  pub wrote : (held : Bytes) → may_hold sink held → may_hold now (held ++ old.state.output)
+
+-- the sink failed and took less than all of a text
+abbrev pub IsCut : {V : Type 0} → (V → Bytes → Type 0) → Bytes → V → V → Type 0
+IsCut may_hold text sink now = (held : Bytes) → may_hold sink held → (size : ℕ) × (size < length text) × may_hold now (held ++ take size text)

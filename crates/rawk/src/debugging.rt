@@ -1,24 +1,24 @@
 //! Sessions, answered as they go.
-ghost use Rattle.std.specs.Prelude.{◌≡◌, ◌≤◌, ◌<◌, ◌++◌, [], true, List, ℕ, None, Some, IfOk, OnErr};
-ghost use Rattle.std.specs.Option.{ForSome};
+
+ghost use Rattle.std.specs.Prelude.{◌≡◌, ◌≤◌, [], true, ℕ, None, IfOk, OnErr};
 ghost use Rattle.rawk_tape.specs.Inputs.{CountsUp, cut_off, left_from};
 ghost use Rattle.rawk_tape.specs.Records.{Input};
 ghost use Rattle.rawk_store.specs.Keeping.{keeps_any};
 ghost use Rattle.rawk_code.specs.Correct.{CodeOf};
-ghost use Rattle.rawk_debug.specs.Moves.{Stand};
-ghost use Rattle.rawk_dialog.specs.Dialogs.{IsDialog};
-ghost use Rattle.rawk.specs.Runs.{write_failures};
-ghost use Rattle.rawk.specs.Debugs.{Debugs, asks_all, first_stand, report_over};
+ghost use Rattle.rawk_machine.specs.Standing.{MayCome};
+ghost use Rattle.rawk_inferior.specs.Staged.{position_of};
+ghost use Rattle.rawk.specs.Reports.{write_failures};
+ghost use Rattle.rawk.specs.Dialogs.{IsHeld, report_over};
+ghost use Rattle.rawk.specs.Debugs.{Debugs, IsHistory, asks_all, first_position, first_stand, stand_at};
 
-use crate::report::{Cause, Report};
-use crate::running::{settings_refused, stopped, text_refused};
-use rawk_code::{Code, Settings, compile, fits};
+use crate::dialog::{Over, hold};
+use crate::preparing::{Prepared, prepare};
+use crate::report::{Cause, Report, stopped};
+use rawk_code::Settings;
 use rawk_debug::{Session, Stepper};
-use rawk_dialog::{Over, hold};
+use rawk_inferior::Stage;
 use rawk_machine::{Full, Keeper, Machine};
-use rawk_ring::Ring;
-use rawk_stage::Stage;
-use rawk_syntax::{Program, parse};
+use rawk_store::Ring;
 use rawk_tape::{BytesSource, Sink, Source, Tape};
 use rawk_value::Fault;
 use std::alloc::{AllocError, Global};
@@ -34,60 +34,91 @@ fn report_of(over: Over) -> Report
             line: 0,
             point: 0,
         },
-        Over::Unread => stopped(Fault::ReadFailed, 0),
-        Over::Unwritten => stopped(Fault::WriteFailed, 0),
-        Over::NoMemory => stopped(Fault::OutOfMemory, 0),
+        Over::Unread => stopped(Cause::Faulted(Fault::ReadFailed), 0),
+        Over::Unwritten => stopped(Cause::Faulted(Fault::WriteFailed), 0),
+        Over::NoMemory => stopped(Cause::Faulted(Fault::OutOfMemory), 0),
     }
 }
 
-/// Holds a session over a program's code, under a keeper that keeps. It fails where memory is refused before the session stands.
+/// Holds a session on a machine, from where it stands, with commands from a source.
+fn session_on<M: Stepper, C: Source + Drop, W: Sink>(
+    alloc: Global,
+    machine: M,
+    commands: C,
+    sink: &mut W,
+) -> Over
+    requires unread { C.over commands ≡ None }
+    ensures held { IsHeld (M.may_be machine) (C.may_give commands) W.may_hold (stand_at (M.position machine)) sink.old sink.new result }
+    ensures failures { CountsUp (W.failures sink.old) (W.failures sink.new) (write_failures (report_over result).cause) }
+{
+    let mut session = Session::new(alloc, machine);
+    let mut commands = Tape::new(alloc, commands);
+    let over = hold(alloc, &mut session, &mut commands, sink);
+    session.machine().known();
+    over
+}
+
+/// The machine of a program, with the program, before its first step. It fails where memory is refused.
+fn stage_of<R: Source + Drop, K: Keeper>(
+    alloc: Global,
+    settings: &Settings,
+    prepared: Prepared,
+    source: R,
+    keeper: K,
+    steps: u64,
+) -> Result<Stage<R, K>, AllocError>
+    requires compiled { CodeOf prepared.program prepared.code }
+    requires open { R.over source ≡ None }
+    requires empty { K.kept keeper ≡ [] }
+    requires keeps { keeps_any (K.limit keeper) ≡ true }
+    ensures position { IfOk result (λ s. position_of s.program s.machine ≡ first_position prepared.program settings.now steps (K.limit keeper)) }
+    ensures may { IfOk result (λ s. (input : Input) → MayCome R.may_give s.machine [] input → R.may_give source input) }
+{
+    let Prepared { program, code } = prepared;
+    let machine = Machine::new(alloc, code, settings, source, keeper, steps)?;
+    Ok(Stage::new(program, machine))
+}
+
+/// Holds a session over a program that is ready to run, under a keeper that keeps. It fails where memory is refused before the session stands.
 fn session_over<R: Source + Drop, K: Keeper, C: Source + Drop, W: Sink>(
     alloc: Global,
-    tree: Program,
-    code: Code,
     settings: &Settings,
+    prepared: Prepared,
     source: R,
     keeper: K,
     commands: C,
     sink: &mut W,
     steps: u64,
 ) -> Result<Over, AllocError>
-    requires compiled { CodeOf tree code }
+    requires compiled { CodeOf prepared.program prepared.code }
     requires open { R.over source ≡ None }
     requires unread { C.over commands ≡ None }
     requires empty { K.kept keeper ≡ [] }
     requires keeps { keeps_any (K.limit keeper) ≡ true }
-    ensures held { IfOk result (λ over. (input asked : Input) × (last : Stand) × R.may_give source input × C.may_give commands asked
-        × ((held : List ℕ) → W.may_hold sink.old held → (taken : List ℕ) × W.may_hold sink.new (held ++ taken) × IsDialog input asked (first_stand tree settings.now steps (K.limit keeper)) last over taken)) }
+    ensures held { IfOk result (IsHeld (R.may_give source) (C.may_give commands) W.may_hold (first_stand prepared.program settings.now steps (K.limit keeper)) sink.old sink.new) }
     ensures failures { IfOk result (λ over. CountsUp (W.failures sink.old) (W.failures sink.new) (write_failures (report_over over).cause)) }
     ensures err { OnErr result (sink.new ≡ sink.old) }
 {
-    let machine = Machine::new(alloc, code, settings, source, keeper, steps)?;
-    let mut session = Session::new(alloc, Stage::new(tree, machine));
-    let mut commands = Tape::new(alloc, commands);
-    let over = hold(alloc, &mut session, &mut commands, sink);
-    session.machine().known();
-    Ok(over)
+    let stage = stage_of(alloc, settings, prepared, source, keeper, steps)?;
+    Ok(session_on(alloc, stage, commands, sink))
 }
 
-/// Holds a session over a program's code that keeps so many steps, or all. It fails where memory is refused before the session stands.
+/// Holds a session over a program that is ready to run, and keeps so many steps, or all. It fails where memory is refused before the session stands.
 fn session_kept<R: Source + Drop, C: Source + Drop, W: Sink>(
     alloc: Global,
-    tree: Program,
-    code: Code,
     settings: &Settings,
+    prepared: Prepared,
     source: R,
-    history: Option<u64>,
     commands: C,
     sink: &mut W,
     steps: u64,
+    history: Option<u64>,
 ) -> Result<Over, AllocError>
-    requires compiled { CodeOf tree code }
-    requires history { ForSome history (λ h. (1 ≤ h) × (h ≤ 1000000)) }
+    requires compiled { CodeOf prepared.program prepared.code }
+    requires history { IsHistory history }
     requires open { R.over source ≡ None }
     requires unread { C.over commands ≡ None }
-    ensures held { IfOk result (λ over. (input asked : Input) × (last : Stand) × R.may_give source input × C.may_give commands asked
-        × ((held : List ℕ) → W.may_hold sink.old held → (taken : List ℕ) × W.may_hold sink.new (held ++ taken) × IsDialog input asked (first_stand tree settings.now steps history) last over taken)) }
+    ensures held { IfOk result (IsHeld (R.may_give source) (C.may_give commands) W.may_hold (first_stand prepared.program settings.now steps history) sink.old sink.new) }
     ensures failures { IfOk result (λ over. CountsUp (W.failures sink.old) (W.failures sink.new) (write_failures (report_over over).cause)) }
     ensures err { OnErr result (sink.new ≡ sink.old) }
 {
@@ -95,13 +126,13 @@ fn session_kept<R: Source + Drop, C: Source + Drop, W: Sink>(
         None => {
             let keeper = Full::new(alloc);
             session_over(
-                alloc, tree, code, settings, source, keeper, commands, sink, steps,
+                alloc, settings, prepared, source, keeper, commands, sink, steps,
             )
         }
         Some(count) => {
             let ring = Ring::new(alloc, count as usize)?;
             session_over(
-                alloc, tree, code, settings, source, ring, commands, sink, steps,
+                alloc, settings, prepared, source, ring, commands, sink, steps,
             )
         }
     }
@@ -124,28 +155,21 @@ pub fn debug_from<R: Source + Drop, C: Source + Drop, W: Sink>(
     history: Option<u64>,
 ) -> Report
     requires limit { steps ≤ 9223372036854775807 }
-    requires history { ForSome history (λ h. (1 ≤ h) × (h ≤ 1000000)) }
+    requires history { IsHistory history }
     requires open { R.over source ≡ None }
     requires unread { C.over commands ≡ None }
-    ensures told { Debugs R.may_give C.may_give W.may_hold program.now settings.now source commands steps history sink.old sink.new result }
+    ensures reported { Debugs R.may_give C.may_give W.may_hold program.now settings.now source commands steps history sink.old sink.new result }
     ensures failures { CountsUp (W.failures sink.old) (W.failures sink.new) (write_failures result.cause) }
 {
-    let tree = match parse(alloc, program) {
-        Ok(tree) => tree,
-        Err(refusal) => return text_refused(refusal),
-    };
-    if !fits(&tree, settings) {
-        return settings_refused();
-    }
-    let code = match compile(alloc, &tree) {
-        Ok(code) => code,
-        Err(_) => return stopped(Fault::OutOfMemory, 0),
+    let prepared = match prepare(alloc, settings, program) {
+        Ok(prepared) => prepared,
+        Err(report) => return report,
     };
     match session_kept(
-        alloc, tree, code, settings, source, history, commands, sink, steps,
+        alloc, settings, prepared, source, commands, sink, steps, history,
     ) {
         Ok(over) => report_of(over),
-        Err(_) => stopped(Fault::OutOfMemory, 0),
+        Err(_) => stopped(Cause::Faulted(Fault::OutOfMemory), 0),
     }
 }
 
@@ -170,16 +194,16 @@ pub fn debug_with<R: Source + Drop, W: Sink>(
     history: Option<u64>,
 ) -> Report
     requires limit { steps ≤ 9223372036854775807 }
-    requires history { ForSome history (λ h. (1 ≤ h) × (h ≤ 1000000)) }
+    requires history { IsHistory history }
     requires open { R.over source ≡ None }
-    ensures told { Debugs R.may_give asks_all W.may_hold program.now settings.now source commands.now steps history sink.old sink.new result }
+    ensures reported { Debugs R.may_give asks_all W.may_hold program.now settings.now source commands.now steps history sink.old sink.new result }
     ensures failures { CountsUp (W.failures sink.old) (W.failures sink.new) (write_failures result.cause) }
 {
     match source_of(alloc, commands) {
         Ok(lines) => debug_from(
             alloc, settings, program, source, lines, sink, steps, history,
         ),
-        Err(_) => stopped(Fault::OutOfMemory, 0),
+        Err(_) => stopped(Cause::Faulted(Fault::OutOfMemory), 0),
     }
 }
 
@@ -195,7 +219,7 @@ pub fn debug<R: Source + Drop, W: Sink>(
 ) -> Report
     requires limit { steps ≤ 9223372036854775807 }
     requires open { R.over source ≡ None }
-    ensures told { Debugs R.may_give asks_all W.may_hold program.now settings.now source commands.now steps None sink.old sink.new result }
+    ensures reported { Debugs R.may_give asks_all W.may_hold program.now settings.now source commands.now steps None sink.old sink.new result }
     ensures failures { CountsUp (W.failures sink.old) (W.failures sink.new) (write_failures result.cause) }
 {
     debug_with(

@@ -22,8 +22,8 @@ use Rattle.rawk_value.specs.declared.value.Value.TheVariants.{Uninitialized}
 use Rattle.rawk_arrays.specs.Elements.{Elements, map_keys, no_elements}
 use Rattle.rawk_value.specs.Values.{Bytes}
 use Rattle.rawk_value.specs.declared.value.Value.{Value}
-use Rattle.rawk_names.specs.Name.{Name, named, IsLastOf}
-use Rattle.rawk_names.specs.Found.{left}
+use Rattle.rawk_keys.specs.ArrayKey.{ArrayKey, array_key, IsLastOf}
+use Rattle.rawk_keys.specs.Found.{left}
 use Rattle.rawk_arrays.specs.Place.{same_key, place}
 use Rattle.rawk_arrays.specs.Laid.{AreDistinct, elements_of, slot}
 use Rattle.rawk_arrays.specs.Walks.{IsWalking, IsFinding, IsCounting, IsEach, is_seen, one, times, texts}
@@ -44,8 +44,8 @@ not_before p from le = go (nat_lt p from) refl
     go false e = e
 
 -- past the last slot nothing is filled
-past_slot : (names : List Name) (slots : List (Option Value)) (p : ℕ) → length slots ≤ length names → length names ≤ p → slot slots p ≡ None
-past_slot names slots p le ge = get_or_past slots p None (omega (arith, le, ge))
+past_slot : (index : List ArrayKey) (slots : List (Option Value)) (p : ℕ) → length slots ≤ length index → length index ≤ p → slot slots p ≡ None
+past_slot index slots p le ge = get_or_past slots p None (omega (arith, le, ge))
 
 unseen : (from p : ℕ) (s : Option Value) → s ≡ None → is_seen from p s ≡ false
 unseen from p s e = ap (is_seen from p) e ∙ go (nat_lt p from)
@@ -61,24 +61,24 @@ seen_before : (from p : ℕ) (s : Option Value) → p < from → is_seen from p 
 seen_before from p s lt = ap (λ (b : Bool). cond b false (is_some s)) (before p from lt)
 
 -- the name of a key of the array does not stand between where a walk stands and where it goes on
-between : (a : ℕ) (q : Bytes) (names : List Name) (n : ℕ) (at : Option ℕ) → n ≤ length names → IsLastOf a names n at → left at ≤ place a q names → n ≤ place a q names
-between a q names n None le h ge = elim (cases_lt (place a q names) n) [
-  | inl lt ↦ absurd (h (place a q names) (named a q) lt (place_there a q names (omega (arith, lt, le))) refl)
+between : (a : ℕ) (q : Bytes) (index : List ArrayKey) (n : ℕ) (at : Option ℕ) → n ≤ length index → IsLastOf a index n at → left at ≤ place a q index → n ≤ place a q index
+between a q index n None le h ge = elim (cases_lt (place a q index) n) [
+  | inl lt ↦ absurd (h (place a q index) (array_key a q) lt (place_there a q index (omega (arith, lt, le))) refl)
   | inr ok ↦ ok
 ]
-between a q names n (Some k) le h ge = elim (cases_lt (place a q names) n) [
-  | inl lt ↦ absurd (h.2 (place a q names) (named a q) (omega (arith, ge)) lt (place_there a q names (omega (arith, lt, le))) refl)
+between a q index n (Some k) le h ge = elim (cases_lt (place a q index) n) [
+  | inl lt ↦ absurd (h.2 (place a q index) (array_key a q) (omega (arith, ge)) lt (place_there a q index (omega (arith, lt, le))) refl)
   | inr ok ↦ ok
 ]
 
 -- the walk begins with nothing found
-pub finding_begins : (a : ℕ) (names : List Name) (slots : List (Option Value)) (at : Option ℕ) → length slots ≤ length names → IsLastOf a names (length names) at → IsFinding a names slots at []
-finding_begins a names slots at le last = record {
-  each = λ q. sym (ap one (elim (cases_lt (place a q names) (left at)) [
-    | inl lt ↦ seen_before (left at) (place a q names) (slot slots (place a q names)) lt
-    | inr ge ↦ unseen (left at) (place a q names) (slot slots (place a q names)) (past_slot names slots (place a q names) le (between a q names (length names) at (omega arith) last ge))
+pub finding_begins : (a : ℕ) (index : List ArrayKey) (slots : List (Option Value)) (at : Option ℕ) → length slots ≤ length index → IsLastOf a index (length index) at → IsFinding a index slots at []
+finding_begins a index slots at le last = record {
+  each = λ q. sym (ap one (elim (cases_lt (place a q index) (left at)) [
+    | inl lt ↦ seen_before (left at) (place a q index) (slot slots (place a q index)) lt
+    | inr ge ↦ unseen (left at) (place a q index) (slot slots (place a q index)) (past_slot index slots (place a q index) le (between a q index (length index) at (omega arith) last ge))
   ]));
-  room = let k : left at ≤ length names = last_left a names (length names) at last in omega arith;
+  room = let k : left at ≤ length index = last_left a index (length index) at last in omega arith;
 }
 
 -- the key of a slot, if it is filled
@@ -100,72 +100,72 @@ fewer_keys s key keys = go (is_some s)
     go false = omega (arith, length-append {A = Bytes} keys [])
 
 -- one turn of the walk, at the key q
-turn : (a i : ℕ) (q key : Bytes) (names : List Name) (slots : List (Option Value)) (at : Option ℕ) → AreDistinct names → slice_get names i ≡ Some (named a key) → i < length names → IsLastOf a names i at →
-    one (is_seen (i + 1) (place a q names) (slot slots (place a q names))) + one (cond (is_some (slot slots i)) (same_key q key) false) ≡ one (is_seen (left at) (place a q names) (slot slots (place a q names)))
-turn a i q key names slots at d is within last = go (same_key q key) refl
+turn : (a i : ℕ) (q key : Bytes) (index : List ArrayKey) (slots : List (Option Value)) (at : Option ℕ) → AreDistinct index → slice_get index i ≡ Some (array_key a key) → i < length index → IsLastOf a index i at →
+    one (is_seen (i + 1) (place a q index) (slot slots (place a q index))) + one (cond (is_some (slot slots i)) (same_key q key) false) ≡ one (is_seen (left at) (place a q index) (slot slots (place a q index)))
+turn a i q key index slots at d is within last = go (same_key q key) refl
   where
     p : ℕ
-    p = place a q names
+    p = place a q index
 
-    go : (b : Bool) → same_key q key ≡ b → one (is_seen (i + 1) (place a q names) (slot slots (place a q names))) + one (cond (is_some (slot slots i)) (same_key q key) false) ≡ one (is_seen (left at) (place a q names) (slot slots (place a q names)))
+    go : (b : Bool) → same_key q key ≡ b → one (is_seen (i + 1) (place a q index) (slot slots (place a q index))) + one (cond (is_some (slot slots i)) (same_key q key) false) ≡ one (is_seen (left at) (place a q index) (slot slots (place a q index)))
     go true e =
-        let here : place a q names ≡ i = ap (λ (k : Bytes). place a k names) (key_is q key e) ∙ place_is a key names i d is in
-        let k : left at ≤ i = last_left a names i at last in
-        let old : is_seen (i + 1) (place a q names) (slot slots (place a q names)) ≡ false = seen_before (i + 1) (place a q names) (slot slots (place a q names)) (omega arith) in
-        let new : is_seen (left at) (place a q names) (slot slots (place a q names)) ≡ is_some (slot slots i) = seen_past (left at) (place a q names) (slot slots (place a q names)) (omega arith) ∙ ap (λ n. is_some (slot slots n)) here in
+        let here : place a q index ≡ i = ap (λ (k : Bytes). place a k index) (key_is q key e) ∙ place_is a key index i d is in
+        let k : left at ≤ i = last_left a index i at last in
+        let old : is_seen (i + 1) (place a q index) (slot slots (place a q index)) ≡ false = seen_before (i + 1) (place a q index) (slot slots (place a q index)) (omega arith) in
+        let new : is_seen (left at) (place a q index) (slot slots (place a q index)) ≡ is_some (slot slots i) = seen_past (left at) (place a q index) (slot slots (place a q index)) (omega arith) ∙ ap (λ n. is_some (slot slots n)) here in
         rw (old, new, e) (here_one (is_some (slot slots i)))
       where
         here_one : (b : Bool) → one false + one (cond b true false) ≡ one b
         here_one true = refl
         here_one false = refl
     go false e =
-        let apart : place a q names ≢ i = λ at_i.
-        let same : q ≡ key = ap (λ (n : Name). n.key) (same_Some (named a q) (named a key) (sym (ap (slice_get names) (sym at_i) ∙ place_there a q names (omega (arith, at_i, within))) ∙ is)) in
+        let apart : place a q index ≢ i = λ at_i.
+        let same : q ≡ key = ap (λ (n : ArrayKey). n.key) (same_Some (array_key a q) (array_key a key) (sym (ap (slice_get index) (sym at_i) ∙ place_there a q index (omega (arith, at_i, within))) ∙ is)) in
         false≢true (sym e ∙ (ap (same_key q) (sym same) ∙ key_itself q)) in
-        let k : left at ≤ i = last_left a names i at last in
-        let same : is_seen (i + 1) (place a q names) (slot slots (place a q names)) ≡ is_seen (left at) (place a q names) (slot slots (place a q names)) = elim (cases_lt (place a q names) (left at)) [
-          | inl lt ↦ seen_before (i + 1) (place a q names) (slot slots (place a q names)) (omega (arith, lt, k)) ∙ sym (seen_before (left at) (place a q names) (slot slots (place a q names)) lt)
+        let k : left at ≤ i = last_left a index i at last in
+        let same : is_seen (i + 1) (place a q index) (slot slots (place a q index)) ≡ is_seen (left at) (place a q index) (slot slots (place a q index)) = elim (cases_lt (place a q index) (left at)) [
+          | inl lt ↦ seen_before (i + 1) (place a q index) (slot slots (place a q index)) (omega (arith, lt, k)) ∙ sym (seen_before (left at) (place a q index) (slot slots (place a q index)) lt)
           | inr ge ↦
-              let past : i ≤ place a q names = between a q names i at (omega arith) last ge in
-              seen_past (i + 1) (place a q names) (slot slots (place a q names)) (omega (arith, past, apart)) ∙ sym (seen_past (left at) (place a q names) (slot slots (place a q names)) ge)
+              let past : i ≤ place a q index = between a q index i at (omega arith) last ge in
+              seen_past (i + 1) (place a q index) (slot slots (place a q index)) (omega (arith, past, apart)) ∙ sym (seen_past (left at) (place a q index) (slot slots (place a q index)) ge)
         ] in
-        rw (same, e) (none_more (is_some (slot slots i)) (one (is_seen (left at) (place a q names) (slot slots (place a q names)))))
+        rw (same, e) (none_more (is_some (slot slots i)) (one (is_seen (left at) (place a q index) (slot slots (place a q index)))))
       where
         none_more : (b : Bool) (n : ℕ) → n + one (cond b false false) ≡ n
         none_more true n = omega arith
         none_more false n = omega arith
 
-pub finding_next : (a i : ℕ) (names : List Name) (slots : List (Option Value)) (here at : Option ℕ) (keys more : List Bytes) → AreDistinct names → here ≡ Some i → IsWalking a names here → IsFinding a names slots here keys →
-    ((name : Name) → slice_get names i ≡ Some name → more ≡ keys ++ filled_key (slot slots i) name.key) → IsLastOf a names i at → IsFinding a names slots at more
-finding_next a i names slots here at keys more d e w f is last =
-    let n = walk_name a names i here e w in
-    let there : slice_get names i ≡ Some (named a n.0.key) = n.1 ∙ ap (λ x. Some (named x n.0.key)) n.2 in
-    let t : IsFinding a names slots (Some i) keys = rw e at f in
-    let lt : i < length names = walk_in a names i here e w in
+pub finding_next : (a i : ℕ) (index : List ArrayKey) (slots : List (Option Value)) (here at : Option ℕ) (keys more : List Bytes) → AreDistinct index → here ≡ Some i → IsWalking a index here → IsFinding a index slots here keys →
+    ((name : ArrayKey) → slice_get index i ≡ Some name → more ≡ keys ++ filled_key (slot slots i) name.key) → IsLastOf a index i at → IsFinding a index slots at more
+finding_next a i index slots here at keys more d e w f is last =
+    let n = walk_name a index i here e w in
+    let there : slice_get index i ≡ Some (array_key a n.0.key) = n.1 ∙ ap (λ x. Some (array_key x n.0.key)) n.2 in
+    let t : IsFinding a index slots (Some i) keys = rw e at f in
+    let lt : i < length index = walk_in a index i here e w in
     record {
-      each = λ q. ap (times q) (is n.0 n.1) ∙ (more_keys (slot slots i) n.0.key keys q ∙ (ap (λ x. x + one (cond (is_some (slot slots i)) (same_key q n.0.key) false)) (t.each q) ∙ turn a i q n.0.key names slots at d there lt last));
-      room = omega (arith, t.room, ap length (is n.0 n.1), fewer_keys (slot slots i) n.0.key keys, last_left a names i at last);
+      each = λ q. ap (times q) (is n.0 n.1) ∙ (more_keys (slot slots i) n.0.key keys q ∙ (ap (λ x. x + one (cond (is_some (slot slots i)) (same_key q n.0.key) false)) (t.each q) ∙ turn a i q n.0.key index slots at d there lt last));
+      room = omega (arith, t.room, ap length (is n.0 n.1), fewer_keys (slot slots i) n.0.key keys, last_left a index i at last);
     }
 
 -- the walk is over
-pub found_all : (a : ℕ) (names : List Name) (slots : List (Option Value)) (at : Option ℕ) (keys : List Bytes) → at ≡ None → length slots ≤ length names → IsFinding a names slots at keys → IsEach keys (elements_of a names slots)
-found_all a names slots at keys e le f = λ q.
-    let t : IsFinding a names slots None keys = rw e at f in
-    t.each q ∙ ap one (seen_past 0 (place a q names) (slot slots (place a q names)) (omega arith) ∙ ap is_some (sym (get_at a q names slots le)))
+pub found_all : (a : ℕ) (index : List ArrayKey) (slots : List (Option Value)) (at : Option ℕ) (keys : List Bytes) → at ≡ None → length slots ≤ length index → IsFinding a index slots at keys → IsEach keys (elements_of a index slots)
+found_all a index slots at keys e le f = λ q.
+    let t : IsFinding a index slots None keys = rw e at f in
+    t.each q ∙ ap one (seen_past 0 (place a q index) (slot slots (place a q index)) (omega arith) ∙ ap is_some (sym (get_at a q index slots le)))
 
 -- ---- how many keys there are
 
-pub counting_begins : (a : ℕ) (names : List Name) (slots : List (Option Value)) (at : Option ℕ) → length slots ≤ length names → IsLastOf a names (length names) at → IsCounting a names slots at 0
-counting_begins a names slots at le last = record { keys = []; many = refl; finding = finding_begins a names slots at le last }
+pub counting_begins : (a : ℕ) (index : List ArrayKey) (slots : List (Option Value)) (at : Option ℕ) → length slots ≤ length index → IsLastOf a index (length index) at → IsCounting a index slots at 0
+counting_begins a index slots at le last = record { keys = []; many = refl; finding = finding_begins a index slots at le last }
 
-pub counting_next : (a i : ℕ) (names : List Name) (slots : List (Option Value)) (here at : Option ℕ) (count more : ℕ) → AreDistinct names → here ≡ Some i → IsWalking a names here → IsCounting a names slots here count →
-    more ≡ count + one (is_some (slot slots i)) → IsLastOf a names i at → IsCounting a names slots at more
-counting_next a i names slots here at count more d e w f is last =
-    let n = walk_name a names i here e w in
+pub counting_next : (a i : ℕ) (index : List ArrayKey) (slots : List (Option Value)) (here at : Option ℕ) (count more : ℕ) → AreDistinct index → here ≡ Some i → IsWalking a index here → IsCounting a index slots here count →
+    more ≡ count + one (is_some (slot slots i)) → IsLastOf a index i at → IsCounting a index slots at more
+counting_next a i index slots here at count more d e w f is last =
+    let n = walk_name a index i here e w in
     record {
       keys = f.keys ++ filled_key (slot slots i) n.0.key;
       many = is ∙ (ap (λ x. x + one (is_some (slot slots i))) f.many ∙ sym (one_longer (slot slots i) n.0.key f.keys));
-      finding = finding_next a i names slots here at f.keys (f.keys ++ filled_key (slot slots i) n.0.key) d e w f.finding (λ name named_at. ap (λ (x : Name). f.keys ++ filled_key (slot slots i) x.key) (same_Some n.0 name (sym n.1 ∙ named_at))) last;
+      finding = finding_next a i index slots here at f.keys (f.keys ++ filled_key (slot slots i) n.0.key) d e w f.finding (λ name named_at. ap (λ (x : ArrayKey). f.keys ++ filled_key (slot slots i) x.key) (same_Some n.0 name (sym n.1 ∙ named_at))) last;
     }
   where
     one_longer : (s : Option Value) (key : Bytes) (keys : List Bytes) → length (keys ++ filled_key s key) ≡ length keys + one (is_some s)
@@ -175,9 +175,9 @@ counting_next a i names slots here at count more d e w f is last =
         go true = length-append keys (key ∷ [])
         go false = length-append {A = Bytes} keys []
 
-pub counting_fits : (a i : ℕ) (names : List Name) (slots : List (Option Value)) (here : Option ℕ) (count : ℕ) → here ≡ Some i → IsCounting a names slots here count → count + 1 ≤ length names
-counting_fits a i names slots here count e f =
-    let t : IsCounting a names slots (Some i) count = rw e at f in
+pub counting_fits : (a i : ℕ) (index : List ArrayKey) (slots : List (Option Value)) (here : Option ℕ) (count : ℕ) → here ≡ Some i → IsCounting a index slots here count → count + 1 ≤ length index
+counting_fits a i index slots here count e f =
+    let t : IsCounting a index slots (Some i) count = rw e at f in
     omega (arith, t.many, t.finding.room)
 
 -- ---- lists of an array's keys
@@ -298,8 +298,8 @@ keys_are m ks each up =
     let same : from_sorted (pairs m ks) ≡ m = same_map nat_list_cmp_total exact_bytes (from_sorted (pairs m ks)) m (λ q. get-from_sorted (slice_cmp nat_cmp) (pairs m ks) q sorted ∙ (find_pairs m q ks ∙ found_value m q (times q ks) (each q))) in
     sym (keys_of_pairs m ks) ∙ (ap (λ (es : List (Bytes × Value)). map (λ e. e.0) es) (sym (entries-from_sorted (slice_cmp nat_cmp) (pairs m ks) sorted)) ∙ ap map_keys same)
 
-pub counted_all : (a : ℕ) (names : List Name) (slots : List (Option Value)) (at : Option ℕ) (count : ℕ) → at ≡ None → length slots ≤ length names → IsCounting a names slots at count → count ≡ len (elements_of a names slots)
-counted_all a names slots at count e le f = f.many ∙ sym (len_of_keys (elements_of a names slots) f.keys (found_all a names slots at f.keys e le f.finding))
+pub counted_all : (a : ℕ) (index : List ArrayKey) (slots : List (Option Value)) (at : Option ℕ) (count : ℕ) → at ≡ None → length slots ≤ length index → IsCounting a index slots at count → count ≡ len (elements_of a index slots)
+counted_all a index slots at count e le f = f.many ∙ sym (len_of_keys (elements_of a index slots) f.keys (found_all a index slots at f.keys e le f.finding))
 
 times_texts : (q : Bytes) (vs : List (Vec ℕ)) → times q (texts vs) ≡ sum_by (λ (v : Vec ℕ). one (same_key q v.items)) vs
 times_texts q [] = refl

@@ -6,7 +6,7 @@ use Rattle.rawk_arrays.specs.Laid.{Laid}
 
 -- the arrays with each saved slot put back
 abbrev pub arrays_back : Laid → ArraysGroup → Laid
-arrays_back l group = record { names = l.names; slots = back l.slots group.slots.entries.items; live = group.live }
+arrays_back l group = record { index = l.index; slots = back l.slots group.slots.entries.items; live = group.live }
 
 -- each place of the group is a slot of the arrays
 abbrev pub FitsArrays : ArraysGroup → Laid → Type 0

@@ -14,7 +14,7 @@ use Rattle.std.specs.Cmp.Lexicographic.{slice_cmp, nat_list_cmp_total}
 use Rattle.rawk_value.specs.Values.{Bytes}
 use Rattle.rawk_value.specs.declared.value.Value.{Value}
 use Rattle.rawk_slots.specs.Journaled.{Journaled, Longer}
-use Rattle.rawk_names.specs.Name.{Name, named, IsAbsent}
+use Rattle.rawk_keys.specs.ArrayKey.{ArrayKey, array_key, IsAbsent}
 use Rattle.rawk_arrays.specs.Elements.{Elements, no_elements, put}
 use Rattle.rawk_arrays.specs.Place.{same_key, is_here, place}
 use Rattle.rawk_arrays.specs.Laid.{AreDistinct, AreLaid, IsLaid, IsCovered, IsSpread, IsPut, elements_of, slot}
@@ -32,11 +32,11 @@ get_of true m k s slots q p e = get-put m k s q ∙ slot_here (same_key q k) s s
 get_of false m k s slots q p e = e
 
 -- an element is what stands in the slot of its name
-pub get_at : (a : ℕ) (q : Bytes) (names : List Name) (slots : List (Option Value)) → length slots ≤ length names → get (elements_of a names slots) q ≡ slot slots (place a q names)
+pub get_at : (a : ℕ) (q : Bytes) (index : List ArrayKey) (slots : List (Option Value)) → length slots ≤ length index → get (elements_of a index slots) q ≡ slot slots (place a q index)
 get_at a q [] [] le = get-empty (slice_cmp nat_cmp) q
 get_at a q [] (s ∷ slots) le = absurd (omega (arith, le))
-get_at a q (name ∷ names) [] le = get-empty (slice_cmp nat_cmp) q
-get_at a q (name ∷ names) (s ∷ slots) le = get_of (name.array == a) (elements_of a names slots) name.key s slots q (place a q names) (get_at a q names slots (omega (arith, le)))
+get_at a q (name ∷ index) [] le = get-empty (slice_cmp nat_cmp) q
+get_at a q (name ∷ index) (s ∷ slots) le = get_of (name.array == a) (elements_of a index slots) name.key s slots q (place a q index) (get_at a q index slots (omega (arith, le)))
 
 pub key_is : (q k : Bytes) → same_key q k ≡ true → q ≡ k
 key_is q k e = tells_apart exact_bytes q k e
@@ -56,76 +56,76 @@ both_true : (b c : Bool) → b ≡ true → c ≡ true → b && c ≡ true
 both_true true c p q = q
 both_true false c p q = p
 
-here_is : (a : ℕ) (q : Bytes) (name : Name) → is_here a q name ≡ true → name ≡ named a q
+here_is : (a : ℕ) (q : Bytes) (name : ArrayKey) → is_here a q name ≡ true → name ≡ array_key a q
 here_is a q name e =
     let array : name.array ≡ a = (Decides-eqb name.array a).0 (first_true (name.array == a) (same_key q name.key) e) in
     let key : q ≡ name.key = key_is q name.key (second_true (name.array == a) (same_key q name.key) e) in
-    ap (λ n. named n name.key) array ∙ ap (λ (k : Bytes). named a k) (sym key)
+    ap (λ n. array_key n name.key) array ∙ ap (λ (k : Bytes). array_key a k) (sym key)
 
-here_itself : (a : ℕ) (q : Bytes) → is_here a q (named a q) ≡ true
+here_itself : (a : ℕ) (q : Bytes) → is_here a q (array_key a q) ≡ true
 here_itself a q = both_true (a == a) (same_key q q) ((Decides-eqb a a).1 refl) (key_itself q)
 
-finds_go : (a : ℕ) (q : Bytes) (name : Name) (names : List Name) (i : ℕ) (b : Bool) → is_here a q name ≡ b → slice_get (name ∷ names) i ≡ Some (named a q) → ((j : ℕ) → slice_get names j ≡ Some (named a q) → slice_get names (place a q names) ≡ Some (named a q)) →
-    slice_get (name ∷ names) (cond b 0 (suc (place a q names))) ≡ Some (named a q)
-finds_go a q name names i true e h rest = ap (λ (n : Name). Some n) (here_is a q name e)
-finds_go a q name names zero false e h rest = absurd (false≢true (sym e ∙ (ap (is_here a q) (same_Some name (named a q) h) ∙ here_itself a q)))
-finds_go a q name names (suc j) false e h rest = rest j h
+finds_go : (a : ℕ) (q : Bytes) (name : ArrayKey) (index : List ArrayKey) (i : ℕ) (b : Bool) → is_here a q name ≡ b → slice_get (name ∷ index) i ≡ Some (array_key a q) → ((j : ℕ) → slice_get index j ≡ Some (array_key a q) → slice_get index (place a q index) ≡ Some (array_key a q)) →
+    slice_get (name ∷ index) (cond b 0 (suc (place a q index))) ≡ Some (array_key a q)
+finds_go a q name index i true e h rest = ap (λ (n : ArrayKey). Some n) (here_is a q name e)
+finds_go a q name index zero false e h rest = absurd (false≢true (sym e ∙ (ap (is_here a q) (same_Some name (array_key a q) h) ∙ here_itself a q)))
+finds_go a q name index (suc j) false e h rest = rest j h
 
-place_finds : (a : ℕ) (q : Bytes) (names : List Name) (i : ℕ) → slice_get names i ≡ Some (named a q) → slice_get names (place a q names) ≡ Some (named a q)
-place_finds a q [] i h = absurd (none-some (named a q) h)
-place_finds a q (name ∷ names) i h = finds_go a q name names i (is_here a q name) refl h (λ j k. place_finds a q names j k)
+place_finds : (a : ℕ) (q : Bytes) (index : List ArrayKey) (i : ℕ) → slice_get index i ≡ Some (array_key a q) → slice_get index (place a q index) ≡ Some (array_key a q)
+place_finds a q [] i h = absurd (none-some (array_key a q) h)
+place_finds a q (name ∷ index) i h = finds_go a q name index i (is_here a q name) refl h (λ j k. place_finds a q index j k)
 
-pub place_is : (a : ℕ) (q : Bytes) (names : List Name) (i : ℕ) → AreDistinct names → slice_get names i ≡ Some (named a q) → place a q names ≡ i
-place_is a q names i d h = d (place a q names) i (named a q) (place_finds a q names i h) h
+pub place_is : (a : ℕ) (q : Bytes) (index : List ArrayKey) (i : ℕ) → AreDistinct index → slice_get index i ≡ Some (array_key a q) → place a q index ≡ i
+place_is a q index i d h = d (place a q index) i (array_key a q) (place_finds a q index i h) h
 
-there_go : (a : ℕ) (q : Bytes) (name : Name) (names : List Name) (b : Bool) → is_here a q name ≡ b → cond b 0 (suc (place a q names)) < suc (length names) → (place a q names < length names → slice_get names (place a q names) ≡ Some (named a q)) →
-    slice_get (name ∷ names) (cond b 0 (suc (place a q names))) ≡ Some (named a q)
-there_go a q name names true e lt rest = ap (λ (n : Name). Some n) (here_is a q name e)
-there_go a q name names false e lt rest = rest (omega (arith, lt))
+there_go : (a : ℕ) (q : Bytes) (name : ArrayKey) (index : List ArrayKey) (b : Bool) → is_here a q name ≡ b → cond b 0 (suc (place a q index)) < suc (length index) → (place a q index < length index → slice_get index (place a q index) ≡ Some (array_key a q)) →
+    slice_get (name ∷ index) (cond b 0 (suc (place a q index))) ≡ Some (array_key a q)
+there_go a q name index true e lt rest = ap (λ (n : ArrayKey). Some n) (here_is a q name e)
+there_go a q name index false e lt rest = rest (omega (arith, lt))
 
-pub place_there : (a : ℕ) (q : Bytes) (names : List Name) → place a q names < length names → slice_get names (place a q names) ≡ Some (named a q)
+pub place_there : (a : ℕ) (q : Bytes) (index : List ArrayKey) → place a q index < length index → slice_get index (place a q index) ≡ Some (array_key a q)
 place_there a q [] lt = absurd (omega (arith, lt))
-place_there a q (name ∷ names) lt = there_go a q name names (is_here a q name) refl lt (λ l. place_there a q names l)
+place_there a q (name ∷ index) lt = there_go a q name index (is_here a q name) refl lt (λ l. place_there a q index l)
 
 more_go : (b : Bool) (p p2 n : ℕ) → (p < n → p2 ≡ p) → (n ≤ p → n ≤ p2) → (cond b 0 (suc p) < suc n → cond b 0 (suc p2) ≡ cond b 0 (suc p)) × (suc n ≤ cond b 0 (suc p) → suc n ≤ cond b 0 (suc p2))
 more_go true p p2 n h k = (λ l. refl, λ l. absurd (omega (arith, l)))
 more_go false p p2 n h k = (λ l. ap suc (h (omega (arith, l))), λ l. (let m : n ≤ p2 = k (omega (arith, l)) in omega arith))
 
-place_more : (a : ℕ) (q : Bytes) (names more : List Name) → (place a q names < length names → place a q (names ++ more) ≡ place a q names) × (length names ≤ place a q names → length names ≤ place a q (names ++ more))
+place_more : (a : ℕ) (q : Bytes) (index more : List ArrayKey) → (place a q index < length index → place a q (index ++ more) ≡ place a q index) × (length index ≤ place a q index → length index ≤ place a q (index ++ more))
 place_more a q [] more = (λ l. absurd (omega (arith, l)), λ l. omega arith)
-place_more a q (name ∷ names) more = let r = place_more a q names more in more_go (is_here a q name) (place a q names) (place a q (names ++ more)) (length names) r.0 r.1
+place_more a q (name ∷ index) more = let r = place_more a q index more in more_go (is_here a q name) (place a q index) (place a q (index ++ more)) (length index) r.0 r.1
 
 -- arrays that answer alike at each key are the same
-pub elements_same : (b : ℕ) (names more : List Name) (slots slots2 : List (Option Value)) → length slots ≤ length names → length slots2 ≤ length more → ((q : Bytes) → slot slots2 (place b q more) ≡ slot slots (place b q names)) → elements_of b more slots2 ≡ elements_of b names slots
-elements_same b names more slots slots2 le le2 h =
-    same_map nat_list_cmp_total exact_bytes (elements_of b more slots2) (elements_of b names slots) (λ q. get_at b q more slots2 le2 ∙ (h q ∙ sym (get_at b q names slots le)))
+pub elements_same : (b : ℕ) (index more : List ArrayKey) (slots slots2 : List (Option Value)) → length slots ≤ length index → length slots2 ≤ length more → ((q : Bytes) → slot slots2 (place b q more) ≡ slot slots (place b q index)) → elements_of b more slots2 ≡ elements_of b index slots
+elements_same b index more slots slots2 le le2 h =
+    same_map nat_list_cmp_total exact_bytes (elements_of b more slots2) (elements_of b index slots) (λ q. get_at b q more slots2 le2 ∙ (h q ∙ sym (get_at b q index slots le)))
 
-put_go : (a : ℕ) (q k : Bytes) (v : Option Value) (names : List Name) (slots : List (Option Value)) (i : ℕ) (b : Bool) → same_key q k ≡ b → AreDistinct names → length slots ≤ length names → slice_get names i ≡ Some (named a k) → i < length slots →
-    slot (set slots i v) (place a q names) ≡ cond b v (slot slots (place a q names))
-put_go a q k v names slots i true e d le h lt =
-    let at : place a q names ≡ i = ap (λ (x : Bytes). place a x names) (key_is q k e) ∙ place_is a k names i d h in
+put_go : (a : ℕ) (q k : Bytes) (v : Option Value) (index : List ArrayKey) (slots : List (Option Value)) (i : ℕ) (b : Bool) → same_key q k ≡ b → AreDistinct index → length slots ≤ length index → slice_get index i ≡ Some (array_key a k) → i < length slots →
+    slot (set slots i v) (place a q index) ≡ cond b v (slot slots (place a q index))
+put_go a q k v index slots i true e d le h lt =
+    let at : place a q index ≡ i = ap (λ (x : Bytes). place a x index) (key_is q k e) ∙ place_is a k index i d h in
     ap (slot (set slots i v)) at ∙ get_or-set_same slots i v None lt
-put_go a q k v names slots i false e d le h lt =
-    let apart : place a q names ≢ i = λ at.
-    let there : slice_get names i ≡ Some (named a q) = ap (slice_get names) (sym at) ∙ place_there a q names (omega (arith, at, le, lt)) in
-    let same : q ≡ k = ap (λ (n : Name). n.key) (same_Some (named a q) (named a k) (sym there ∙ h)) in
+put_go a q k v index slots i false e d le h lt =
+    let apart : place a q index ≢ i = λ at.
+    let there : slice_get index i ≡ Some (array_key a q) = ap (slice_get index) (sym at) ∙ place_there a q index (omega (arith, at, le, lt)) in
+    let same : q ≡ k = ap (λ (n : ArrayKey). n.key) (same_Some (array_key a q) (array_key a k) (sym there ∙ h)) in
     false≢true (sym e ∙ (ap (same_key q) (sym same) ∙ key_itself q)) in
-    get_or-set_other slots i (place a q names) v None apart
+    get_or-set_other slots i (place a q index) v None apart
 
 -- a slot that is written is the element of its name
-pub put_at : (a : ℕ) (k : Bytes) (v : Option Value) (names : List Name) (slots : List (Option Value)) (i : ℕ) → AreDistinct names → length slots ≤ length names → slice_get names i ≡ Some (named a k) → i < length slots → IsPut a k v names slots names (set slots i v)
-put_at a k v names slots i d le h lt =
+pub put_at : (a : ℕ) (k : Bytes) (v : Option Value) (index : List ArrayKey) (slots : List (Option Value)) (i : ℕ) → AreDistinct index → length slots ≤ length index → slice_get index i ≡ Some (array_key a k) → i < length slots → IsPut a k v index slots index (set slots i v)
+put_at a k v index slots i d le h lt =
     let size : length (set slots i v) ≡ length slots = length-set slots i v in
-    let le2 : length (set slots i v) ≤ length names = omega arith in
+    let le2 : length (set slots i v) ≤ length index = omega arith in
     record {
-      here = same_map nat_list_cmp_total exact_bytes (elements_of a names (set slots i v)) (put (elements_of a names slots) k v) (λ q.
-          get_at a q names (set slots i v) le2
-          ∙ (put_go a q k v names slots i (same_key q k) refl d le h lt
-          ∙ sym (get-put (elements_of a names slots) k v q ∙ ap (cond (same_key q k) v) (get_at a q names slots le))));
-      other = λ b ne. elements_same b names names slots (set slots i v) le le2 (λ q.
-          get_or-set_other slots i (place b q names) v None (λ at.
-          let there : slice_get names i ≡ Some (named b q) = ap (slice_get names) (sym at) ∙ place_there b q names (omega (arith, at, le, lt)) in
-          ne (ap (λ (n : Name). n.array) (same_Some (named b q) (named a k) (sym there ∙ h)))));
+      here = same_map nat_list_cmp_total exact_bytes (elements_of a index (set slots i v)) (put (elements_of a index slots) k v) (λ q.
+          get_at a q index (set slots i v) le2
+          ∙ (put_go a q k v index slots i (same_key q k) refl d le h lt
+          ∙ sym (get-put (elements_of a index slots) k v q ∙ ap (cond (same_key q k) v) (get_at a q index slots le))));
+      other = λ b ne. elements_same b index index slots (set slots i v) le le2 (λ q.
+          get_or-set_other slots i (place b q index) v None (λ at.
+          let there : slice_get index i ≡ Some (array_key b q) = ap (slice_get index) (sym at) ∙ place_there b q index (omega (arith, at, le, lt)) in
+          ne (ap (λ (n : ArrayKey). n.array) (same_Some (array_key b q) (array_key a k) (sym there ∙ h)))));
     }
 
 nothing_put : (b : Bool) (k : Bytes) → cond b (put no_elements k None) no_elements ≡ no_elements
@@ -137,35 +137,35 @@ nothing_put true k = same_map nat_list_cmp_total exact_bytes (put no_elements k 
 nothing_put false k = refl
 
 -- empty slots hold no element
-empty_slots : (a : ℕ) (names : List Name) (slots : List (Option Value)) → ((i : ℕ) → slot slots i ≡ None) → elements_of a names slots ≡ no_elements
+empty_slots : (a : ℕ) (index : List ArrayKey) (slots : List (Option Value)) → ((i : ℕ) → slot slots i ≡ None) → elements_of a index slots ≡ no_elements
 empty_slots a [] slots h = refl
-empty_slots a (name ∷ names) [] h = refl
-empty_slots a (name ∷ names) (s ∷ slots) h =
-    ap (λ (e : Elements). cond (name.array == a) (put e name.key s) e) (empty_slots a names slots (λ i. h (suc i)))
+empty_slots a (name ∷ index) [] h = refl
+empty_slots a (name ∷ index) (s ∷ slots) h =
+    ap (λ (e : Elements). cond (name.array == a) (put e name.key s) e) (empty_slots a index slots (λ i. h (suc i)))
     ∙ (ap (λ (o : Option Value). cond (name.array == a) (put no_elements name.key o) no_elements) (h 0) ∙ nothing_put (name.array == a) name.key)
 
-same_slots : (a : ℕ) (names more : List Name) (slots slots2 : List (Option Value)) → length slots ≤ length names → ((i : ℕ) → slot slots2 i ≡ slot slots i) → elements_of a (names ++ more) slots2 ≡ elements_of a names slots
+same_slots : (a : ℕ) (index more : List ArrayKey) (slots slots2 : List (Option Value)) → length slots ≤ length index → ((i : ℕ) → slot slots2 i ≡ slot slots i) → elements_of a (index ++ more) slots2 ≡ elements_of a index slots
 same_slots a [] more [] slots2 le h = empty_slots a more slots2 h
 same_slots a [] more (s ∷ slots) slots2 le h = absurd (omega (arith, le))
-same_slots a (name ∷ names) more [] slots2 le h = empty_slots a (name ∷ names ++ more) slots2 h
-same_slots a (name ∷ names) more (s ∷ slots) [] le h = sym (empty_slots a (name ∷ names) (s ∷ slots) (λ i. sym (h i)))
-same_slots a (name ∷ names) more (s ∷ slots) (s2 ∷ slots2) le h =
-    ap (λ (e : Elements). cond (name.array == a) (put e name.key s2) e) (same_slots a names more slots slots2 (omega (arith, le)) (λ i. h (suc i)))
-    ∙ ap (λ (o : Option Value). cond (name.array == a) (put (elements_of a names slots) name.key o) (elements_of a names slots)) (h 0)
+same_slots a (name ∷ index) more [] slots2 le h = empty_slots a (name ∷ index ++ more) slots2 h
+same_slots a (name ∷ index) more (s ∷ slots) [] le h = sym (empty_slots a (name ∷ index) (s ∷ slots) (λ i. sym (h i)))
+same_slots a (name ∷ index) more (s ∷ slots) (s2 ∷ slots2) le h =
+    ap (λ (e : Elements). cond (name.array == a) (put e name.key s2) e) (same_slots a index more slots slots2 (omega (arith, le)) (λ i. h (suc i)))
+    ∙ ap (λ (o : Option Value). cond (name.array == a) (put (elements_of a index slots) name.key o) (elements_of a index slots)) (h 0)
 
--- added names and empty slots change no array, also where a name was added twice
-pub spread_same : (b : ℕ) (names more : List Name) (slots slots2 : List (Option Value)) → length slots ≤ length names → IsSpread slots slots2 → elements_of b (names ++ more) slots2 ≡ elements_of b names slots
-spread_same b names more slots slots2 le s = same_slots b names more slots slots2 le s.same
+-- added index and empty slots change no array, also where a name was added twice
+pub spread_same : (b : ℕ) (index more : List ArrayKey) (slots slots2 : List (Option Value)) → length slots ≤ length index → IsSpread slots slots2 → elements_of b (index ++ more) slots2 ≡ elements_of b index slots
+spread_same b index more slots slots2 le s = same_slots b index more slots slots2 le s.same
 
-pub found_slot : (a : ℕ) (q : Bytes) (names : List Name) (slots : List (Option Value)) (i : ℕ) → IsLaid names slots → slice_get names i ≡ Some (named a q) → get (elements_of a names slots) q ≡ slot slots i
-found_slot a q names slots i h e = get_at a q names slots h.named ∙ ap (slot slots) (place_is a q names i h.distinct e)
+pub found_slot : (a : ℕ) (q : Bytes) (index : List ArrayKey) (slots : List (Option Value)) (i : ℕ) → IsLaid index slots → slice_get index i ≡ Some (array_key a q) → get (elements_of a index slots) q ≡ slot slots i
+found_slot a q index slots i h e = get_at a q index slots h.array_key ∙ ap (slot slots) (place_is a q index i h.distinct e)
 
-pub absent_none : (a : ℕ) (q : Bytes) (names : List Name) (slots : List (Option Value)) → length slots ≤ length names → IsAbsent (named a q) names → get (elements_of a names slots) q ≡ None
-absent_none a q names slots le h =
-    get_at a q names slots le
-    ∙ elim (cases_lt (place a q names) (length names)) [
-      | inl lt ↦ absurd (h (place a q names) (place_there a q names lt))
-      | inr ge ↦ get_or_past slots (place a q names) None (omega (arith, le, ge))
+pub absent_none : (a : ℕ) (q : Bytes) (index : List ArrayKey) (slots : List (Option Value)) → length slots ≤ length index → IsAbsent (array_key a q) index → get (elements_of a index slots) q ≡ None
+absent_none a q index slots le h =
+    get_at a q index slots le
+    ∙ elim (cases_lt (place a q index) (length index)) [
+      | inl lt ↦ absurd (h (place a q index) (place_there a q index lt))
+      | inr ge ↦ get_or_past slots (place a q index) None (omega (arith, le, ge))
     ]
 
 -- ---- slots that are added
@@ -205,30 +205,30 @@ covered_now count old new h = spread_nones old.now new.now h.added h.now
 pub covered_start : (count : ℕ) (old new : Journaled (List (Option Value))) → IsCovered count old new → IsSpread old.start new.start
 covered_start count old new h = spread_nones old.start new.start h.added h.start
 
-pub laid_covered : (count : ℕ) (names names2 : List Name) (old new : Journaled (List (Option Value))) → AreLaid names old → Longer names names2 → AreDistinct names2 → IsCovered count old new → count ≤ length names2 → AreLaid names2 new
-laid_covered count names names2 old new h more d c le = record {
+pub laid_covered : (count : ℕ) (index names2 : List ArrayKey) (old new : Journaled (List (Option Value))) → AreLaid index old → Longer index names2 → AreDistinct names2 → IsCovered count old new → count ≤ length names2 → AreLaid names2 new
+laid_covered count index names2 old new h more d c le = record {
   distinct = d;
-  named = omega (arith, h.named, c.most, le, ap length more.is, length-append names more.more);
+  array_key = omega (arith, h.array_key, c.most, le, ap length more.is, length-append index more.more);
   sizes = omega (arith, h.sizes, ap length c.now, ap length c.start, length-append old.now (replicate c.added None), length-append old.start (replicate c.added None));
 }
 
-pub laid_more : (names names2 : List Name) (slots : Journaled (List (Option Value))) → AreLaid names slots → Longer names names2 → AreDistinct names2 → AreLaid names2 slots
-laid_more names names2 slots h more d = record { distinct = d; named = omega (arith, h.named, ap length more.is, length-append names more.more); sizes = h.sizes }
+pub laid_more : (index names2 : List ArrayKey) (slots : Journaled (List (Option Value))) → AreLaid index slots → Longer index names2 → AreDistinct names2 → AreLaid names2 slots
+laid_more index names2 slots h more d = record { distinct = d; array_key = omega (arith, h.array_key, ap length more.is, length-append index more.more); sizes = h.sizes }
 
-pub laid_set : (names : List Name) (old new : Journaled (List (Option Value))) (i : ℕ) (v : Option Value) → AreLaid names old → new.now ≡ set old.now i v → new.start ≡ old.start → AreLaid names new
-laid_set names old new i v h now start = record {
+pub laid_set : (index : List ArrayKey) (old new : Journaled (List (Option Value))) (i : ℕ) (v : Option Value) → AreLaid index old → new.now ≡ set old.now i v → new.start ≡ old.start → AreLaid index new
+laid_set index old new i v h now start = record {
   distinct = h.distinct;
-  named = omega (arith, h.named, ap length now, length-set old.now i v);
+  array_key = omega (arith, h.array_key, ap length now, length-set old.now i v);
   sizes = ap length start ∙ (h.sizes ∙ sym (ap length now ∙ length-set old.now i v));
 }
 
--- a write over added names and slots
-pub put_done : (a : ℕ) (k : Bytes) (v : Option Value) (names names2 : List Name) (slots mid new : List (Option Value)) (i : ℕ) → length slots ≤ length names → Longer names names2 → AreDistinct names2 → length mid ≤ length names2 → IsSpread slots mid →
-    slice_get names2 i ≡ Some (named a k) → i < length mid → new ≡ set mid i v → IsPut a k v names slots names2 new
-put_done a k v names names2 slots mid new i le more d le2 s h lt e =
+-- a write over added index and slots
+pub put_done : (a : ℕ) (k : Bytes) (v : Option Value) (index names2 : List ArrayKey) (slots mid new : List (Option Value)) (i : ℕ) → length slots ≤ length index → Longer index names2 → AreDistinct names2 → length mid ≤ length names2 → IsSpread slots mid →
+    slice_get names2 i ≡ Some (array_key a k) → i < length mid → new ≡ set mid i v → IsPut a k v index slots names2 new
+put_done a k v index names2 slots mid new i le more d le2 s h lt e =
     let p : IsPut a k v names2 mid names2 (set mid i v) = put_at a k v names2 mid i d le2 h lt in
-    let same : (b : ℕ) → elements_of b names2 mid ≡ elements_of b names slots = λ b.
-    ap (λ (ns : List Name). elements_of b ns mid) more.is ∙ spread_same b names more.more slots mid le s in
+    let same : (b : ℕ) → elements_of b names2 mid ≡ elements_of b index slots = λ b.
+    ap (λ (ns : List ArrayKey). elements_of b ns mid) more.is ∙ spread_same b index more.more slots mid le s in
     record {
       here = ap (elements_of a names2) e ∙ (p.here ∙ ap (λ (m : Elements). put m k v) (same a));
       other = λ b ne. ap (elements_of b names2) e ∙ (p.other b ne ∙ same b);

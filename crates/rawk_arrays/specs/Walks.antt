@@ -1,4 +1,4 @@
--- How a walk over the names of an array stands, from the last one to the first.
+-- How a walk over the index of an array stands, from the last one to the first.
 use Rattle.std.specs.Prelude.{◌≡◌, ◌≢◌, ℕ, ◌+◌, ◌≤◌, nat_lt, is_some, Bool, false, if◌then◌else◌, List, length, map, slice_get, Option, None, Some}
 use Rattle.std.specs.List.{sum_by}
 use Rattle.std.specs.Ordering.{nat_cmp, eq_by_cmp}
@@ -8,8 +8,8 @@ use Rattle.std.specs.Global.{Vec}
 use Rattle.rawk_value.specs.Values.{Bytes}
 use Rattle.rawk_arrays.specs.Elements.{Elements}
 use Rattle.rawk_value.specs.declared.value.Value.{Value}
-use Rattle.rawk_names.specs.Name.{Name}
-use Rattle.rawk_names.specs.Found.{IsAfter, left}
+use Rattle.rawk_keys.specs.ArrayKey.{ArrayKey}
+use Rattle.rawk_keys.specs.Found.{IsAfter, left}
 use Rattle.rawk_arrays.specs.Place.{place}
 use Rattle.rawk_arrays.specs.Laid.{slot}
 
@@ -20,14 +20,14 @@ pub record IsSlotEmptied (number : ℕ) (slots new : List (Option Value)) : Type
   pub size : length new ≡ length slots
 
 -- the walk stands at a name of the array, or is over
-pub record IsWalking (a : ℕ) (names : List Name) (at : Option ℕ) : Type 0 where
-  pub within : left at ≤ length names
-  pub here : (i : ℕ) (name : Name) → at ≡ Some i → slice_get names i ≡ Some name → name.array ≡ a
+pub record IsWalking (a : ℕ) (index : List ArrayKey) (at : Option ℕ) : Type 0 where
+  pub within : left at ≤ length index
+  pub here : (i : ℕ) (name : ArrayKey) → at ≡ Some i → slice_get index i ≡ Some name → name.array ≡ a
 
--- the slots of the array's names that come after are empty, and those of other arrays are as they were
-pub record IsEmptying (a : ℕ) (names : List Name) (slots new : List (Option Value)) (at : Option ℕ) : Type 0 where
-  pub gone : (j : ℕ) (name : Name) → IsAfter at j → slice_get names j ≡ Some name → name.array ≡ a → slot new j ≡ None
-  pub rest : (j : ℕ) → ((name : Name) → slice_get names j ≡ Some name → name.array ≢ a) → slot new j ≡ slot slots j
+-- the slots of the array's index that come after are empty, and those of other arrays are as they were
+pub record IsEmptying (a : ℕ) (index : List ArrayKey) (slots new : List (Option Value)) (at : Option ℕ) : Type 0 where
+  pub gone : (j : ℕ) (name : ArrayKey) → IsAfter at j → slice_get index j ≡ Some name → name.array ≡ a → slot new j ≡ None
+  pub rest : (j : ℕ) → ((name : ArrayKey) → slice_get index j ≡ Some name → name.array ≢ a) → slot new j ≡ slot slots j
   pub size : length new ≡ length slots
 
 abbrev pub one : Bool → ℕ
@@ -49,12 +49,12 @@ abbrev pub is_seen : ℕ → ℕ → Option Value → Bool
 is_seen from p s = if nat_lt p from then false else is_some s
 
 -- the keys found so far: each key of the array whose name comes after, once
-pub record IsFinding (a : ℕ) (names : List Name) (slots : List (Option Value)) (at : Option ℕ) (keys : List Bytes) : Type 0 where
-  pub each : (q : Bytes) → times q keys ≡ one (is_seen (left at) (place a q names) (slot slots (place a q names)))
-  pub room : length keys + left at ≤ length names
+pub record IsFinding (a : ℕ) (index : List ArrayKey) (slots : List (Option Value)) (at : Option ℕ) (keys : List Bytes) : Type 0 where
+  pub each : (q : Bytes) → times q keys ≡ one (is_seen (left at) (place a q index) (slot slots (place a q index)))
+  pub room : length keys + left at ≤ length index
 
 -- so many keys were found so far
-pub record IsCounting (a : ℕ) (names : List Name) (slots : List (Option Value)) (at : Option ℕ) (count : ℕ) : Type 0 where
+pub record IsCounting (a : ℕ) (index : List ArrayKey) (slots : List (Option Value)) (at : Option ℕ) (count : ℕ) : Type 0 where
   pub keys : List Bytes
   pub many : count ≡ length keys
-  pub finding : IsFinding a names slots at keys
+  pub finding : IsFinding a index slots at keys

@@ -11,8 +11,8 @@ ghost use Rattle.rawk_arrays.specs.Elements.{array_at, changed_arrays, cleared, 
 ghost use Rattle.rawk_arrays.specs.Laid.{GrownArrays, IsLaid, IsPlaceOf, arrays_of, no_arrays};
 ghost use Rattle.rawk_arrays.specs.ArraysBack.{FitsArrays, arrays_back};
 
-use crate::cells::{Cells, count, element, empty, filled, keys, pack, put, slot_for};
-use rawk_names::Names;
+use crate::cells::{ElementSlots, count, element, empty, filled, keys, pack, put, slot_for};
+use rawk_keys::Keys;
 use rawk_slots::{Reversible, SlotGroup, Slots};
 use rawk_value::Value;
 use std::alloc::{AllocError, Global};
@@ -21,14 +21,14 @@ use std::marker::Model;
 /// So many empty slots are never worth removing.
 const FEW: usize = 512;
 
-/// The arrays, of which a number names one, beside what they were when the step began.
+/// The arrays, of which a number index one, beside what they were when the step began.
 ///
-/// Each key has a slot, which is filled where the element is there. A contract sees the names, the slots and how many arrays there are;
+/// Each key has a slot, which is filled where the element is there. A contract sees the index, the slots and how many arrays there are;
 /// the arrays of an array number that is not in use keep their slots until the number is used again.
 #[derive(Drop)]
 pub struct Arrays {
-    names: Names,
-    cells: Cells,
+    index: Keys,
+    cells: ElementSlots,
     live: usize,
     began: usize,
     // How many slots were emptied since the empty ones were last removed, at least.
@@ -42,11 +42,11 @@ impl Model for Arrays {
     ghost Value = { Journaled Laid };
 
     ghost view = { λ a. record {
-      now = record { names = a.names; slots = a.cells.now; live = a.live };
-      start = record { names = a.names; slots = a.cells.start; live = a.began };
+      now = record { index = a.index; slots = a.cells.now; live = a.live };
+      start = record { index = a.index; slots = a.cells.start; live = a.began };
     } };
 
-    ghost invariant = { λ a. AreLaid a.names a.cells };
+    ghost invariant = { λ a. AreLaid a.index a.cells };
 }
 
 /// What a step changed in arrays: the slots, and how many arrays there were.
@@ -87,7 +87,7 @@ impl Arrays {
         ensures { result ≡ at_rest no_arrays }
     {
         Arrays {
-            names: Names::new(alloc),
+            index: Keys::new(alloc),
             cells: Slots::new(alloc),
             live: 0,
             began: 0,
@@ -107,7 +107,7 @@ impl Arrays {
         ensures { option_copied result ≡ element_at array key.now (arrays_of self.now.now) }
     {
         if array < self.live {
-            return element(&self.names, &self.cells, array, key);
+            return element(&self.index, &self.cells, array, key);
         }
         None
     }
@@ -124,7 +124,7 @@ impl Arrays {
         ensures { result ≡ len (array_at array (arrays_of self.now.now)) }
     {
         if array < self.live {
-            return count(&self.names, &self.cells, array);
+            return count(&self.index, &self.cells, array);
         }
         0
     }
@@ -136,7 +136,7 @@ impl Arrays {
         if array >= self.live {
             return Ok(Vec::new(alloc));
         }
-        let found = keys(alloc, &self.names, &self.cells, array)?;
+        let found = keys(alloc, &self.index, &self.cells, array)?;
         Ok(found)
     }
 
@@ -153,7 +153,7 @@ impl Arrays {
         ensures start { GrownArrays self.old.start self.new.start }
     {
         if array < self.live {
-            put(alloc, &mut self.names, &mut self.cells, array, key, value)?;
+            put(alloc, &mut self.index, &mut self.cells, array, key, value)?;
         }
         Ok(())
     }
@@ -188,7 +188,7 @@ impl Arrays {
         if array >= self.live {
             return Ok(None);
         }
-        let place = slot_for(alloc, &mut self.names, &mut self.cells, array, key)?;
+        let place = slot_for(alloc, &mut self.index, &mut self.cells, array, key)?;
         Ok(Some(place))
     }
 
@@ -240,7 +240,7 @@ impl Arrays {
         ensures start { self.new.start ≡ self.old.start }
     {
         if array < self.live {
-            let walked = empty(&self.names, &mut self.cells, array)?;
+            let walked = empty(&self.index, &mut self.cells, array)?;
             self.emptied = self.emptied.saturating_add(walked);
         }
         Ok(())
@@ -254,7 +254,7 @@ impl Arrays {
         let Some(live) = self.live.checked_add(1) else {
             return Err(AllocError);
         };
-        let walked = empty(&self.names, &mut self.cells, self.live)?;
+        let walked = empty(&self.index, &mut self.cells, self.live)?;
         self.emptied = self.emptied.saturating_add(walked);
         self.live = live;
         Ok(())
@@ -284,7 +284,7 @@ impl Arrays {
         ensures now { self.new ≡ at_rest self.old.now }
         ensures back { arrays_back self.old.now result ≡ self.old.start }
         ensures fits { FitsArrays result self.old.now }
-        ensures laid { IsLaid self.old.now.names self.old.now.slots }
+        ensures laid { IsLaid self.old.now.index self.old.now.slots }
     {
         let group = ArraysGroup {
             slots: self.cells.finish(alloc),
@@ -297,7 +297,7 @@ impl Arrays {
     /// Ends the step, and forgets what it changed. It takes no memory.
     pub fn forget(&mut self)
         ensures now { self.new ≡ at_rest self.old.now }
-        ensures laid { IsLaid self.old.now.names self.old.now.slots }
+        ensures laid { IsLaid self.old.now.index self.old.now.slots }
     {
         self.cells.forget();
         self.began = self.live;
@@ -309,18 +309,18 @@ impl Arrays {
         requires { self.old.start ≡ self.old.now }
         ensures now { arrays_of self.new.now ≡ arrays_of self.old.now }
         ensures rest { self.new.start ≡ self.new.now }
-        ensures laid { IsLaid self.new.now.names self.new.now.slots }
+        ensures laid { IsLaid self.new.now.index self.new.now.slots }
     {
         if self.emptied / 2 > self.cells.len() / 4 + FEW {
             self.emptied = 0;
-            pack(alloc, &mut self.names, &mut self.cells, self.live);
+            pack(alloc, &mut self.index, &mut self.cells, self.live);
         }
     }
 
     /// Puts back what the step in progress changed. It takes no memory and always succeeds.
     pub fn undo_step(&mut self)
         ensures now { self.new ≡ at_rest self.old.start }
-        ensures laid { IsLaid self.old.start.names self.old.start.slots }
+        ensures laid { IsLaid self.old.start.index self.old.start.slots }
     {
         self.cells.undo_step();
         self.live = self.began;
@@ -331,7 +331,7 @@ impl Arrays {
         requires { FitsArrays group.old self.old.now }
         ensures now { self.new ≡ at_rest (arrays_back self.old.now group.old) }
         ensures newer { arrays_back self.new.now group.new ≡ self.old.now }
-        ensures laid { IsLaid self.new.now.names self.new.now.slots }
+        ensures laid { IsLaid self.new.now.index self.new.now.slots }
     {
         self.cells.undo(&mut group.slots);
         let live = group.live;

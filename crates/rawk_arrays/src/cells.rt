@@ -4,21 +4,21 @@ ghost use Rattle.std.specs.Prelude.{◌≡◌, ℕ, ◌<◌, ◌≤◌, ◌++◌
 ghost use Rattle.std.specs.Option.{option_copied};
 ghost use Rattle.std.specs.FinMap.{get, len};
 ghost use Rattle.rawk_slots.specs.Journaled.{Longer, at_rest};
-ghost use Rattle.rawk_names.specs.Name.{Name, named};
+ghost use Rattle.rawk_keys.specs.ArrayKey.{ArrayKey, array_key};
 ghost use Rattle.rawk_arrays.specs.Elements.{map_keys, put};
 ghost use Rattle.rawk_arrays.specs.Laid.{AreDistinct, AreLaid, IsCovered, IsEmptied, IsLaid, IsPacked, IsPut, IsSpread, elements_of, slot};
 ghost use Rattle.rawk_arrays.specs.Walks.{IsEach, IsSlotEmptied, one, texts};
 
-use rawk_names::Names;
+use rawk_keys::Keys;
 use rawk_slots::Slots;
 use rawk_value::Value;
 use std::alloc::{AllocError, Global};
 
 /// Slots of elements, filled or empty.
-pub(crate) type Cells = Slots<Option<Value>>;
+pub(crate) type ElementSlots = Slots<Option<Value>>;
 
 /// What stands in a slot.
-pub(crate) fn filled(cells: &Cells, number: usize) -> Option<&Value>
+pub(crate) fn filled(cells: &ElementSlots, number: usize) -> Option<&Value>
     ensures { option_copied result ≡ slot cells.now.now number }
 {
     match cells.value(number) {
@@ -29,41 +29,36 @@ pub(crate) fn filled(cells: &Cells, number: usize) -> Option<&Value>
 
 /// An element, if it is there.
 pub(crate) fn element<'a>(
-    names: &Names,
-    cells: &'a Cells,
+    index: &Keys,
+    cells: &'a ElementSlots,
     array: usize,
     key: &[u8],
 ) -> Option<&'a Value>
-    requires { IsLaid names.now cells.now.now }
-    ensures { option_copied result ≡ get (elements_of array names.now cells.now.now) key.now }
+    requires { IsLaid index.now cells.now.now }
+    ensures { option_copied result ≡ get (elements_of array index.now cells.now.now) key.now }
 {
-    match names.find(array, key) {
+    match index.find(array, key) {
         Some(number) => filled(cells, number),
         None => None,
     }
 }
 
 // The number of a name, which is added where it is missing.
-fn number_of(
-    alloc: Global,
-    names: &mut Names,
-    array: usize,
-    key: &[u8],
-) -> Result<usize, AllocError>
-    ensures there { IfOk result (λ i. slice_get names.new i ≡ Some (named array key.now)) }
-    ensures more { Longer names.old names.new }
-    ensures distinct { AreDistinct names.old → AreDistinct names.new }
+fn number_of(alloc: Global, index: &mut Keys, array: usize, key: &[u8]) -> Result<usize, AllocError>
+    ensures there { IfOk result (λ i. slice_get index.new i ≡ Some (array_key array key.now)) }
+    ensures more { Longer index.old index.new }
+    ensures distinct { AreDistinct index.old → AreDistinct index.new }
 {
-    if let Some(number) = names.find(array, key) {
+    if let Some(number) = index.find(array, key) {
         return Ok(number);
     }
-    let number = names.len();
-    names.add(alloc, array, key)?;
+    let number = index.len();
+    index.add(alloc, array, key)?;
     Ok(number)
 }
 
 // Adds empty slots until there are so many. It fails where memory is refused; those that were added stay.
-fn cover(cells: &mut Cells, count: usize) -> Result<(), AllocError>
+fn cover(cells: &mut ElementSlots, count: usize) -> Result<(), AllocError>
     ensures covered { IsCovered count cells.old cells.new }
     ensures enough { OnOk result (count ≤ length cells.new.now) }
 {
@@ -76,21 +71,21 @@ fn cover(cells: &mut Cells, count: usize) -> Result<(), AllocError>
 /// The slot of a key, which is added, and empty, where it is missing. It fails where memory is refused; what was added stays.
 pub(crate) fn slot_for(
     alloc: Global,
-    names: &mut Names,
-    cells: &mut Cells,
+    index: &mut Keys,
+    cells: &mut ElementSlots,
     array: usize,
     key: &[u8],
 ) -> Result<usize, AllocError>
-    requires { AreLaid names.old cells.old }
-    ensures laid { AreLaid names.new cells.new }
-    ensures there { IfOk result (λ i. slice_get names.new i ≡ Some (named array key.now)) }
+    requires { AreLaid index.old cells.old }
+    ensures laid { AreLaid index.new cells.new }
+    ensures there { IfOk result (λ i. slice_get index.new i ≡ Some (array_key array key.now)) }
     ensures within { IfOk result (λ i. i < length cells.new.now) }
-    ensures more { Longer names.old names.new }
+    ensures more { Longer index.old index.new }
     ensures now { IsSpread cells.old.now cells.new.now }
     ensures start { IsSpread cells.old.start cells.new.start }
 {
-    let number = number_of(alloc, names, array, key)?;
-    let _count = names.len();
+    let number = number_of(alloc, index, array, key)?;
+    let _count = index.len();
     cover(cells, number + 1)?;
     Ok(number)
 }
@@ -98,26 +93,26 @@ pub(crate) fn slot_for(
 /// Fills or empties the slot of a key. It fails where memory is refused, and then no element has changed.
 pub(crate) fn put(
     alloc: Global,
-    names: &mut Names,
-    cells: &mut Cells,
+    index: &mut Keys,
+    cells: &mut ElementSlots,
     array: usize,
     key: &[u8],
     value: Option<Value>,
 ) -> Result<(), AllocError>
-    requires { AreLaid names.old cells.old }
-    ensures laid { AreLaid names.new cells.new }
-    ensures did { OnOk result (IsPut array key.now value names.old cells.old.now names.new cells.new.now) }
+    requires { AreLaid index.old cells.old }
+    ensures laid { AreLaid index.new cells.new }
+    ensures did { OnOk result (IsPut array key.now value index.old cells.old.now index.new cells.new.now) }
     ensures err { OnErr result (IsSpread cells.old.now cells.new.now) }
-    ensures more { Longer names.old names.new }
+    ensures more { Longer index.old index.new }
     ensures start { IsSpread cells.old.start cells.new.start }
 {
-    let number = slot_for(alloc, names, cells, array, key)?;
+    let number = slot_for(alloc, index, cells, array, key)?;
     cells.write(number, value)?;
     Ok(())
 }
 
 // Empties a slot. It fails where memory is refused, and then nothing has changed.
-fn empty_slot(cells: &mut Cells, number: usize) -> Result<(), AllocError>
+fn empty_slot(cells: &mut ElementSlots, number: usize) -> Result<(), AllocError>
     ensures did { OnOk result (IsSlotEmptied number cells.old.now cells.new.now) }
     ensures start { cells.new.start ≡ cells.old.start }
     ensures err { OnErr result (cells.new.now ≡ cells.old.now) }
@@ -131,48 +126,52 @@ fn empty_slot(cells: &mut Cells, number: usize) -> Result<(), AllocError>
 
 /// Empties the slots of an array, in a time linear in their number, and gives about how many there are. It fails where memory is refused;
 /// those that were emptied stay so.
-pub(crate) fn empty(names: &Names, cells: &mut Cells, array: usize) -> Result<usize, AllocError>
-    requires { AreLaid names.now cells.old }
-    ensures laid { AreLaid names.now cells.new }
-    ensures did { OnOk result (IsEmptied array names.now cells.old.now cells.new.now) }
+pub(crate) fn empty(
+    index: &Keys,
+    cells: &mut ElementSlots,
+    array: usize,
+) -> Result<usize, AllocError>
+    requires { AreLaid index.now cells.old }
+    ensures laid { AreLaid index.now cells.new }
+    ensures did { OnOk result (IsEmptied array index.now cells.old.now cells.new.now) }
     ensures start { cells.new.start ≡ cells.old.start }
 {
-    let mut at = names.latest(array);
-    let _count = names.len();
+    let mut at = index.latest(array);
+    let _count = index.len();
     let mut walked = 0usize;
     while let Some(number) = at {
         empty_slot(cells, number)?;
         walked = walked.saturating_add(1);
-        at = names.earlier(number);
+        at = index.earlier(number);
     }
     Ok(walked)
 }
 
 // Whether a slot is filled.
-fn is_filled(cells: &Cells, number: usize) -> bool
+fn is_filled(cells: &ElementSlots, number: usize) -> bool
     ensures { result ≡ is_some (slot cells.now.now number) }
 {
     filled(cells, number).is_some()
 }
 
 // 1 for a slot that is filled.
-fn filled_count(cells: &Cells, number: usize) -> usize
+fn filled_count(cells: &ElementSlots, number: usize) -> usize
     ensures { result ≡ one (is_some (slot cells.now.now number)) }
 {
     if is_filled(cells, number) { 1 } else { 0 }
 }
 
 /// How many elements an array has. It is linear in the slots that the array has.
-pub(crate) fn count(names: &Names, cells: &Cells, array: usize) -> usize
-    requires { IsLaid names.now cells.now.now }
-    ensures { result ≡ len (elements_of array names.now cells.now.now) }
+pub(crate) fn count(index: &Keys, cells: &ElementSlots, array: usize) -> usize
+    requires { IsLaid index.now cells.now.now }
+    ensures { result ≡ len (elements_of array index.now cells.now.now) }
 {
-    let mut at = names.latest(array);
-    let _names = names.len();
+    let mut at = index.latest(array);
+    let _names = index.len();
     let mut count = 0;
     while let Some(number) = at {
         count += filled_count(cells, number);
-        at = names.earlier(number);
+        at = index.earlier(number);
     }
     count
 }
@@ -180,19 +179,19 @@ pub(crate) fn count(names: &Names, cells: &Cells, array: usize) -> usize
 // The keys of an array's elements, the newest first.
 fn keys_unsorted(
     alloc: Global,
-    names: &Names,
-    cells: &Cells,
+    index: &Keys,
+    cells: &ElementSlots,
     array: usize,
 ) -> Result<Vec<Vec<u8>>, AllocError>
-    requires { IsLaid names.now cells.now.now }
-    ensures { IfOk result (λ found. IsEach (texts found.items) (elements_of array names.now cells.now.now)) }
+    requires { IsLaid index.now cells.now.now }
+    ensures { IfOk result (λ found. IsEach (texts found.items) (elements_of array index.now cells.now.now)) }
 {
     let mut found = Vec::new(alloc);
-    let mut at = names.latest(array);
-    let _names = names.len();
+    let mut at = index.latest(array);
+    let _names = index.len();
     while let Some(number) = at {
-        push_filled(alloc, names, cells, number, &mut found)?;
-        at = names.earlier(number);
+        push_filled(alloc, index, cells, number, &mut found)?;
+        at = index.earlier(number);
     }
     Ok(found)
 }
@@ -200,16 +199,16 @@ fn keys_unsorted(
 // Adds the key of a slot that is filled.
 fn push_filled(
     alloc: Global,
-    names: &Names,
-    cells: &Cells,
+    index: &Keys,
+    cells: &ElementSlots,
     number: usize,
     found: &mut Vec<Vec<u8>>,
 ) -> Result<(), AllocError>
-    requires { number < length names.now }
-    ensures { OnOk result ((name : Name) → slice_get names.now number ≡ Some name → texts found.new.items ≡ texts found.old.items ++ (if is_some (slot cells.now.now number) then name.key ∷ [] else [])) }
+    requires { number < length index.now }
+    ensures { OnOk result ((name : ArrayKey) → slice_get index.now number ≡ Some name → texts found.new.items ≡ texts found.old.items ++ (if is_some (slot cells.now.now number) then name.key ∷ [] else [])) }
 {
     if is_filled(cells, number) {
-        found.push(Vec::from_slice(alloc, names.key(number))?)?;
+        found.push(Vec::from_slice(alloc, index.key(number))?)?;
     }
     Ok(())
 }
@@ -217,14 +216,14 @@ fn push_filled(
 /// The keys of an array's elements, in byte order.
 pub(crate) fn keys(
     alloc: Global,
-    names: &Names,
-    cells: &Cells,
+    index: &Keys,
+    cells: &ElementSlots,
     array: usize,
 ) -> Result<Vec<Vec<u8>>, AllocError>
-    requires { IsLaid names.now cells.now.now }
-    ensures { IfOk result (λ found. texts found.items ≡ map_keys (elements_of array names.now cells.now.now)) }
+    requires { IsLaid index.now cells.now.now }
+    ensures { IfOk result (λ found. texts found.items ≡ map_keys (elements_of array index.now cells.now.now)) }
 {
-    let mut found = keys_unsorted(alloc, names, cells, array)?;
+    let mut found = keys_unsorted(alloc, index, cells, array)?;
     found.sort_unstable();
     Ok(found)
 }
@@ -232,19 +231,19 @@ pub(crate) fn keys(
 // What one slot is of the arrays below `live`, put into others.
 fn pack_one(
     alloc: Global,
-    names: &Names,
-    cells: &Cells,
+    index: &Keys,
+    cells: &ElementSlots,
     live: usize,
     number: usize,
-    packed_names: &mut Names,
-    packed: &mut Cells,
+    packed_names: &mut Keys,
+    packed: &mut ElementSlots,
 ) -> Result<(), AllocError>
-    requires there { number < length names.now }
+    requires there { number < length index.now }
     requires laid { AreLaid packed_names.old packed.old }
     ensures laid { AreLaid packed_names.new packed.new }
-    ensures did { OnOk result ((name : Name) → slice_get names.now number ≡ Some name → IsPacked live name (slot cells.now.now number) packed_names.old packed.old.now packed_names.new packed.new.now) }
+    ensures did { OnOk result ((name : ArrayKey) → slice_get index.now number ≡ Some name → IsPacked live name (slot cells.now.now number) packed_names.old packed.old.now packed_names.new packed.new.now) }
 {
-    let array = names.array(number);
+    let array = index.array(number);
     if array >= live {
         return Ok(());
     }
@@ -256,7 +255,7 @@ fn pack_one(
                 packed_names,
                 packed,
                 array,
-                names.key(number),
+                index.key(number),
                 Some(copy),
             )?;
             Ok(())
@@ -268,39 +267,39 @@ fn pack_one(
 // The arrays below `live`, put into others, without the slots that are empty.
 fn pack_into(
     alloc: Global,
-    names: &Names,
-    cells: &Cells,
+    index: &Keys,
+    cells: &ElementSlots,
     live: usize,
-    packed_names: &mut Names,
-    packed: &mut Cells,
+    packed_names: &mut Keys,
+    packed: &mut ElementSlots,
 ) -> Result<(), AllocError>
-    requires from { IsLaid names.now cells.now.now }
-    requires names { packed_names.old ≡ [] }
+    requires from { IsLaid index.now cells.now.now }
+    requires index { packed_names.old ≡ [] }
     requires cells { packed.old ≡ at_rest [] }
     ensures laid { AreLaid packed_names.new packed.new }
-    ensures did { OnOk result ((b : ℕ) → b < live → elements_of b packed_names.new packed.new.now ≡ elements_of b names.now cells.now.now) }
+    ensures did { OnOk result ((b : ℕ) → b < live → elements_of b packed_names.new packed.new.now ≡ elements_of b index.now cells.now.now) }
 {
-    let _names = names.len();
+    let _names = index.len();
     for number in 0..cells.len() {
-        pack_one(alloc, names, cells, live, number, packed_names, packed)?;
+        pack_one(alloc, index, cells, live, number, packed_names, packed)?;
     }
     Ok(())
 }
 
 /// Removes the slots that are empty, and those of arrays from `live` on, where memory for it is there.
-pub(crate) fn pack(alloc: Global, names: &mut Names, cells: &mut Cells, live: usize)
-    requires laid { AreLaid names.old cells.old }
+pub(crate) fn pack(alloc: Global, index: &mut Keys, cells: &mut ElementSlots, live: usize)
+    requires laid { AreLaid index.old cells.old }
     requires rest { cells.old.start ≡ cells.old.now }
-    ensures laid { AreLaid names.new cells.new }
+    ensures laid { AreLaid index.new cells.new }
     ensures rest { cells.new.start ≡ cells.new.now }
-    ensures same { (b : ℕ) → b < live → elements_of b names.new cells.new.now ≡ elements_of b names.old cells.old.now }
+    ensures same { (b : ℕ) → b < live → elements_of b index.new cells.new.now ≡ elements_of b index.old cells.old.now }
 {
-    let mut packed_names = Names::new(alloc);
+    let mut packed_names = Keys::new(alloc);
     let mut packed = Slots::new(alloc);
-    let done = pack_into(alloc, names, cells, live, &mut packed_names, &mut packed);
+    let done = pack_into(alloc, index, cells, live, &mut packed_names, &mut packed);
     if done.is_ok() {
         packed.forget();
-        *names = packed_names;
+        *index = packed_names;
         *cells = packed;
     }
 }

@@ -1,6 +1,5 @@
 -- What a whole program does: BEGIN actions, the records, END actions (POSIX awk, Overall Program Structure).
-use Rattle.std.specs.Prelude.{ℕ, zero, suc, ◌||◌, nat_lt, if◌then◌else◌, Bool, List, [], ◌∷◌, ◌++◌, length, map, replicate, position, Option, None, Some, slice_get, slice_index_or, slice_set, codes}
-use Rattle.std.specs.Str.{bytes_eq}
+use Rattle.std.specs.Prelude.{ℕ, zero, suc, ◌||◌, nat_lt, if◌then◌else◌, Bool, List, [], ◌∷◌, ◌++◌, length, map, replicate, Option, None, Some, slice_get, slice_set}
 use Rattle.rawk_syntax.specs.declared.tree.Guard.{Guard}
 use Rattle.rawk_syntax.specs.declared.tree.Guard.TheVariants.{When}
 use Rattle.rawk_syntax.specs.declared.tree.Rule.{Rule}
@@ -8,7 +7,8 @@ use Rattle.rawk_syntax.specs.declared.tree.Program.{Program}
 use Rattle.rawk_value.specs.declared.value.Value.{Value}
 use Rattle.rawk_value.specs.declared.value.Value.TheVariants.{Uninitialized, Input}
 use Rattle.rawk_value.specs.Values.{Bytes}
-use Rattle.rawk_store.specs.State.{first_specials}
+use Rattle.rawk_special.specs.Special.{first_specials, global_number}
+pub use Rattle.rawk_syntax.specs.Sites.{line_at}
 use Rattle.rawk_code.specs.declared.settings.FirstValue as settings
 use Rattle.rawk_code.specs.Actions.{Point, Run, Ending, Ended, Faulted, Limited, Stops, Exits, Nexts, Returns, Leaves, Repeats, Outcome, Goes, Breaks, Effect, bind, do_first, break_off, Given, reach, read_record}
 use Rattle.rawk_code.specs.Meaning.{Scene, eval, exec, either, choose, in_order, nothing, after_point}
@@ -67,15 +67,10 @@ then_end (Breaks why run) end = last_of (end run)
 abbrev pub FirstValue : Type 0
 FirstValue = settings.FirstValue
 
--- the names of the special variables, in the order of their numbers
-abbrev pub special_names : List Bytes
-special_names =
-    codes "NR" ∷ codes "FNR" ∷ codes "FS" ∷ codes "OFS" ∷ codes "ORS" ∷ codes "RS" ∷ codes "SUBSEP" ∷ codes "CONVFMT" ∷ codes "OFMT" ∷ codes "RSTART" ∷ codes "RLENGTH" ∷ []
-
 -- the globals with one of them set; a name that is not among theirs is passed over
 abbrev pub with_first : List Bytes → FirstValue → List Value → List Value
 with_first names first globals =
-    elim (position (bytes_eq first.name) (special_names ++ names)) as (λ _. List Value) [ None ↦ globals | Some x ↦ slice_set globals x (Input first.text) ]
+    elim (global_number names first.name) as (λ _. List Value) [ None ↦ globals | Some x ↦ slice_set globals x (Input first.text) ]
 
 -- with each of them set, in their order
 abbrev pub settled : List Bytes → List FirstValue → List Value → List Value
@@ -108,11 +103,6 @@ abbrev pub trace : Program → List FirstValue → Given → Trace
 trace p settings given =
     then_end (do_first (in_order (map (exec (scene given)) p.begin.items)) (main p (scene given)) (start p.names.items settings))
     (in_order (map (exec (scene given)) p.end.items))
-
--- the line of a site; a record's reading has line 0
-abbrev pub line_at : List ℕ → Option ℕ → ℕ
-line_at lines None = 0
-line_at lines (Some site) = slice_index_or lines site 0
 
 abbrev pub site_of : Option Point → Option ℕ
 site_of None = None

@@ -8,8 +8,6 @@ pub mod fitting;
 pub mod laws;
 pub mod sets;
 pub mod settings;
-#[cfg(test)]
-mod tests;
 
 pub use code::{Around, Code, Instr, Operand, Simple, Simples};
 pub use compiler::compile;

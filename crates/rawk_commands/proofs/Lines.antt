@@ -1,5 +1,6 @@
 -- The line of a command reads as the command.
 use Rattle.std.proofs.Common.{◌≡◌, refl, sym, ap, ◌∙◌, ℕ, ◌+◌, ◌<◌, ◌≤◌, ◌^◌, Bool, true, false, cond, [], ◌∷◌, ◌++◌, length, Some, Ok, arith, append_assoc, reverse}
+use Rattle.rawk_limits.specs.declared.TheConstants.{LAST_FIELD}
 use Rattle.std.specs.Prelude.{pos, negsuc, codes}
 use Rattle.std.specs.List.{flat_map, list_all, prefix_len}
 use Rattle.std.specs.Option.{option_map}
@@ -209,10 +210,10 @@ place_before (Element name key) after h =
     ∙ ap (keyed name) (constant_shown key rest bytes)
 place_before (Field number) after h = field_before number (decimal number) after (writes number (omega arith)) h
   where
-    field_before : (n : ℕ) (ds rest : Bytes) → Writes n ds → n ≤ 1_000_000 → field_front (ds ++ 32 ∷ rest) ≡ Some (Field n, 32 ∷ rest)
+    field_before : (n : ℕ) (ds rest : Bytes) → Writes n ds → n ≤ LAST_FIELD → field_front (ds ++ 32 ∷ rest) ≡ Some (Field n, 32 ∷ rest)
     field_before n ds rest w le =
         let size : prefix_len is_ascii_digit (ds ++ 32 ∷ rest) ≡ length ds = prefix_all is_ascii_digit ds (32 ∷ rest) w.digits refl in
-        rw (size, take-append_seam ds (32 ∷ rest), drop-append_seam ds (32 ∷ rest), number_written 1_000_001 n ds w (omega arith)) refl
+        rw (size, take-append_seam ds (32 ∷ rest), drop-append_seam ds (32 ∷ rest), number_written (LAST_FIELD + 1) n ds w (omega arith)) refl
 
 -- a word, a blank and an argument
 argument_read : (word : Verb) (start text : Bytes) → ((more : Bytes) → without_front (start ++ more) ≡ start ++ more)

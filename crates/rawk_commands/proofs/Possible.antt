@@ -1,5 +1,6 @@
 -- What a line of bytes asks for is a command that there can be.
 use Rattle.std.proofs.Common.{◌≡◌, refl, ap, subst, ◌∙◌, ℕ, zero, suc, ◌+◌, ◌-◌, ◌*◌, ◌%◌, ◌<◌, ◌≤◌, ◌^◌, Bool, true, false, not, ◌&&◌, cond, ◌==◌, [], ◌∷◌, ◌++◌, take, drop, Option, Some, None, Result, Ok, Err, arith, reverse, lit<}
+use Rattle.rawk_limits.specs.declared.TheConstants.{LAST_FIELD}
 use Rattle.std.specs.Prelude.{All, ℤ, pos, negsuc, neg_ℤ, nat_lt, IfSome, slice_index}
 use Rattle.std.specs.Char.{is_ascii_digit}
 use Rattle.std.specs.Int.RustNames.{FitsSigned}
@@ -247,9 +248,9 @@ field_found : (text : Bytes) → AreBytes text → IfSome (field_front text) Pla
 field_found text h =
     let n = prefix_len is_ascii_digit text in
     let rest = drop n text in
-    mapped PlaceFound (λ (x : Place). (x, rest)) (option_map (λ f. Field f) (number_below 1_000_001 (take n text)))
-    (mapped (λ x. IsPlace x × AreBytes rest) (λ f. Field f) (number_below 1_000_001 (take n text))
-    (weaker (λ f. f < 1_000_001) (λ f. (f ≤ 1_000_000) × AreBytes rest) _ (number_small 1_000_001 (take n text)) (λ f k. (omega arith, dropped n text h))))
+    mapped PlaceFound (λ (x : Place). (x, rest)) (option_map (λ f. Field f) (number_below (LAST_FIELD + 1) (take n text)))
+    (mapped (λ x. IsPlace x × AreBytes rest) (λ f. Field f) (number_below (LAST_FIELD + 1) (take n text))
+    (weaker (λ f. f < LAST_FIELD + 1) (λ f. (f ≤ LAST_FIELD) × AreBytes rest) _ (number_small (LAST_FIELD + 1) (take n text)) (λ f k. (omega arith, dropped n text h))))
 
 place_found : (text : Bytes) → AreBytes text → IfSome (place_front text) PlaceFound
 place_found [] h = tt

@@ -1,5 +1,6 @@
 -- What is shown of a place reads as the place, and of a number as the constant.
 use Rattle.std.proofs.Common.{◌≡◌, refl, sym, ap, ◌∙◌, ℕ, suc, ◌+◌, ◌<◌, ◌≤◌, ◌^◌, true, false, ◌==◌, [], ◌∷◌, ◌++◌, length, take, drop, Some, arith, append_assoc, append-nil, add-one}
+use Rattle.rawk_limits.specs.declared.TheConstants.{LAST_FIELD}
 use Rattle.std.specs.Prelude.{ℤ, pos, negsuc, All}
 use Rattle.std.specs.List.{list_all, prefix_len, AllByRecursion}
 use Rattle.std.specs.Char.{is_ascii_digit}
@@ -23,9 +24,9 @@ use Rattle.rawk_commands.proofs.ShownNumbers.{and_first, and_second, prefix_all,
 digits_size : (ds : Bytes) → list_all is_ascii_digit ds ≡ true → prefix_len is_ascii_digit ds ≡ length ds
 digits_size ds h = ap (prefix_len is_ascii_digit) (sym (append-nil ds)) ∙ prefix_all is_ascii_digit ds [] h refl
 
-field_of_digits : (n : ℕ) (ds : Bytes) → Writes n ds → n ≤ 1_000_000 → whole (field_front ds) ≡ Some (Field n)
+field_of_digits : (n : ℕ) (ds : Bytes) → Writes n ds → n ≤ LAST_FIELD → whole (field_front ds) ≡ Some (Field n)
 field_of_digits n ds w h =
-    rw (digits_size ds w.digits, take-length ds, drop-length ds, number_written 1_000_001 n ds w (omega arith)) refl
+    rw (digits_size ds w.digits, take-length ds, drop-length ds, number_written (LAST_FIELD + 1) n ds w (omega arith)) refl
 
 -- ---- names
 

@@ -1,6 +1,7 @@
 -- What a line of a session asks for. Bytes are written by their codes: 34 is a quote, 35 `#`, 36 `$`, 43 `+`, 45 `-`, 61 `=`,
 -- 91 `[`, 93 `]`.
 use Rattle.std.specs.Prelude.{◌≡◌, ℕ, ◌+◌, ◌^◌, ℤ, pos, neg_ℤ, ◌==◌, Bool, true, false, ◌&&◌, ◌||◌, if◌then◌else◌, nat_lt, IsTrue, ◌⊎◌, [], ◌∷◌, take, drop, Option, Some, None, Result, Ok, Err}
+use Rattle.rawk_limits.specs.declared.TheConstants.{LAST_FIELD}
 use Rattle.std.specs.Char.{is_ascii_digit}
 use Rattle.std.specs.List.{list_all, prefix_len, position_or_len}
 use Rattle.std.specs.Option.{option_map}
@@ -101,7 +102,7 @@ constant_of text = whole (constant_front text)
 
 -- the field whose number is at the front, 0 to 1,000,000
 abbrev pub field_front : Bytes → Front Place
-field_front text = let n = prefix_len is_ascii_digit text in with_rest (option_map Field (number_below 1_000_001 (take n text))) (drop n text)
+field_front text = let n = prefix_len is_ascii_digit text in with_rest (option_map Field (number_below (LAST_FIELD + 1) (take n text))) (drop n text)
 
 -- the element of a key that a bracket closes
 abbrev pub key_closed : Bytes → Constant → Bytes → Front Place

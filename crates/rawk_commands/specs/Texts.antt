@@ -1,6 +1,7 @@
 -- How values and places are shown. Bytes are written by their codes: 9 is a tab, 10 a newline, 34 a quote, 36 `$`, 91 `[`, 92 a
 -- backslash, 93 `]`, 110 `n`, 116 `t`.
 use Rattle.std.specs.Prelude.{ℕ, Bool, ◌+◌, ◌/◌, ◌%◌, ◌==◌, ◌<◌, ◌≤◌, ◌&&◌, ◌||◌, if◌then◌else◌, nat_le, All, IsTrue, [], ◌∷◌, ◌++◌, codes, Option, Some, None}
+use Rattle.rawk_limits.specs.declared.TheConstants.{LAST_FIELD}
 use Rattle.std.specs.List.{flat_map}
 use Rattle.rawk_value.specs.declared.value.Value.{Value}
 use Rattle.rawk_value.specs.declared.value.Value.TheVariants.{Uninitialized, Number, String, Input}
@@ -55,4 +56,4 @@ shown_place (Field number) = 36 ∷ decimal number
 abbrev pub IsPlace : Place → Type 0
 IsPlace (Name name) = IsTrue (is_name name)
 IsPlace (Element name key) = IsTrue (is_name name) × All (λ b. b < 256) key
-IsPlace (Field number) = number ≤ 1_000_000
+IsPlace (Field number) = number ≤ LAST_FIELD

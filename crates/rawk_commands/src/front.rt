@@ -10,12 +10,10 @@ ghost use Rattle.rawk_commands.specs.Words as word;
 
 use crate::asked::{Literal, PlaceName};
 use rawk_lexer::{Cursor, Kind, unquoted};
+use rawk_limits::LAST_FIELD;
 
 /// Numbers without a sign are below it.
 const LIMIT: u64 = 1 << 63;
-
-/// Fields are below it.
-const FIELDS: u64 = 1_000_001;
 
 /// Whether a name may begin with a byte.
 fn is_letter(b: u8) -> bool
@@ -168,7 +166,7 @@ fn field_front(text: &[u8]) -> Option<(PlaceName<'_>, &[u8])>
     ensures { option_map (λ found. (place_written found.0, found.1.now)) result ≡ spec.field_front text.now }
 {
     let (digits, rest) = text.split_at(digits_len(text));
-    let number = number_below(FIELDS, digits)?;
+    let number = number_below(LAST_FIELD as u64 + 1, digits)?;
     Some((PlaceName::Field(number as usize), rest))
 }
 

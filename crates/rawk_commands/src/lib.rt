@@ -14,6 +14,3 @@ pub use command::{C, Command, Constant, Goal, Place, Spot, Way};
 pub use text::{
     push_element, push_held, push_number, push_place, push_shown, push_text, push_value,
 };
-
-#[cfg(test)]
-mod tests;

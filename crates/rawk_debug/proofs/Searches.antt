@@ -9,8 +9,8 @@ use Rattle.rawk_code.specs.Trace.{Trace, number}
 use Rattle.rawk_commands.specs.declared.command.Way.TheVariants.{Forward, Back}
 use Rattle.rawk_commands.specs.declared.command.Goal.{Goal}
 use Rattle.rawk_debug.specs.declared.stop.Entry.{Entry}
-use Rattle.rawk_debug.specs.Positions.{Position, Held, Stands, held_or, trace_under, trace_of, at, here, upto, raised, gone_to, back_at}
-use Rattle.rawk_debug.specs.Watching.{Seen, seen}
+use Rattle.rawk_debug.specs.Positions.{Position, Snapshot, Stands, held_or, trace_under, trace_of, at, here, upto, raised, gone_to, back_at}
+use Rattle.rawk_debug.specs.Watching.{Observed, seen}
 use Rattle.rawk_debug.specs.Moves.{Stand, sought, wanted, depth_of, from_below, from_above, Halts, Returns, is_found}
 
 pub none_is : {X : Type 0} (o : Option X) → is_some o ≡ false → o ≡ None
@@ -23,26 +23,26 @@ point_below t [] j h = absurd (cc)
 point_below t (p ∷ points) zero h = omega arith
 point_below t (p ∷ points) (suc j) h = let i = point_below t points j h in omega arith
 
-not_over : (input : Input) (m : Position) (held : Held) → Stands input m held → is_some held.over ≡ false → m.point < number (trace_of input m)
-not_over input m held s h = point_below (trace_of input m) (trace_of input m).run.points m.point (ap (λ (x : Held). is_some x.over) (sym s.holds) ∙ h)
+not_over : (input : Input) (m : Position) (held : Snapshot) → Stands input m held → is_some held.over ≡ false → m.point < number (trace_of input m)
+not_over input m held s h = point_below (trace_of input m) (trace_of input m).run.points m.point (ap (λ (x : Snapshot). is_some x.over) (sym s.holds) ∙ h)
 
 raised_twice : (h : Option ℕ) (i f : ℕ) → raised h (i + 1) (raised h i f) ≡ raised h (i + 1) f
 raised_twice None i f = refl
 raised_twice (Some n) i f = omega arith
 
 -- a test at a point: whether it is looked for
-pub record Asked (goal : Goal) (mid : Stand) (depth : ℕ) (before : Seen) (held_old held_mid : Held) (asked : Bool) : Type 0 where
+pub record Asked (goal : Goal) (mid : Stand) (depth : ℕ) (before : Observed) (held_old held_mid : Snapshot) (asked : Bool) : Type 0 where
   pub depth_is : depth ≡ depth_of held_old
   pub asked_is : asked ≡ sought goal mid.stops depth before held_mid
 
 -- a session whose machine has taken one step on
-pub record Advanced (mid new : Stand) (held : Held) (before : Seen) : Type 0 where
+pub record Advanced (mid new : Stand) (held : Snapshot) (before : Observed) : Type 0 where
   pub machine : new.machine ≡ gone_to (mid.machine.point + 1) mid.machine
   pub stops : new.stops ≡ mid.stops
   pub made : new.made ≡ mid.made
   pub came : before ≡ seen held.state
 
-module _ (input : Input) (goal : Goal) (old mid new : Stand) (held_old held_mid held_new : Held) (before : Seen) (depth : ℕ) (asked : Bool)
+module _ (input : Input) (goal : Goal) (old mid new : Stand) (held_old held_mid held_new : Snapshot) (before : Observed) (depth : ℕ) (asked : Bool)
     (start : Stands input old.machine held_old) (h : Halts input goal old mid) (at_mid : Stands input mid.machine held_mid)
     (on : Advanced mid new held_mid before) (at_new : Stands input new.machine held_new) (a : Asked goal new depth before held_old held_new asked) (fails : asked ≡ false) where
   -- it stands one point on
@@ -59,7 +59,7 @@ module _ (input : Input) (goal : Goal) (old mid new : Stand) (held_old held_mid 
   came_is : before ≡ from_below input old new.machine.point
   came_is =
       let e : mid.machine.point ≡ new.machine.point - 1 = let p = point_is in omega arith in
-      on.came ∙ ap (λ (x : Held). seen x.state) at_mid.holds ∙ ap (λ (s : Stand). seen (here input s.machine).state) h.same
+      on.came ∙ ap (λ (x : Snapshot). seen x.state) at_mid.holds ∙ ap (λ (s : Stand). seen (here input s.machine).state) h.same
       ∙ ap (λ j. seen (at (trace_of input old.machine) j).state) e
 
   -- the test that is made there is that of the search
@@ -169,14 +169,14 @@ back_keeps old mid new same to room =
     omega arith
 
 -- a session on its way back: nothing is found yet between
-pub record Backs (input : Input) (goal : Goal) (old now : Stand) (before : Seen) : Type 0 where
+pub record Backs (input : Input) (goal : Goal) (old now : Stand) (before : Observed) : Type 0 where
   pub below : now.machine.point < old.machine.point
   pub kept : old.machine.oldest ≤ now.machine.point
   pub first : (i : ℕ) → now.machine.point < i → i < old.machine.point → wanted input Back goal old i ≡ false
   pub same : now ≡ record old { machine = back_at now.machine.point old.machine }
   pub came : before ≡ from_above input old now.machine.point
 
-module _ (law : SetsLawBelow) (input : Input) (goal : Goal) (old mid : Stand) (held_old held_mid : Held) (before : Seen) (depth : ℕ) (asked : Bool)
+module _ (law : SetsLawBelow) (input : Input) (goal : Goal) (old mid : Stand) (held_old held_mid : Snapshot) (before : Observed) (depth : ℕ) (asked : Bool)
     (start : Stands input old.machine held_old) (h : Backs input goal old mid before) (at_mid : Stands input mid.machine held_mid) (a : Asked goal mid depth before held_old held_mid asked) where
   here_back : held_mid ≡ at (trace_of input old.machine) mid.machine.point
   here_back = at_mid.holds ∙ ap (λ (s : Stand). here input s.machine) h.same ∙ trace_back law input old.machine mid.machine.point
@@ -209,7 +209,7 @@ module _ (law : SetsLawBelow) (input : Input) (goal : Goal) (old mid : Stand) (h
       sym e ∙ tested_back ∙ sym (ap (λ b. b && wanted input Back goal old mid.machine.point) b)
 
   -- one step further back
-  pub backs_on : (new : Stand) (came : Seen) → asked ≡ false → mid.machine.oldest < mid.machine.point
+  pub backs_on : (new : Stand) (came : Observed) → asked ≡ false → mid.machine.oldest < mid.machine.point
       → new.machine ≡ back_at (mid.machine.point - 1) mid.machine → new.stops ≡ mid.stops → new.made ≡ mid.made → came ≡ seen held_mid.state → Backs input goal old new came
   backs_on new came fails room to stops made from =
       let b = h.below in
@@ -224,5 +224,5 @@ module _ (law : SetsLawBelow) (input : Input) (goal : Goal) (old mid : Stand) (h
           | inr t ↦ h.first i t.1 u
         ];
         same = back_twice old mid new h.same to stops made;
-        came = from ∙ ap (λ (x : Held). seen x.state) here_back ∙ ap (λ j. seen (at (trace_of input old.machine) j).state) above;
+        came = from ∙ ap (λ (x : Snapshot). seen x.state) here_back ∙ ap (λ j. seen (at (trace_of input old.machine) j).state) above;
       }

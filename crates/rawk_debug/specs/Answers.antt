@@ -5,7 +5,8 @@ use Rattle.rawk_value.specs.declared.fault.Fault.{Fault}
 use Rattle.rawk_value.specs.declared.fault.Fault.TheVariants.{StepLimit}
 use Rattle.rawk_value.specs.Faults.{fault_number, fault_text}
 use Rattle.rawk_code.specs.Actions.{Ended, Faulted, Limited}
-use Rattle.rawk_code.specs.Trace.{special_names, line_at}
+use Rattle.rawk_special.specs.Special.{field_count_name, global_name}
+use Rattle.rawk_syntax.specs.Sites.{line_at}
 use Rattle.rawk_commands.specs.declared.command.Place.TheVariants as place
 use Rattle.rawk_commands.specs.declared.command.C.TheVariants.{OutOfMemory}
 use Rattle.rawk_commands.specs.Refusals.{refusal_line}
@@ -17,19 +18,15 @@ use Rattle.rawk_debug.specs.declared.stop.Stop.TheVariants.{Break, Watch}
 use Rattle.rawk_debug.specs.declared.stop.Entry.{Entry}
 use Rattle.rawk_debug.specs.declared.answer.Answer.{Answer}
 use Rattle.rawk_debug.specs.declared.answer.Answer.TheVariants.{Went, Halted, Returned, Stayed, Shown, TakenBack, Made, Deleted, Traced, Left}
-use Rattle.rawk_debug.specs.Positions.{Position, Held}
-use Rattle.rawk_debug.specs.Watching.{Seen, seen, value_at}
+use Rattle.rawk_debug.specs.Positions.{Position, Snapshot}
+use Rattle.rawk_debug.specs.Watching.{Observed, seen, value_at}
 use Rattle.rawk_debug.specs.Moves.{Stand, hits}
 use Rattle.rawk_debug.specs.Commands.{names_of}
 
--- the name of a global: those of the special variables come first
-abbrev pub name_of : List Bytes → ℕ → Bytes
-name_of names number = slice_index_or (special_names ++ names) number []
-
 -- a place, as it is shown
 abbrev pub place_text : List Bytes → Watched → Bytes
-place_text names (Global number) = name_of names number
-place_text names FieldCount = codes "NF"
+place_text names (Global number) = global_name names number
+place_text names FieldCount = field_count_name
 place_text names (Field number) = shown_place (place.Field number)
 
 -- a breakpoint or a watch, by its kind and number
@@ -46,7 +43,7 @@ abbrev pub stop_line : List Bytes → Entry → Bytes
 stop_line names e = entry_text e ++ watch_text names e.stop ++ 10 ∷ []
 
 -- a line for each breakpoint that stands there and each watch that differs
-abbrev pub stop_lines : List Bytes → Seen → Held → List Entry → Bytes
+abbrev pub stop_lines : List Bytes → Observed → Snapshot → List Entry → Bytes
 stop_lines names came h stops = flat_map (λ e. if hits came h e.stop then stop_line names e else []) stops
 
 -- what is added to a breakpoint or a watch that is made: a breakpoint's line, a watch's place
@@ -75,7 +72,7 @@ site_text lines None = codes "record read"
 site_text lines (Some site) = codes "line " ++ decimal (line_at lines (Some site))
 
 -- where a machine is: how the run ended, or where its point is
-abbrev pub where_text : List ℕ → Held → Bytes
+abbrev pub where_text : List ℕ → Snapshot → Bytes
 where_text lines h = elim h.over [
   | None ↦ site_text lines h.site
   | Some ending ↦ elim ending [
@@ -86,7 +83,7 @@ where_text lines h = elim h.over [
 ]
 
 -- the place line
-abbrev pub place_line : Position → Held → Bytes
+abbrev pub place_line : Position → Snapshot → Bytes
 place_line m h = codes "point " ++ decimal m.point ++ codes ", " ++ where_text m.program.lines.items h ++ 10 ∷ []
 
 -- text as whole lines
@@ -94,15 +91,15 @@ abbrev pub as_lines : Bytes → Bytes
 as_lines text = if nat_eq (slice_index_or text (length text - 1) 10) 10 then text else text ++ 10 ∷ []
 
 -- the output beyond its first bytes
-abbrev pub added : ℕ → Held → Bytes
+abbrev pub added : ℕ → Snapshot → Bytes
 added from h = as_lines (drop from h.state.output)
 
 -- a place and its value
-abbrev pub shown_line : List Bytes → Watched → Held → Bytes
+abbrev pub shown_line : List Bytes → Watched → Snapshot → Bytes
 shown_line names watched h = place_text names watched ++ codes " = " ++ shown_value (value_at watched (seen h.state)) ++ 10 ∷ []
 
 -- What a command is answered that left a session so, its machine having come from where a watch saw this.
-abbrev pub text_of : Stand → Held → Seen → Answer → Bytes
+abbrev pub text_of : Stand → Snapshot → Observed → Answer → Bytes
 text_of s h came (Went from) = added from h ++ stop_lines (names_of s) came h s.stops ++ place_line s.machine h
 text_of s h came (Halted from) = added from h ++ refusal_line OutOfMemory ++ place_line s.machine h
 text_of s h came (Returned found) = (if found then stop_lines (names_of s) came h s.stops else codes "No more reverse-execution history.\n") ++ place_line s.machine h

@@ -20,13 +20,13 @@ use Rattle.rawk_debug.specs.declared.stop.Stop.TheVariants as stop
 use Rattle.rawk_debug.specs.declared.stop.Entry.{Entry}
 use Rattle.rawk_debug.specs.declared.answer.Answer.{Answer}
 use Rattle.rawk_debug.specs.declared.answer.Answer.TheVariants.{Went, Halted, Returned, Stayed, Shown, TakenBack, Made, Deleted, Traced, Left}
-use Rattle.rawk_debug.specs.Positions.{Held, here, back_at, with_set, has_set_at, IsTakenBack}
-use Rattle.rawk_debug.specs.Watching.{Seen}
+use Rattle.rawk_debug.specs.Positions.{Snapshot, here, back_at, with_set, has_set_at, IsTakenBack}
+use Rattle.rawk_debug.specs.Watching.{Observed}
 use Rattle.rawk_debug.specs.Naming.{place_of, site_of, target_of, constant_value, is_refused}
 use Rattle.rawk_debug.specs.Moves.{Stand, Goes, Halts, Returns, is_found, from_below, from_above, depth_of}
 
 -- whether a move leaves a function where there is none
-abbrev pub leaves_none : Goal → Held → Bool
+abbrev pub leaves_none : Goal → Snapshot → Bool
 leaves_none Shallower h = nat_eq (depth_of h) 0
 leaves_none other h = false
 
@@ -52,7 +52,7 @@ reason_of (Ok place) = None
 reason_of (Err reason) = Some reason
 
 -- why a set of a place is refused
-abbrev pub set_refusal : Result Watched C → Constant → Held → Option C
+abbrev pub set_refusal : Result Watched C → Constant → Snapshot → Option C
 set_refusal (Err reason) constant h = Some reason
 set_refusal (Ok place) constant h =
     if is_some h.over then Some ProgramEnded
@@ -64,7 +64,7 @@ abbrev pub names_of : Stand → List Bytes
 names_of s = s.machine.program.names.items
 
 -- Why a command is refused: where several reasons hold, that of the least number.
-abbrev pub refusal : Command → Stand → Held → Option C
+abbrev pub refusal : Command → Stand → Snapshot → Option C
 refusal (Break spot) s h = if nat_le most s.made then Some BadArgument else if is_none (site_of s.machine.program spot) then Some NoSuchPlace else None
 refusal (Watch place) s h = if nat_le most s.made then Some BadArgument else reason_of (place_of (names_of s) place)
 refusal (Delete n) s h = if is_none (entry_of true n s.stops) then Some NoSuchNumber else None
@@ -79,17 +79,17 @@ refusal Backtrace s h = None
 refusal Quit s h = None
 
 -- the length of the output
-abbrev pub written : Held → ℕ
+abbrev pub written : Snapshot → ℕ
 written h = length h.state.output
 
 -- a forward move has come to its end, or was refused memory on the way
-abbrev pub Forwards : Input → Goal → Stand → Answer → Seen → Stand → Type 0
+abbrev pub Forwards : Input → Goal → Stand → Answer → Observed → Stand → Type 0
 Forwards input goal old (Went from) came new = (from ≡ written (here input old.machine)) × Goes input goal old new × (came ≡ from_below input old new.machine.point)
 Forwards input goal old (Halted from) came new = (from ≡ written (here input old.machine)) × Halts input goal old new
 Forwards input goal old other came new = ⊥
 
 -- a backward move
-abbrev pub Backwards : Input → Goal → Stand → Answer → Seen → Stand → Type 0
+abbrev pub Backwards : Input → Goal → Stand → Answer → Observed → Stand → Type 0
 Backwards input goal old answer came new =
     (answer ≡ Returned (is_found input goal old new.machine.point)) × Returns input goal old new
     × (is_found input goal old new.machine.point ≡ true → came ≡ from_above input old new.machine.point)
@@ -110,7 +110,7 @@ Removes breaks n old answer new =
     (e : Entry) × (entry_of breaks n old.stops ≡ Some e) × (answer ≡ Deleted e) × (new ≡ record old { stops = filter (λ e. not (is_entry breaks n e)) old.stops })
 
 -- What a command that is not refused does.
-abbrev pub Does : Input → Command → Stand → Answer → Seen → Stand → Type 0
+abbrev pub Does : Input → Command → Stand → Answer → Observed → Stand → Type 0
 Does input (Break spot) old answer came new = (site : ℕ) × (site_of old.machine.program spot ≡ Some site) × Makes (stop.Break site) old answer new
 Does input (Watch place) old answer came new = (w : Watched) × (place_of (names_of old) place ≡ Ok w) × Makes (stop.Watch w) old answer new
 Does input (Delete n) old answer came new = Removes true n old answer new
@@ -132,7 +132,7 @@ abbrev pub needs_memory : Command → Bool
 needs_memory command = names_something command
 
 -- A command has been executed, the state before its last step being as a watch saw it, or it was refused, which changes nothing.
-abbrev pub Executes : Input → Command → Stand → Result Answer C → Seen → Stand → Type 0
+abbrev pub Executes : Input → Command → Stand → Result Answer C → Observed → Stand → Type 0
 Executes input command old (Ok answer) came new = (refusal command old (here input old.machine) ≡ None) × Does input command old answer came new
 Executes input command old (Err OutOfMemory) came new = (needs_memory command ≡ true) × (new ≡ old)
 Executes input command old (Err reason) came new = (refusal command old (here input old.machine) ≡ Some reason) × (new ≡ old)

@@ -9,7 +9,7 @@ use Rattle.rawk_commands.specs.declared.command.Constant.{Constant}
 use Rattle.rawk_debug.specs.declared.answer.Answer.{Answer}
 use Rattle.rawk_debug.specs.declared.answer.Answer.TheVariants.{Went}
 use Rattle.rawk_debug.specs.Positions.{IsPosition, here}
-use Rattle.rawk_debug.specs.Watching.{Seen}
+use Rattle.rawk_debug.specs.Watching.{Observed}
 use Rattle.rawk_debug.specs.Moves.{Stand}
 use Rattle.rawk_debug.specs.Commands.{Executes}
 
@@ -29,11 +29,11 @@ pub record IsBack (input : Input) (old new : Stand) : Type 0 where
 -- `step`, where it is not refused, and then `reverse-step` lead back
 abbrev pub StepLaw : Type 0
 StepLaw =
-    (input : Input) (old mid new : Stand) (from : ℕ) (answer : Answer) (came last : Seen) → IsPosition old.machine → KeepsAStep old.machine.history
+    (input : Input) (old mid new : Stand) (from : ℕ) (answer : Answer) (came last : Observed) → IsPosition old.machine → KeepsAStep old.machine.history
     → Executes input (Move Forward AnyPoint) old (Ok (Went from)) came mid → Executes input (Move Back AnyPoint) mid (Ok answer) last new → IsBack input old new
 
 -- `set`, where it is not refused, and then `reverse-set` lead back
 abbrev pub SetLaw : Type 0
 SetLaw =
-    (input : Input) (place : Place) (constant : Constant) (old mid new : Stand) (shown answer : Answer) (came last : Seen)
+    (input : Input) (place : Place) (constant : Constant) (old mid new : Stand) (shown answer : Answer) (came last : Observed)
     → Executes input (Set place constant) old (Ok shown) came mid → Executes input ReverseSet mid (Ok answer) last new → new ≡ old

@@ -11,8 +11,8 @@ use Rattle.rawk_commands.specs.declared.command.Goal.TheVariants.{AnyPoint, NoDe
 use Rattle.rawk_debug.specs.declared.stop.Stop.{Stop}
 use Rattle.rawk_debug.specs.declared.stop.Stop.TheVariants.{Break, Watch}
 use Rattle.rawk_debug.specs.declared.stop.Entry.{Entry}
-use Rattle.rawk_debug.specs.Positions.{Position, Held, trace_of, at, gone_to, back_at}
-use Rattle.rawk_debug.specs.Watching.{Seen, seen, differs}
+use Rattle.rawk_debug.specs.Positions.{Position, Snapshot, trace_of, at, gone_to, back_at}
+use Rattle.rawk_debug.specs.Watching.{Observed, seen, differs}
 
 -- whether a site stands there; at the ending none does
 abbrev pub stands_at : ℕ → Option Ending → Option ℕ → Bool
@@ -21,19 +21,19 @@ stands_at site None None = false
 stands_at site (Some ending) other = false
 
 -- whether a breakpoint or a watch stops at a point that was come to from where a watch saw this
-abbrev pub hits : Seen → Held → Stop → Bool
+abbrev pub hits : Observed → Snapshot → Stop → Bool
 hits came h (Break site) = stands_at site h.over h.site
 hits came h (Watch place) = differs place came (seen h.state)
 
-abbrev pub stops_at : List Entry → Seen → Held → Bool
+abbrev pub stops_at : List Entry → Observed → Snapshot → Bool
 stops_at stops came h = list_any (λ e. hits came h e.stop) stops
 
 -- the number of activations
-abbrev pub depth_of : Held → ℕ
+abbrev pub depth_of : Snapshot → ℕ
 depth_of h = length h.state.frames
 
 -- whether a move that began at this depth looks for the point
-abbrev pub sought : Goal → List Entry → ℕ → Seen → Held → Bool
+abbrev pub sought : Goal → List Entry → ℕ → Observed → Snapshot → Bool
 sought AnyPoint stops depth came h = true
 sought NoDeeper stops depth came h = nat_le (depth_of h) depth || stops_at stops came h
 sought Shallower stops depth came h = nat_lt (depth_of h) depth || stops_at stops came h
@@ -95,8 +95,8 @@ abbrev pub is_found : Input → Goal → Stand → ℕ → Bool
 is_found input goal old j = nat_lt j old.machine.point && wanted input Back goal old j
 
 -- the state before the last step of a forward move to j, and of a backward one, as a watch sees it
-abbrev pub from_below : Input → Stand → ℕ → Seen
+abbrev pub from_below : Input → Stand → ℕ → Observed
 from_below input old j = seen (at (trace_of input old.machine) (j - 1)).state
 
-abbrev pub from_above : Input → Stand → ℕ → Seen
+abbrev pub from_above : Input → Stand → ℕ → Observed
 from_above input old j = seen (at (trace_of input old.machine) (j + 1)).state

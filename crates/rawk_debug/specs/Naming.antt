@@ -1,13 +1,13 @@
 -- What a session's names are in a program.
-use Rattle.std.specs.Prelude.{ℕ, ◌++◌, Bool, true, List, nat_eq, nat_lt, if◌then◌else◌, position, Option, Some, None, is_some, option_map, Result, Ok, Err, codes}
-use Rattle.std.specs.Str.{bytes_eq}
+use Rattle.std.specs.Prelude.{ℕ, Bool, true, List, nat_eq, nat_lt, if◌then◌else◌, position, Option, Some, None, is_some, option_map, Result, Ok, Err}
 use Rattle.rawk_syntax.specs.declared.tree.Program.{Program}
 use Rattle.rawk_value.specs.declared.value.Value.{Value}
 use Rattle.rawk_value.specs.declared.value.Value.TheVariants.{Number, String}
 use Rattle.rawk_value.specs.Values.{Bytes}
 use Rattle.rawk_store.specs.State.{State, Target, assigned}
 use Rattle.rawk_store.specs.declared.target.Target.TheVariants as target
-use Rattle.rawk_code.specs.Trace.{special_names}
+use Rattle.rawk_special.specs.declared.special.TheConstants.{COUNT}
+use Rattle.rawk_special.specs.Special.{global_number, is_field_count}
 use Rattle.rawk_commands.specs.declared.command.Place.{Place}
 use Rattle.rawk_commands.specs.declared.command.Place.TheVariants.{Name, Element, Field}
 use Rattle.rawk_commands.specs.declared.command.Spot.{Spot}
@@ -22,7 +22,7 @@ use Rattle.rawk_debug.specs.Positions.{fault_of}
 
 -- what a name is: NF, a special variable, or a global of the program
 abbrev pub named : List Bytes → Bytes → Option Watched
-named names name = if bytes_eq name (codes "NF") then Some watched.FieldCount else option_map watched.Global (position (bytes_eq name) (special_names ++ names))
+named names name = if is_field_count name then Some watched.FieldCount else option_map watched.Global (global_number names name)
 
 -- the value, or else why there is none
 abbrev pub or_refused : C → Option Watched → Result Watched C
@@ -40,13 +40,9 @@ abbrev pub site_of : Program → Spot → Option ℕ
 site_of p (Line line) = position (λ at. nat_eq at line) p.lines.items
 site_of p (Function name) = None
 
--- how many special variables have a number
-abbrev pub specials : ℕ
-specials = 11
-
 -- what can be assigned: special variables and fields cannot
 abbrev pub target_of : Watched → Option Target
-target_of (watched.Global number) = if nat_lt number specials then None else Some (target.Global number)
+target_of (watched.Global number) = if nat_lt number COUNT then None else Some (target.Global number)
 target_of watched.FieldCount = None
 target_of (watched.Field number) = None
 

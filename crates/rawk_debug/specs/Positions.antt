@@ -22,7 +22,7 @@ pub record Position : Type 0 where
   pub oldest : ℕ
 
 -- what a machine holds: how the run ended, where it is over, the site of the point or of the ending, and the state
-pub record Held : Type 0 where
+pub record Snapshot : Type 0 where
   pub over : Option Ending
   pub site : Option ℕ
   pub state : State
@@ -35,16 +35,16 @@ trace_under program settings steps input sets = trace program settings (record {
 abbrev pub trace_of : Input → Position → Trace
 trace_of input m = trace_under m.program m.settings m.steps input m.sets
 
-abbrev pub held_or : Trace → Option Point → Held
+abbrev pub held_or : Trace → Option Point → Snapshot
 held_or t None = record { over = Some t.ending; site = site_at_end t.ending t.run; state = t.run.state }
 held_or t (Some point) = record { over = None; site = point.site; state = point.state }
 
 -- a trace's point j; from the ending's number on the ending
-abbrev pub at : Trace → ℕ → Held
+abbrev pub at : Trace → ℕ → Snapshot
 at t j = held_or t (slice_get t.run.points j)
 
 -- what a machine at this position holds
-abbrev pub here : Input → Position → Held
+abbrev pub here : Input → Position → Snapshot
 here input m = at (trace_of input m) m.point
 
 -- the sets of the points 0 to k
@@ -92,7 +92,7 @@ pub record IsPosition (m : Position) : Type 0 where
   pub past : upto m.point m.sets ≡ m.sets
 
 -- a machine holds what the trace has at its position, which is a point of it or its ending
-pub record Stands (input : Input) (m : Position) (held : Held) : Type 0 where
+pub record Stands (input : Input) (m : Position) (held : Snapshot) : Type 0 where
   pub within : m.point ≤ number (trace_of input m)
   pub holds : held ≡ here input m
 

@@ -13,19 +13,19 @@ use Rattle.rawk_debug.specs.declared.answer.Answer.{Answer}
 use Rattle.rawk_debug.specs.declared.transcript.Reply.{Reply}
 use Rattle.rawk_debug.specs.declared.transcript.Reply.TheVariants.{Text, Line, Nothing, Quits}
 use Rattle.rawk_debug.specs.Positions.{here}
-use Rattle.rawk_debug.specs.Watching.{Seen}
+use Rattle.rawk_debug.specs.Watching.{Observed}
 use Rattle.rawk_debug.specs.Moves.{Stand}
 use Rattle.rawk_debug.specs.Commands.{Executes}
 use Rattle.rawk_debug.specs.Answers.{text_of}
 
 -- the text of an outcome that left the session so; an answer is lost where its text is refused memory
-abbrev pub Says : Input → Stand → Seen → Result Answer C → Bytes → Type 0
+abbrev pub Says : Input → Stand → Observed → Result Answer C → Bytes → Type 0
 Says input new came (Ok answer) text = (text ≡ text_of new (here input new.machine) came answer) ⊎ (text ≡ refusal_line AnswerLost)
 Says input new came (Err reason) text = text ≡ refusal_line reason
 
 -- a command is executed, or refused, and the outcome told
 abbrev pub Obeys : Input → Command → Stand → Bytes → Stand → Type 0
-Obeys input command old text new = (outcome : Result Answer C) × (came : Seen) × Executes input command old outcome came new × Says input new came outcome text
+Obeys input command old text new = (outcome : Result Answer C) × (came : Observed) × Executes input command old outcome came new × Says input new came outcome text
 
 -- what a line asks for is obeyed; a line that asks for nothing is not answered, and one that cannot be read is refused
 abbrev pub Follows : Input → Result (Option Command) C → Stand → Bytes → Stand → Type 0

@@ -1,67 +1,23 @@
 //! What the names of a command are in a program.
 
-ghost use Rattle.std.specs.Prelude.{◌≡◌, ◌++◌, position};
-ghost use Rattle.std.specs.Str.{bytes_eq};
-ghost use Rattle.rawk_code.specs.Trace.{special_names};
+ghost use Rattle.std.specs.Prelude.{◌≡◌};
 ghost use Rattle.rawk_debug.specs.Naming.{named, place_of, site_of, target_of, constant_value};
 
 use crate::stop::Watched;
 use rawk_commands::{C, Constant, Place, Spot};
+use rawk_special::{COUNT, global_number, is_field_count};
 use rawk_store::Target;
 use rawk_syntax::Program;
 use rawk_value::{Bytes, Value};
-
-/// The names of the special variables, in the order of their numbers.
-pub(crate) static SPECIAL: [&[u8]; 11] = [
-    b"NR", b"FNR", b"FS", b"OFS", b"ORS", b"RS", b"SUBSEP", b"CONVFMT", b"OFMT", b"RSTART",
-    b"RLENGTH",
-];
-
-/// How many special variables have a number.
-pub(crate) const SPECIALS: usize = 11;
-
-/// The place of a word among several.
-fn place_among(word: &[u8], words: &[&[u8]]) -> Option<usize>
-    ensures { result ≡ position (λ w. bytes_eq word.now w.now) words.now }
-{
-    words.iter().position(|w| word == *w)
-}
-
-/// The number of a special variable.
-fn special_number(name: &[u8]) -> Option<usize>
-    ensures { result ≡ position (bytes_eq name.now) special_names }
-{
-    place_among(name, &SPECIAL)
-}
-
-/// The place of a name among those of the other globals.
-fn other_number(name: &[u8], names: &[Bytes]) -> Option<usize>
-    ensures { result ≡ position (bytes_eq name.now) names.now }
-{
-    names.iter().position(|w| name == w.as_slice())
-}
-
-/// The number of a global.
-fn global_number(name: &[u8], names: &[Bytes]) -> Option<usize>
-    ensures { result ≡ position (bytes_eq name.now) (special_names ++ names.now) }
-{
-    match special_number(name) {
-        Some(number) => Some(number),
-        None => match other_number(name, names) {
-            Some(number) => Some(number + SPECIALS),
-            None => None,
-        },
-    }
-}
 
 /// What a name is.
 fn named(names: &[Bytes], name: &[u8]) -> Option<Watched>
     ensures { result ≡ named names.now name.now }
 {
-    if name == b"NF".as_slice() {
+    if is_field_count(name) {
         return Some(Watched::FieldCount);
     }
-    match global_number(name, names) {
+    match global_number(names, name) {
         Some(number) => Some(Watched::Global(number)),
         None => None,
     }
@@ -100,7 +56,7 @@ pub(crate) fn target_of(place: Watched) -> Option<Target>
 {
     match place {
         Watched::Global(number) => {
-            if number < SPECIALS {
+            if number < COUNT {
                 None
             } else {
                 Some(Target::Global(number))

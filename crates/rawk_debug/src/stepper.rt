@@ -4,8 +4,8 @@ ghost use Rattle.std.specs.Prelude.{◌≡◌, ◌+◌, ◌-◌, ◌<◌, Bool, 
 ghost use Rattle.rawk_tape.specs.Records.{Input};
 ghost use Rattle.rawk_record.specs.FieldRefs.{ref_value};
 ghost use Rattle.rawk_store.specs.State.{assigned};
-ghost use Rattle.rawk_debug.specs.Positions.{Position, Held, IsPosition, Stands, IsTakenBack, ending_of, fault_of, gone_to, back_at, with_set, has_set_at};
-ghost use Rattle.rawk_debug.specs.Watching.{Seen, seen, differs};
+ghost use Rattle.rawk_debug.specs.Positions.{Position, Snapshot, IsPosition, Stands, IsTakenBack, ending_of, fault_of, gone_to, back_at, with_set, has_set_at};
+ghost use Rattle.rawk_debug.specs.Watching.{Observed, seen, differs};
 
 use crate::stop::Watched;
 use rawk_record::FieldRef;
@@ -25,10 +25,10 @@ pub trait Stepper: Drop {
     ghost may_be: { Self → Input → Type 0 };
 
     /// What it holds.
-    ghost held: { Self → Held };
+    ghost held: { Self → Snapshot };
 
     /// What a watch saw before the last step.
-    ghost before: { Self → Seen };
+    ghost before: { Self → Observed };
 
     /// Whether it has stepped, and nothing was set or taken back since.
     ghost fresh: { Self → Bool };

@@ -2,41 +2,28 @@
 
 ghost use Rattle.std.specs.Prelude.{◌≡◌, ◌++◌, ◌∷◌, [], codes, OnOk};
 ghost use Rattle.rawk_value.specs.Values.{decimal};
-ghost use Rattle.rawk_code.specs.Trace.{line_at};
+ghost use Rattle.rawk_syntax.specs.Sites.{line_at};
 ghost use Rattle.rawk_commands.specs.Texts.{shown_value};
 ghost use Rattle.rawk_debug.specs.Watching.{seen, value_at};
-ghost use Rattle.rawk_debug.specs.Answers.{name_of, place_text, entry_text, watch_text, stop_line, spot_text, made_line, deleted_line, at_line, fault_place, site_text, where_text, place_line, as_lines, added, shown_line};
+ghost use Rattle.rawk_debug.specs.Answers.{place_text, entry_text, watch_text, stop_line, spot_text, made_line, deleted_line, at_line, fault_place, site_text, where_text, place_line, as_lines, added, shown_line};
 
-use crate::naming::{SPECIAL, SPECIALS};
 use crate::stepper::Stepper;
 use crate::stop::{Entry, Stop, Watched};
 use rawk_commands::{push_number, push_shown, push_text, push_value};
 use rawk_record::FieldRef;
+use rawk_special::{FIELD_COUNT, global_name};
 use rawk_store::Ending;
 use rawk_syntax::Program;
 use rawk_value::{Bytes, Fault};
 use std::alloc::AllocError;
-
-/// The name of a global.
-fn name_of(names: &[Bytes], number: usize) -> &[u8]
-    ensures { result.now ≡ name_of names.now number }
-{
-    if number < SPECIALS {
-        return SPECIAL[number];
-    }
-    match names.get(number - SPECIALS) {
-        Some(name) => name.as_slice(),
-        None => b"",
-    }
-}
 
 /// Adds a place.
 fn push_place(out: &mut Vec<u8>, names: &[Bytes], place: Watched) -> Result<(), AllocError>
     ensures { OnOk result (out.new.items ≡ out.old.items ++ place_text names.now place) }
 {
     match place {
-        Watched::Global(number) => push_text(out, name_of(names, number)),
-        Watched::FieldCount => push_text(out, b"NF"),
+        Watched::Global(number) => push_text(out, global_name(names, number)),
+        Watched::FieldCount => push_text(out, FIELD_COUNT),
         Watched::Field(number) => {
             push_text(out, b"$")?;
             push_number(out, number as u64)
@@ -86,19 +73,6 @@ pub(crate) fn push_stop_line(
     push_text(out, b"\n")
 }
 
-/// The line of a site.
-fn line_at(lines: &[u64], site: Option<usize>) -> u64
-    ensures { result ≡ line_at lines.now site }
-{
-    match site {
-        None => 0,
-        Some(site) => match lines.get(site) {
-            Some(line) => *line,
-            None => 0,
-        },
-    }
-}
-
 /// Adds a breakpoint's line, or a watch's place behind a colon.
 fn push_spot(out: &mut Vec<u8>, program: &Program, stop: Stop) -> Result<(), AllocError>
     ensures { OnOk result (out.new.items ≡ out.old.items ++ spot_text program.now.lines.items program.now.names.items stop) }
@@ -106,7 +80,7 @@ fn push_spot(out: &mut Vec<u8>, program: &Program, stop: Stop) -> Result<(), All
     match stop {
         Stop::Break(site) => {
             push_text(out, b" at line ")?;
-            push_number(out, line_at(&program.lines, Some(site)))
+            push_number(out, program.line_of_site(Some(site)))
         }
         Stop::Watch(place) => {
             push_text(out, b": ")?;
@@ -163,14 +137,14 @@ fn push_fault(out: &mut Vec<u8>, fault: Fault, line: u64) -> Result<(), AllocErr
 }
 
 /// Adds where a point is.
-fn push_site(out: &mut Vec<u8>, lines: &[u64], site: Option<usize>) -> Result<(), AllocError>
-    ensures { OnOk result (out.new.items ≡ out.old.items ++ site_text lines.now site) }
+fn push_site(out: &mut Vec<u8>, program: &Program, site: Option<usize>) -> Result<(), AllocError>
+    ensures { OnOk result (out.new.items ≡ out.old.items ++ site_text program.now.lines.items site) }
 {
     match site {
         None => push_text(out, b"record read"),
         Some(_) => {
             push_text(out, b"line ")?;
-            push_number(out, line_at(lines, site))
+            push_number(out, program.line_of_site(site))
         }
     }
 }
@@ -179,7 +153,7 @@ fn push_site(out: &mut Vec<u8>, lines: &[u64], site: Option<usize>) -> Result<()
 fn line_here<M: Stepper>(machine: &M) -> u64
     ensures { result ≡ line_at (M.position machine.now).program.lines.items (M.held machine.now).site }
 {
-    line_at(&machine.program().lines, machine.site())
+    machine.program().line_of_site(machine.site())
 }
 
 /// Adds how the run ended, or where the point is.
@@ -187,7 +161,7 @@ fn push_where<M: Stepper>(out: &mut Vec<u8>, machine: &M) -> Result<(), AllocErr
     ensures { OnOk result (out.new.items ≡ out.old.items ++ where_text (M.position machine.now).program.lines.items (M.held machine.now)) }
 {
     match machine.ending() {
-        None => push_site(out, &machine.program().lines, machine.site()),
+        None => push_site(out, machine.program(), machine.site()),
         Some(Ending::Ended) => {
             push_text(out, b"ended with status ")?;
             push_number(out, machine.status() as u64)

@@ -3,10 +3,10 @@ use Rattle.std.proofs.Common.{◌≡◌, ℕ, ◌+◌, ◌⊎◌, inl, inr, Bool
 use Rattle.std.proofs.lemmas.List.{append-nil, drop-drop}
 use Rattle.rawk_ere.specs.declared.token.Token.{Token}
 use Rattle.rawk_ere.specs.declared.token.Token.TheVariants as token
-use Rattle.rawk_ere.specs.declared.bracket.Place.{Place}
-use Rattle.rawk_ere.specs.declared.bracket.Place.TheVariants.{First, AfterByte, AfterRange}
+use Rattle.rawk_ere.specs.declared.bracket.BracketPlace.{BracketPlace}
+use Rattle.rawk_ere.specs.declared.bracket.BracketPlace.TheVariants.{First, AfterByte, AfterRange}
 use Rattle.rawk_ere.specs.declared.bracket.Item.{Item}
-use Rattle.rawk_ere_code.specs.ByteSets.{HasAlso, IsInRanges, IsSetOf, IsIn}
+use Rattle.rawk_ere_tree.specs.ByteSets.{HasAlso, IsInRanges, IsSetOf, IsIn}
 use Rattle.rawk_ere.specs.Pattern.{begins, item_at, ranges_in, closes, Items, closed, more, IsBracket, IsBracketed}
 use Rattle.rawk_ere.proofs.ByteSetLemmas.{also_none, also_both, set_with, set_where}
 
@@ -19,7 +19,7 @@ in_either b [] ys h = inr h
 in_either b (x ∷ xs) ys h = elim h [ inl is ↦ inl (inl is) | inr m ↦ elim (in_either b xs ys m) [ inl l ↦ inl (inr l) | inr r ↦ inr r ] ]
 
 -- the items before here have been gathered
-pub record Gathering (from : List ℕ) (place : Place) (here old new : List ℕ) : Type 0 where
+pub record Gathering (from : List ℕ) (place : BracketPlace) (here old new : List ℕ) : Type 0 where
   pub sofar : List (ℕ × ℕ)
   pub has : HasAlso old new (λ b. IsInRanges b sofar)
   pub forward : (ranges : List (ℕ × ℕ)) (rest : List ℕ) → Items place here ranges rest → Items First from (sofar ++ ranges) rest
@@ -33,26 +33,26 @@ gather_start from old = record {
   back = λ ranges rest d. (ranges, d);
 }
 
-items_go : {p : Place} {s rest : List ℕ} {ranges : List (ℕ × ℕ)} → Items p s ranges rest → closes p s ≡ false
-    → (item : Item) × (q : Place) × (mid : List ℕ) × (others : List (ℕ × ℕ)) × (item_at p s ≡ Some (item, q, mid)) × Items q mid others rest
+items_go : {p : BracketPlace} {s rest : List ℕ} {ranges : List (ℕ × ℕ)} → Items p s ranges rest → closes p s ≡ false
+    → (item : Item) × (q : BracketPlace) × (mid : List ℕ) × (others : List (ℕ × ℕ)) × (item_at p s ≡ Some (item, q, mid)) × Items q mid others rest
 items_go (closed e) n = absurd (true≢false (sym e ∙ n))
 items_go (more {q = q} {mid = mid} {item = item} {ranges = others} n i d) _ = (item, q, mid, others, i, d)
 
-abbrev the : Item × Place × List ℕ → Option (Item × Place × List ℕ) → Item × Place × List ℕ
+abbrev the : Item × BracketPlace × List ℕ → Option (Item × BracketPlace × List ℕ) → Item × BracketPlace × List ℕ
 the d None = d
 the d (Some x) = x
 
-abbrev found : Item → Place → List ℕ → Option (Item × Place × List ℕ)
+abbrev found : Item → BracketPlace → List ℕ → Option (Item × BracketPlace × List ℕ)
 found item p m = Some (item, p, m)
 
-same_item : (a b : Item) (p q : Place) (m n : List ℕ) → found a p m ≡ found b q n → (p ≡ q) × (m ≡ n)
+same_item : (a b : Item) (p q : BracketPlace) (m n : List ℕ) → found a p m ≡ found b q n → (p ≡ q) × (m ≡ n)
 same_item a b p q m n e = (ap (λ o. (the (a, p, m) o).1) e, ap (λ o. (the (a, p, m) o).2) e)
 
-abbrev is_item : Option (Item × Place × List ℕ) → Bool
+abbrev is_item : Option (Item × BracketPlace × List ℕ) → Bool
 is_item None = false
 is_item (Some x) = true
 
-pub gather_more : (from : List ℕ) (place q : Place) (here mid old new newer : List ℕ) (item : Item) → Gathering from place here old new → closes place here ≡ false → item_at place here ≡ Some (item, q, mid)
+pub gather_more : (from : List ℕ) (place q : BracketPlace) (here mid old new newer : List ℕ) (item : Item) → Gathering from place here old new → closes place here ≡ false → item_at place here ≡ Some (item, q, mid)
     → HasAlso new newer (λ b. IsInRanges b (ranges_in item)) → Gathering from q mid old newer
 gather_more from place q here mid old new newer item g n i h = record {
   sofar = g.sofar ++ ranges_in item;
@@ -68,29 +68,29 @@ gather_more from place q here mid old new newer item g n i h = record {
       (go.3, subst (λ x. Items x mid go.3 rest) same_place (subst (λ x. Items go.1 x go.3 rest) same_mid go.5));
 }
 
-pub gather_end : (from : List ℕ) (place : Place) (at : ℕ) (p old new : List ℕ) → Gathering from place (drop at p) old new → closes place (drop at p) ≡ true
+pub gather_end : (from : List ℕ) (place : BracketPlace) (at : ℕ) (p old new : List ℕ) → Gathering from place (drop at p) old new → closes place (drop at p) ≡ true
     → (ranges : List (ℕ × ℕ)) × Items First from ranges (drop (at + 1) p) × HasAlso old new (λ b. IsInRanges b ranges)
 gather_end from place at p old new g e =
     let d = g.forward [] (drop 1 (drop at p)) (closed e) in
     (g.sofar, subst (λ l. Items First from g.sofar l) (drop-drop 1 at p) (subst (λ l. Items First from l (drop 1 (drop at p))) (append-nil g.sofar) d), g.has)
 
-pub gather_none : (from : List ℕ) (place : Place) (here old new : List ℕ) → Gathering from place here old new → closes place here ≡ false → item_at place here ≡ None
+pub gather_none : (from : List ℕ) (place : BracketPlace) (here old new : List ℕ) → Gathering from place here old new → closes place here ≡ false → item_at place here ≡ None
     → (ranges : List (ℕ × ℕ)) (rest : List ℕ) → Items First from ranges rest → ⊥
 gather_none from place here old new g n i ranges rest d =
     let b = g.back ranges rest d in
     let go = items_go b.1 n in
     true≢false (sym (ap is_item go.4) ∙ ap is_item i)
 
-not_closed : (place : Place) → closes place [] ≡ false
+not_closed : (place : BracketPlace) → closes place [] ≡ false
 not_closed First = refl
 not_closed AfterByte = refl
 not_closed AfterRange = refl
 
-no_item : (place : Place) → item_at place [] ≡ None
+no_item : (place : BracketPlace) → item_at place [] ≡ None
 unfolding item_at
 no_item place = refl
 
-pub gather_open : (from : List ℕ) (place : Place) (here old new : List ℕ) → here ≡ [] → Gathering from place here old new → (ranges : List (ℕ × ℕ)) (rest : List ℕ) → Items First from ranges rest → ⊥
+pub gather_open : (from : List ℕ) (place : BracketPlace) (here old new : List ℕ) → here ≡ [] → Gathering from place here old new → (ranges : List (ℕ × ℕ)) (rest : List ℕ) → Items First from ranges rest → ⊥
 gather_open from place here old new z g =
     gather_none from place here old new g (ap (closes place) z ∙ not_closed place) (ap (item_at place) z ∙ no_item place)
 

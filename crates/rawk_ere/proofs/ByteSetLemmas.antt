@@ -6,7 +6,7 @@ use Rattle.std.proofs.lemmas.Bool.{cases_eq}
 use Rattle.std.proofs.lemmas.List.{ext_get_or}
 use Rattle.std.proofs.lemmas.Nat.{or_lt}
 use Rattle.std.proofs.lemmas.Nat.Bits.{bit_at_set_same, bit_at_set_other, bit_at-lt, same_from_bits_below}
-use Rattle.rawk_ere_code.specs.ByteSets.{IsIn, HasAlso, IsSetOf, IsInRanges}
+use Rattle.rawk_ere_tree.specs.ByteSets.{IsIn, HasAlso, IsSetOf, IsInRanges}
 
 -- the word of a byte with its bit
 abbrev word_with : ℕ → ℕ → ℕ

@@ -2,7 +2,7 @@
 use Rattle.std.proofs.Common.{◌≡◌, ℕ, ◌+◌, ◌-◌, ◌≤◌, min, Bool, true, false, ◌&&◌, if◌then◌else◌, List, drop, refl, sym, ap, ◌∙◌, arith}
 use Rattle.std.specs.Prelude.{nat_le}
 use Rattle.std.proofs.lemmas.List.{drop-drop}
-use Rattle.rawk_ere_code.specs.declared.node.Count.TheVariants.{AtLeast, Between}
+use Rattle.rawk_ere_tree.specs.declared.node.Count.TheVariants.{AtLeast, Between}
 use Rattle.rawk_ere.specs.Pattern.{begins, begins_digit, digits_from, Braced, Itself, Wrong, Interval, at_least, between, exactly, after_comma, after_least, without_least, braced}
 use Rattle.rawk_ere.proofs.PatternLemmas.{le_true}
 

@@ -5,5 +5,4 @@ pub mod PatternLemmas
 pub mod BracketLemmas
 pub mod IntervalLemmas
 pub mod ScanLemmas
-pub mod ReadsLemmas
-pub mod NonemptyLemmas
+pub mod PatternOfLemmas

@@ -3,13 +3,13 @@ use Rattle.std.proofs.Common.{◌≡◌, ℕ, zero, suc, ◌+◌, ◌*◌, ◌<�
 use Rattle.std.proofs.Math.Nat.{mul-le-mul_right}
 use Rattle.std.proofs.lemmas.Bool.{cases_lt}
 use Rattle.std.proofs.lemmas.List.{map-append}
-use Rattle.rawk_ere_code.specs.declared.node.Count.{Count}
-use Rattle.rawk_ere_code.specs.declared.node.Count.TheVariants.{Star, Plus, Maybe, AtLeast, Between}
-use Rattle.rawk_ere_code.specs.declared.node.Node.{Node}
-use Rattle.rawk_ere_code.specs.declared.node.Node.TheVariants as node
-use Rattle.rawk_ere_code.specs.Tree.{Tree, Join, Either, repeated_size}
-use Rattle.rawk_ere_code.specs.Node.{tree_of, join_all, either_all, joined, alternated}
-use Rattle.rawk_ere_code.specs.Rows.{tree-Join, tree-Either}
+use Rattle.rawk_ere_tree.specs.declared.node.Count.{Count}
+use Rattle.rawk_ere_tree.specs.declared.node.Count.TheVariants.{Star, Plus, Maybe, AtLeast, Between}
+use Rattle.rawk_ere_tree.specs.declared.node.Node.{Node}
+use Rattle.rawk_ere_tree.specs.declared.node.Node.TheVariants as node
+use Rattle.rawk_ere_tree.specs.Tree.{Tree, Join, Either, repeated_size}
+use Rattle.rawk_ere_tree.specs.Node.{tree_of, join_all, either_all, joined, alternated}
+use Rattle.rawk_ere_tree.specs.Rows.{tree-Join, tree-Either}
 
 join_all_last : (a : Tree) (xs : List Tree) (b : Tree) → join_all a (xs ++ b ∷ []) ≡ Join (join_all a xs) b
 join_all_last a [] b = refl

@@ -3,14 +3,14 @@ use Rattle.std.proofs.Common.{◌≡◌, ℕ, ◌+◌, ◌<◌, ◌≤◌, Bool,
 use Rattle.std.specs.Prelude.{nat_le}
 use Rattle.std.proofs.lemmas.Bool.Decides.{nat_tests}
 use Rattle.std.proofs.lemmas.List.{drop-drop}
-use Rattle.rawk_ere.specs.declared.bracket.Place.{Place}
-use Rattle.rawk_ere.specs.declared.bracket.Place.TheVariants.{AfterByte, AfterRange}
+use Rattle.rawk_ere.specs.declared.bracket.BracketPlace.{BracketPlace}
+use Rattle.rawk_ere.specs.declared.bracket.BracketPlace.TheVariants.{AfterByte, AfterRange}
 use Rattle.rawk_ere.specs.declared.bracket.Item.{Item}
 use Rattle.rawk_ere.specs.declared.bracket.Item.TheVariants.{Range}
 use Rattle.rawk_ere.specs.Pattern.{begins, endpoint, ended_by, begun_with, begun_by, hyphen, named, class_at, item_at}
 
 -- the item with or without a range
-abbrev chosen : Bool → Bool → ℕ → List ℕ → Option (Item × Place × List ℕ)
+abbrev chosen : Bool → Bool → ℕ → List ℕ → Option (Item × BracketPlace × List ℕ)
 chosen hyphen end low s = if hyphen && not end then ended_by low (endpoint (drop 1 s)) else Some (Range low low, AfterByte, s)
 
 pub alone_no_hyphen : (low : ℕ) (s : List ℕ) → begins 45 s ≡ false → begun_with low s ≡ Some (Range low low, AfterByte, s)
@@ -44,22 +44,22 @@ ended_in low high s le = ap (λ b. if b then Some (Range low high, AfterRange, s
 pub ended_out : (low high : ℕ) (s : List ℕ) → high < low → ended_by low (Some (high, s)) ≡ None
 ended_out low high s lt = ap (λ b. if b then Some (Range low high, AfterRange, s) else None) (le_false low high lt)
 
-abbrev item_of : Bool → Bool → Place → List ℕ → Option (Item × Place × List ℕ)
+abbrev item_of : Bool → Bool → BracketPlace → List ℕ → Option (Item × BracketPlace × List ℕ)
 item_of hyphened classed p s = if hyphened then hyphen p (drop 1 s) else if classed then named (drop 2 s) (class_at (drop 2 s)) else begun_by (endpoint s)
 
-pub item_hyphen : (place : Place) (at : ℕ) (p : List ℕ) → begins 45 (drop at p) ≡ true → item_at place (drop at p) ≡ hyphen place (drop (at + 1) p)
+pub item_hyphen : (place : BracketPlace) (at : ℕ) (p : List ℕ) → begins 45 (drop at p) ≡ true → item_at place (drop at p) ≡ hyphen place (drop (at + 1) p)
 unfolding item_at
 item_hyphen place at p h =
     let s = drop at p in
     ap (λ b. item_of b (begins 91 s && begins 58 (drop 1 s)) place s) h ∙ ap (hyphen place) (drop-drop 1 at p)
 
-pub item_named : (place : Place) (at : ℕ) (p : List ℕ) → begins 45 (drop at p) ≡ false → (begins 91 (drop at p) && begins 58 (drop 1 (drop at p))) ≡ true → item_at place (drop at p) ≡ named (drop (at + 2) p) (class_at (drop (at + 2) p))
+pub item_named : (place : BracketPlace) (at : ℕ) (p : List ℕ) → begins 45 (drop at p) ≡ false → (begins 91 (drop at p) && begins 58 (drop 1 (drop at p))) ≡ true → item_at place (drop at p) ≡ named (drop (at + 2) p) (class_at (drop (at + 2) p))
 unfolding item_at
 item_named place at p h k =
     let s = drop at p in
     ap (λ b. item_of b (begins 91 s && begins 58 (drop 1 s)) place s) h ∙ ap (λ b. item_of false b place s) k ∙ ap (λ l. named l (class_at l)) (drop-drop 2 at p)
 
-pub item_byte : (place : Place) (s : List ℕ) → begins 45 s ≡ false → (begins 91 s && begins 58 (drop 1 s)) ≡ false → item_at place s ≡ begun_by (endpoint s)
+pub item_byte : (place : BracketPlace) (s : List ℕ) → begins 45 s ≡ false → (begins 91 s && begins 58 (drop 1 s)) ≡ false → item_at place s ≡ begun_by (endpoint s)
 unfolding item_at
 item_byte place s h k = ap (λ b. item_of b (begins 91 s && begins 58 (drop 1 s)) place s) h ∙ ap (λ b. item_of false b place s) k
 

@@ -3,11 +3,11 @@ use Rattle.std.proofs.Common.{◌≡◌, ℕ, ◌+◌, ◌-◌, ◌<◌, ◌≤�
 use Rattle.std.proofs.Math.Dec.{eqb-suc-zero}
 use Rattle.rawk_ere.specs.declared.error.EreError.{EreError}
 use Rattle.rawk_ere.specs.declared.error.EreError.TheVariants as error
-use Rattle.rawk_ere_code.specs.declared.node.Count.{Count}
+use Rattle.rawk_ere_tree.specs.declared.node.Count.{Count}
 use Rattle.rawk_ere.specs.declared.token.Token.{Token}
 use Rattle.rawk_ere.specs.declared.token.Token.TheVariants as token
 use Rattle.rawk_ere.specs.declared.read.Frame.{Frame}
-use Rattle.rawk_ere_code.specs.Tree.{Tree, Empty, OneOf, Start, End, Join, Either, Group, Repeat, nesting_of}
+use Rattle.rawk_ere_tree.specs.Tree.{Tree, Empty, OneOf, Start, End, Join, Either, Group, Repeat, nesting_of}
 use Rattle.rawk_ere.specs.Grammar.{Construct, Alternatives, Branch, Sequence, Piece, Atom, Derives, one_branch, more_branches, no_piece, some_pieces, one_piece, more_pieces, start, end, repeatable, set, group, repeated}
 use Rattle.rawk_ere.specs.Reading.{attached, pieces_with, branch_of, fresh, whole_of, with_atom, with_anchor, with_bar, step, run, is_formed, nesting_in, depth_of, IsStepRefused, IsTreeRefused}
 

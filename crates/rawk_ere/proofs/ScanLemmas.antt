@@ -3,12 +3,12 @@ use Rattle.std.proofs.Common.{◌≡◌, ℕ, inl, inr, true≢false, Option, So
 use Rattle.std.proofs.lemmas.List.{append-nil}
 use Rattle.rawk_ere.specs.declared.token.Token.{Token}
 use Rattle.rawk_ere.specs.declared.token.Token.TheVariants as token
-use Rattle.rawk_ere.specs.declared.lead.Lead.{Lead}
-use Rattle.rawk_ere.specs.declared.lead.Lead.TheVariants as lead
-use Rattle.rawk_ere.specs.declared.bracket.Place.{Place}
+use Rattle.rawk_ere.specs.declared.byte_kind.ByteKind.{ByteKind}
+use Rattle.rawk_ere.specs.declared.byte_kind.ByteKind.TheVariants as kind
+use Rattle.rawk_ere.specs.declared.bracket.BracketPlace.{BracketPlace}
 use Rattle.rawk_ere.specs.declared.bracket.Item.{Item}
-use Rattle.rawk_ere_code.specs.ByteSets.{IsSetOf, IsInRanges}
-use Rattle.rawk_ere.specs.Pattern.{Items, closed, more, ranges_in, IsBracket, Braced, Itself, Wrong, Interval, braced, lead_of, IsOneOf, IsBracketed, IsBraced, IsLed, IsToken, AreTokens}
+use Rattle.rawk_ere_tree.specs.ByteSets.{IsSetOf, IsInRanges}
+use Rattle.rawk_ere.specs.Pattern.{Items, closed, more, ranges_in, IsBracket, Braced, Itself, Wrong, Interval, braced, kind_of, IsOneOf, IsBracketed, IsBraced, IsFirstToken, IsToken, AreTokens}
 use Rattle.rawk_ere.proofs.ByteSetLemmas.{set_same}
 
 same_set : (P : ℕ → Type 0) (t u : Token) → IsOneOf P t → IsOneOf P u → t ≡ u
@@ -26,21 +26,21 @@ same_set P token.Open u x y = absurd x
 same_set P token.Close u x y = absurd x
 same_set P (token.Times c) u x y = absurd x
 
-abbrev the : Item × Place × List ℕ → Option (Item × Place × List ℕ) → Item × Place × List ℕ
+abbrev the : Item × BracketPlace × List ℕ → Option (Item × BracketPlace × List ℕ) → Item × BracketPlace × List ℕ
 the d None = d
 the d (Some x) = x
 
-abbrev found : Item → Place → List ℕ → Option (Item × Place × List ℕ)
+abbrev found : Item → BracketPlace → List ℕ → Option (Item × BracketPlace × List ℕ)
 found item p m = Some (item, p, m)
 
-same_item : (a b : Item) (p q : Place) (m n : List ℕ) → found a p m ≡ found b q n → (a ≡ b) × (p ≡ q) × (m ≡ n)
+same_item : (a b : Item) (p q : BracketPlace) (m n : List ℕ) → found a p m ≡ found b q n → (a ≡ b) × (p ≡ q) × (m ≡ n)
 same_item a b p q m n e = (ap (λ o. (the (a, p, m) o).0) e, ap (λ o. (the (a, p, m) o).1) e, ap (λ o. (the (a, p, m) o).2) e)
 
 -- items in other words
-items_from : {p q : Place} {s t rest : List ℕ} {ranges : List (ℕ × ℕ)} → p ≡ q → s ≡ t → Items p s ranges rest → Items q t ranges rest
+items_from : {p q : BracketPlace} {s t rest : List ℕ} {ranges : List (ℕ × ℕ)} → p ≡ q → s ≡ t → Items p s ranges rest → Items q t ranges rest
 items_from {p = p} {q = q} {s = s} {t = t} {rest = rest} {ranges = ranges} e f d = subst (λ x. Items q x ranges rest) f (subst (λ x. Items x s ranges rest) e d)
 
-items_same : {p : Place} {s rest rest' : List ℕ} {ranges ranges' : List (ℕ × ℕ)} → Items p s ranges rest → Items p s ranges' rest' → (ranges ≡ ranges') × (rest ≡ rest')
+items_same : {p : BracketPlace} {s rest rest' : List ℕ} {ranges ranges' : List (ℕ × ℕ)} → Items p s ranges rest → Items p s ranges' rest' → (ranges ≡ ranges') × (rest ≡ rest')
 items_same (closed e) (closed f) = (refl, refl)
 items_same (closed e) (more n i d) = absurd (true≢false (sym e ∙ n))
 items_same (more n i d) (closed e) = absurd (true≢false (sym e ∙ n))
@@ -89,26 +89,26 @@ read b s = Some (b, s)
 same_byte : (b c : ℕ) (s r : List ℕ) → read b s ≡ read c r → (b ≡ c) × (s ≡ r)
 same_byte b c s r e = (ap (λ o. (byte_in (b, s) o).0) e, ap (λ o. (byte_in (b, s) o).1) e)
 
-led_same : (l : Lead) (b : ℕ) (s rest rest' : List ℕ) (t u : Token) → IsLed l b s t rest → IsLed l b s u rest' → (t ≡ u) × (rest ≡ rest')
-led_same lead.Itself b s rest rest' t u x y = (same_set (λ k. k ≡ b) t u x.0 y.0, x.1 ∙ sym y.1)
-led_same lead.Any b s rest rest' t u x y = (same_set (λ _. Unit {0}) t u x.0 y.0, x.1 ∙ sym y.1)
-led_same lead.Start b s rest rest' t u x y = (x.0 ∙ sym y.0, x.1 ∙ sym y.1)
-led_same lead.End b s rest rest' t u x y = (x.0 ∙ sym y.0, x.1 ∙ sym y.1)
-led_same lead.Bar b s rest rest' t u x y = (x.0 ∙ sym y.0, x.1 ∙ sym y.1)
-led_same lead.Open b s rest rest' t u x y = (x.0 ∙ sym y.0, x.1 ∙ sym y.1)
-led_same lead.Close b s rest rest' t u x y = (x.0 ∙ sym y.0, x.1 ∙ sym y.1)
-led_same lead.Star b s rest rest' t u x y = (x.0 ∙ sym y.0, x.1 ∙ sym y.1)
-led_same lead.Plus b s rest rest' t u x y = (x.0 ∙ sym y.0, x.1 ∙ sym y.1)
-led_same lead.Maybe b s rest rest' t u x y = (x.0 ∙ sym y.0, x.1 ∙ sym y.1)
-led_same lead.Backslash b s rest rest' t u x y =
+first_same : (l : ByteKind) (b : ℕ) (s rest rest' : List ℕ) (t u : Token) → IsFirstToken l b s t rest → IsFirstToken l b s u rest' → (t ≡ u) × (rest ≡ rest')
+first_same kind.Ordinary b s rest rest' t u x y = (same_set (λ k. k ≡ b) t u x.0 y.0, x.1 ∙ sym y.1)
+first_same kind.Any b s rest rest' t u x y = (same_set (λ _. Unit {0}) t u x.0 y.0, x.1 ∙ sym y.1)
+first_same kind.Start b s rest rest' t u x y = (x.0 ∙ sym y.0, x.1 ∙ sym y.1)
+first_same kind.End b s rest rest' t u x y = (x.0 ∙ sym y.0, x.1 ∙ sym y.1)
+first_same kind.Bar b s rest rest' t u x y = (x.0 ∙ sym y.0, x.1 ∙ sym y.1)
+first_same kind.Open b s rest rest' t u x y = (x.0 ∙ sym y.0, x.1 ∙ sym y.1)
+first_same kind.Close b s rest rest' t u x y = (x.0 ∙ sym y.0, x.1 ∙ sym y.1)
+first_same kind.Star b s rest rest' t u x y = (x.0 ∙ sym y.0, x.1 ∙ sym y.1)
+first_same kind.Plus b s rest rest' t u x y = (x.0 ∙ sym y.0, x.1 ∙ sym y.1)
+first_same kind.Maybe b s rest rest' t u x y = (x.0 ∙ sym y.0, x.1 ∙ sym y.1)
+first_same kind.Backslash b s rest rest' t u x y =
     let same = same_byte x.0 y.0 rest rest' (sym x.1 ∙ y.1) in
     (same_set (λ k. k ≡ y.0) t u (subst (λ c. IsOneOf (λ k. k ≡ c) t) same.0 x.2) y.2, same.1)
-led_same lead.Bracket b s rest rest' t u x y = bracketed_same s rest rest' t u x y
-led_same lead.Brace b s rest rest' t u x y = braced_same (braced s) s rest rest' t u x y
+first_same kind.Bracket b s rest rest' t u x y = bracketed_same s rest rest' t u x y
+first_same kind.Brace b s rest rest' t u x y = braced_same (braced s) s rest rest' t u x y
 
 token_same : (s rest rest' : List ℕ) (t u : Token) → IsToken s t rest → IsToken s u rest' → (t ≡ u) × (rest ≡ rest')
 token_same [] rest rest' t u x y = absurd x
-token_same (b ∷ s) rest rest' t u x y = led_same (lead_of b) b s rest rest' t u x y
+token_same (b ∷ s) rest rest' t u x y = first_same (kind_of b) b s rest rest' t u x y
 
 pub tokens_same : (s : List ℕ) (ts us : List Token) → AreTokens s ts → AreTokens s us → ts ≡ us
 tokens_same s [] [] x y = refl

@@ -1,9 +1,9 @@
 -- The grammar of extended regular expressions over tokens (POSIX XBD 9.5.3).
 use Rattle.std.specs.Prelude.{ℕ, List, ◌∷◌}
-use Rattle.rawk_ere_code.specs.declared.node.Count.{Count}
+use Rattle.rawk_ere_tree.specs.declared.node.Count.{Count}
 use Rattle.rawk_ere.specs.declared.token.Token.{Token}
 use Rattle.rawk_ere.specs.declared.token.Token.TheVariants as token
-use Rattle.rawk_ere_code.specs.Tree.{Tree, Empty, OneOf, Start, End, Join, Either, Group, Repeat}
+use Rattle.rawk_ere_tree.specs.Tree.{Tree, Empty, OneOf, Start, End, Join, Either, Group, Repeat}
 
 -- the constructs of the grammar
 pub data Construct : Type 0 where

@@ -3,21 +3,21 @@ use Rattle.std.specs.Prelude.{◌≡◌, ℕ, zero, suc, ◌+◌, ◌-◌, ◌*�
 use Rattle.std.specs.List.{starts_with}
 use Rattle.rawk_ere.specs.declared.error.EreError.{EreError}
 use Rattle.rawk_ere.specs.declared.error.EreError.TheVariants as error
-use Rattle.rawk_ere_code.specs.declared.node.Count.{Count}
-use Rattle.rawk_ere_code.specs.declared.node.Count.TheVariants.{Star, Plus, Maybe, AtLeast, Between}
+use Rattle.rawk_ere_tree.specs.declared.node.Count.{Count}
+use Rattle.rawk_ere_tree.specs.declared.node.Count.TheVariants.{Star, Plus, Maybe, AtLeast, Between}
 use Rattle.rawk_ere.specs.declared.token.Token.{Token}
 use Rattle.rawk_ere.specs.declared.token.Token.TheVariants as token
 use Rattle.rawk_ere.specs.declared.bracket.Class.{Class}
 use Rattle.rawk_ere.specs.declared.bracket.Class.TheVariants.{Alnum, Alpha, Blank, Cntrl, Digit, Graph, Lower, Print, Punct, Space, Upper, Xdigit}
-use Rattle.rawk_ere.specs.declared.bracket.Place.{Place}
-use Rattle.rawk_ere.specs.declared.bracket.Place.TheVariants.{First, AfterByte, AfterRange}
+use Rattle.rawk_ere.specs.declared.bracket.BracketPlace.{BracketPlace}
+use Rattle.rawk_ere.specs.declared.bracket.BracketPlace.TheVariants.{First, AfterByte, AfterRange}
 use Rattle.rawk_ere.specs.declared.bracket.Item.{Item}
 use Rattle.rawk_ere.specs.declared.bracket.Item.TheVariants.{Range, Named}
 use Rattle.rawk_ere.specs.declared.interval.Brace.{Brace}
 use Rattle.rawk_ere.specs.declared.interval.Brace.TheVariants as brace
-use Rattle.rawk_ere.specs.declared.lead.Lead.{Lead}
-use Rattle.rawk_ere.specs.declared.lead.Lead.TheVariants as lead
-use Rattle.rawk_ere_code.specs.ByteSets.{IsSetOf, IsInRanges}
+use Rattle.rawk_ere.specs.declared.byte_kind.ByteKind.{ByteKind}
+use Rattle.rawk_ere.specs.declared.byte_kind.ByteKind.TheVariants as kind
+use Rattle.rawk_ere_tree.specs.ByteSets.{IsSetOf, IsInRanges}
 
 abbrev pub is_digit : ℕ → Bool
 is_digit b = nat_le 48 b && nat_le b 57
@@ -132,46 +132,46 @@ endpoint (b ∷ s) =
     else Some (b, s)
 
 -- the range from the byte to this end, which may not be below it
-abbrev pub ended_by : ℕ → Option (ℕ × List ℕ) → Option (Item × Place × List ℕ)
+abbrev pub ended_by : ℕ → Option (ℕ × List ℕ) → Option (Item × BracketPlace × List ℕ)
 ended_by low None = None
 ended_by low (Some e) = if nat_le low e.0 then Some (Range low e.0, AfterRange, e.1) else None
 
 -- the item that begins with the byte: a range where a `-` follows that does not stand before the closing `]`, else the byte
-abbrev pub begun_with : ℕ → List ℕ → Option (Item × Place × List ℕ)
+abbrev pub begun_with : ℕ → List ℕ → Option (Item × BracketPlace × List ℕ)
 begun_with low s = if begins 45 s && not (begins 93 (drop 1 s)) then ended_by low (endpoint (drop 1 s)) else Some (Range low low, AfterByte, s)
 
-abbrev pub begun_by : Option (ℕ × List ℕ) → Option (Item × Place × List ℕ)
+abbrev pub begun_by : Option (ℕ × List ℕ) → Option (Item × BracketPlace × List ℕ)
 begun_by None = None
 begun_by (Some e) = begun_with e.0 e.1
 
 -- the class that is named here, after the `[:`
-abbrev pub named : List ℕ → Option Class → Option (Item × Place × List ℕ)
+abbrev pub named : List ℕ → Option Class → Option (Item × BracketPlace × List ℕ)
 named s None = None
 named s (Some class) = Some (Named class, AfterRange, drop (name_length class) s)
 
 -- A `-` is literal as the first item, where it may also begin a range, before the closing `]`, and directly after a range or a class, where it begins no range.
-abbrev pub hyphen : Place → List ℕ → Option (Item × Place × List ℕ)
+abbrev pub hyphen : BracketPlace → List ℕ → Option (Item × BracketPlace × List ℕ)
 hyphen First s = begun_with 45 s
 hyphen AfterByte s = if begins 93 s then Some (Range 45 45, AfterByte, s) else None
 hyphen AfterRange s = Some (Range 45 45, AfterByte, s)
 
 -- the item here, and where the text after it stands
-unfoldable pub item_at : Place → List ℕ → Option (Item × Place × List ℕ)
+unfoldable pub item_at : BracketPlace → List ℕ → Option (Item × BracketPlace × List ℕ)
 item_at p s =
     if begins 45 s then hyphen p (drop 1 s)
     else if begins 91 s && begins 58 (drop 1 s) then named (drop 2 s) (class_at (drop 2 s))
     else begun_by (endpoint s)
 
 -- a `]` closes the bracket expression, but not as its first item
-abbrev pub closes : Place → List ℕ → Bool
+abbrev pub closes : BracketPlace → List ℕ → Bool
 closes First s = false
 closes AfterByte s = begins 93 s
 closes AfterRange s = begins 93 s
 
 -- the text has items with these bytes and the closing `]`, and then the rest
-pub data Items : Place → List ℕ → List (ℕ × ℕ) → List ℕ → Type 0 where
-  closed : {p : Place} {s : List ℕ} → closes p s ≡ true → Items p s [] (drop 1 s)
-  more : {p q : Place} {s mid rest : List ℕ} {item : Item} {ranges : List (ℕ × ℕ)} → closes p s ≡ false → item_at p s ≡ Some (item, q, mid) → Items q mid ranges rest → Items p s (ranges_in item ++ ranges) rest
+pub data Items : BracketPlace → List ℕ → List (ℕ × ℕ) → List ℕ → Type 0 where
+  closed : {p : BracketPlace} {s : List ℕ} → closes p s ≡ true → Items p s [] (drop 1 s)
+  more : {p q : BracketPlace} {s mid rest : List ℕ} {item : Item} {ranges : List (ℕ × ℕ)} → closes p s ≡ false → item_at p s ≡ Some (item, q, mid) → Items q mid ranges rest → Items p s (ranges_in item ++ ranges) rest
 
 -- the text after a `[` is a bracket expression of this set
 abbrev pub IsBracket : List ℕ → List ℕ → List ℕ → Type 0
@@ -230,22 +230,22 @@ IsBraceWithin at end brace.Itself = Unit {0}
 IsBraceWithin at end brace.Wrong = Unit {0}
 IsBraceWithin at end (brace.Interval count next) = (at < next) × (next ≤ end)
 
--- what a byte begins outside bracket expressions
-abbrev pub lead_of : ℕ → Lead
-lead_of b =
-    if nat_eq b 46 then lead.Any
-    else if nat_eq b 94 then lead.Start
-    else if nat_eq b 36 then lead.End
-    else if nat_eq b 124 then lead.Bar
-    else if nat_eq b 40 then lead.Open
-    else if nat_eq b 41 then lead.Close
-    else if nat_eq b 42 then lead.Star
-    else if nat_eq b 43 then lead.Plus
-    else if nat_eq b 63 then lead.Maybe
-    else if nat_eq b 92 then lead.Backslash
-    else if nat_eq b 91 then lead.Bracket
-    else if nat_eq b 123 then lead.Brace
-    else lead.Itself
+-- the kind of a byte outside bracket expressions
+abbrev pub kind_of : ℕ → ByteKind
+kind_of b =
+    if nat_eq b 46 then kind.Any
+    else if nat_eq b 94 then kind.Start
+    else if nat_eq b 36 then kind.End
+    else if nat_eq b 124 then kind.Bar
+    else if nat_eq b 40 then kind.Open
+    else if nat_eq b 41 then kind.Close
+    else if nat_eq b 42 then kind.Star
+    else if nat_eq b 43 then kind.Plus
+    else if nat_eq b 63 then kind.Maybe
+    else if nat_eq b 92 then kind.Backslash
+    else if nat_eq b 91 then kind.Bracket
+    else if nat_eq b 123 then kind.Brace
+    else kind.Ordinary
 
 -- the token is the set of the bytes with P
 abbrev pub IsOneOf : (ℕ → Type 0) → Token → Type 0
@@ -273,25 +273,25 @@ IsBraced Itself s t rest = IsOneOf (λ b. b ≡ 123) t × (rest ≡ s)
 IsBraced Wrong s t rest = ⊥
 IsBraced (Interval count after) s t rest = (t ≡ token.Times count) × (rest ≡ after)
 
--- the token that the byte and the text after it begin with, and then the rest
-abbrev pub IsLed : Lead → ℕ → List ℕ → Token → List ℕ → Type 0
-IsLed lead.Itself b s t rest = IsOneOf (λ k. k ≡ b) t × (rest ≡ s)
-IsLed lead.Any b s t rest = IsOneOf (λ _. Unit {0}) t × (rest ≡ s)
-IsLed lead.Start b s t rest = (t ≡ token.Start) × (rest ≡ s)
-IsLed lead.End b s t rest = (t ≡ token.End) × (rest ≡ s)
-IsLed lead.Bar b s t rest = (t ≡ token.Bar) × (rest ≡ s)
-IsLed lead.Open b s t rest = (t ≡ token.Open) × (rest ≡ s)
-IsLed lead.Close b s t rest = (t ≡ token.Close) × (rest ≡ s)
-IsLed lead.Star b s t rest = (t ≡ token.Times Star) × (rest ≡ s)
-IsLed lead.Plus b s t rest = (t ≡ token.Times Plus) × (rest ≡ s)
-IsLed lead.Maybe b s t rest = (t ≡ token.Times Maybe) × (rest ≡ s)
-IsLed lead.Backslash b s t rest = (c : ℕ) × (escape s ≡ Some (c, rest)) × IsOneOf (λ k. k ≡ c) t
-IsLed lead.Bracket b s t rest = IsBracketed s t rest
-IsLed lead.Brace b s t rest = IsBraced (braced s) s t rest
+-- the token that a byte of the kind and the text after it begin with, and then the rest
+abbrev pub IsFirstToken : ByteKind → ℕ → List ℕ → Token → List ℕ → Type 0
+IsFirstToken kind.Ordinary b s t rest = IsOneOf (λ k. k ≡ b) t × (rest ≡ s)
+IsFirstToken kind.Any b s t rest = IsOneOf (λ _. Unit {0}) t × (rest ≡ s)
+IsFirstToken kind.Start b s t rest = (t ≡ token.Start) × (rest ≡ s)
+IsFirstToken kind.End b s t rest = (t ≡ token.End) × (rest ≡ s)
+IsFirstToken kind.Bar b s t rest = (t ≡ token.Bar) × (rest ≡ s)
+IsFirstToken kind.Open b s t rest = (t ≡ token.Open) × (rest ≡ s)
+IsFirstToken kind.Close b s t rest = (t ≡ token.Close) × (rest ≡ s)
+IsFirstToken kind.Star b s t rest = (t ≡ token.Times Star) × (rest ≡ s)
+IsFirstToken kind.Plus b s t rest = (t ≡ token.Times Plus) × (rest ≡ s)
+IsFirstToken kind.Maybe b s t rest = (t ≡ token.Times Maybe) × (rest ≡ s)
+IsFirstToken kind.Backslash b s t rest = (c : ℕ) × (escape s ≡ Some (c, rest)) × IsOneOf (λ k. k ≡ c) t
+IsFirstToken kind.Bracket b s t rest = IsBracketed s t rest
+IsFirstToken kind.Brace b s t rest = IsBraced (braced s) s t rest
 
 abbrev pub IsToken : List ℕ → Token → List ℕ → Type 0
 IsToken [] t rest = ⊥
-IsToken (b ∷ s) t rest = IsLed (lead_of b) b s t rest
+IsToken (b ∷ s) t rest = IsFirstToken (kind_of b) b s t rest
 
 -- the text is these tokens
 abbrev pub AreTokens : List ℕ → List Token → Type 0

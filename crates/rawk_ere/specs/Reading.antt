@@ -2,11 +2,11 @@
 use Rattle.std.specs.Prelude.{◌≡◌, ℕ, ◌+◌, ◌-◌, ◌<◌, max, Bool, true, false, if◌then◌else◌, nat_eq, Option, Some, None, List, [], ◌∷◌}
 use Rattle.rawk_ere.specs.declared.error.EreError.{EreError}
 use Rattle.rawk_ere.specs.declared.error.EreError.TheVariants as error
-use Rattle.rawk_ere_code.specs.declared.node.Count.{Count}
+use Rattle.rawk_ere_tree.specs.declared.node.Count.{Count}
 use Rattle.rawk_ere.specs.declared.token.Token.{Token}
 use Rattle.rawk_ere.specs.declared.token.Token.TheVariants as token
 use Rattle.rawk_ere.specs.declared.read.Frame.{Frame}
-use Rattle.rawk_ere_code.specs.Tree.{Tree, Empty, OneOf, Start, End, Join, Either, Group, Repeat, nesting_of}
+use Rattle.rawk_ere_tree.specs.Tree.{Tree, Empty, OneOf, Start, End, Join, Either, Group, Repeat, nesting_of}
 
 -- b, and before it what there is
 abbrev pub attached : (Tree → Tree → Tree) → Option Tree → Tree → Tree

@@ -2,14 +2,14 @@
 
 ghost use Rattle.std.specs.Prelude.{◌≡◌, ℕ, ◌+◌, ◌-◌, ◌<◌, ◌≤◌, ◌⊎◌, List, [], ◌∷◌, ◌++◌, length, drop, Some, None, MatchOption, codes, nat_eq, true, false, ◌&&◌};
 ghost use Rattle.std.specs.List.{starts_with};
-ghost use Rattle.rawk_ere_code.specs.ByteSets.{HasAlso, IsInRanges};
+ghost use Rattle.rawk_ere_tree.specs.ByteSets.{HasAlso, IsInRanges};
 ghost use Rattle.rawk_ere.specs.Pattern.{class_at, name_length, ranges_of, ranges_in, IsOrdered, begins, endpoint, begun_with, begun_by, hyphen, named, item_at, closes, Items, IsBracketed};
 ghost use Rattle.rawk_ere.specs.declared.token.Token.{Token};
 
 use crate::byte_set::{add_range, complement, empty};
 use crate::bytes::{is_at, unescape};
 use crate::token::Token;
-use rawk_ere_code::byte_set::ByteSet;
+use rawk_ere_tree::byte_set::ByteSet;
 
 /// A class of bytes that has a name.
 #[derive(Clone, Copy)]
@@ -30,7 +30,7 @@ pub enum Class {
 
 /// What stands before a place in a bracket expression.
 #[derive(Clone, Copy)]
-pub enum Place {
+pub enum BracketPlace {
     /// Nothing: the first item stands here.
     First,
     /// A byte.
@@ -48,7 +48,7 @@ pub enum Item {
     Named(Class),
 }
 
-// Whether the name stands at a place.
+/// Whether the name stands at a place.
 fn is_named(pattern: &[u8], at: usize, name: &[u8]) -> bool
     requires { at ≤ length pattern.now }
     ensures is { result ≡ starts_with nat_eq (drop at pattern.now) name.now }
@@ -57,7 +57,7 @@ fn is_named(pattern: &[u8], at: usize, name: &[u8]) -> bool
     pattern[at..].starts_with(name)
 }
 
-// The class whose name and closing `:]` stand at a place.
+/// The class whose name and closing `:]` stand at a place.
 #[tactic(auto, unfolding(crate::specs::Pattern::class_at))]
 fn class_named(pattern: &[u8], at: usize) -> Option<Class>
     requires { at ≤ length pattern.now }
@@ -93,7 +93,7 @@ fn class_named(pattern: &[u8], at: usize) -> Option<Class>
     }
 }
 
-// How long the name of a class and its closing `:]` are.
+/// How long the name of a class and its closing `:]` are.
 fn length_of_name(class: Class) -> usize
     ensures { result ≡ name_length class }
 {
@@ -113,7 +113,7 @@ fn length_of_name(class: Class) -> usize
     }
 }
 
-// Adds the bytes of a class.
+/// Adds the bytes of a class.
 fn add_class(set: &mut ByteSet, class: Class)
     ensures { HasAlso set.old set.new (λ b. IsInRanges b (ranges_of class)) }
 {
@@ -158,7 +158,7 @@ fn add_class(set: &mut ByteSet, class: Class)
     }
 }
 
-// One byte, or an escape.
+/// One byte, or an escape.
 fn end_at(pattern: &[u8], at: usize) -> Option<(u8, usize)>
     requires { at ≤ length pattern.now }
     ensures is { MatchOption result (endpoint (drop at pattern.now) ≡ None) (λ r. endpoint (drop at pattern.now) ≡ Some (r.0, drop r.1 pattern.now)) }
@@ -182,21 +182,21 @@ fn end_at(pattern: &[u8], at: usize) -> Option<(u8, usize)>
     Some((byte, next))
 }
 
-// The item that begins with the byte before a place.
-fn from_byte(pattern: &[u8], at: usize, low: u8) -> Option<(Item, Place, usize)>
+/// The item that begins with the byte before a place.
+fn from_byte(pattern: &[u8], at: usize, low: u8) -> Option<(Item, BracketPlace, usize)>
     requires { at ≤ length pattern.now }
     ensures is { MatchOption result (begun_with low (drop at pattern.now) ≡ None) (λ r. begun_with low (drop at pattern.now) ≡ Some (r.0, r.1, drop r.2 pattern.now)) }
     ensures within { MatchOption result (Unit {0}) (λ r. (at ≤ r.2) × (r.2 ≤ length pattern.now)) }
     ensures ordered { MatchOption result (Unit {0}) (λ r. IsOrdered r.0) }
 {
     if !is_at(pattern, at, b'-') || is_at(pattern, at + 1, b']') {
-        return Some((Item::Range(low, low), Place::AfterByte, at));
+        return Some((Item::Range(low, low), BracketPlace::AfterByte, at));
     }
     match end_at(pattern, at + 1) {
         None => None,
         Some((high, next)) => {
             if low <= high {
-                Some((Item::Range(low, high), Place::AfterRange, next))
+                Some((Item::Range(low, high), BracketPlace::AfterRange, next))
             } else {
                 None
             }
@@ -204,27 +204,31 @@ fn from_byte(pattern: &[u8], at: usize, low: u8) -> Option<(Item, Place, usize)>
     }
 }
 
-// The item that begins with a `-` before a place.
-fn from_hyphen(pattern: &[u8], at: usize, place: Place) -> Option<(Item, Place, usize)>
+/// The item that begins with a `-` before a place.
+fn from_hyphen(
+    pattern: &[u8],
+    at: usize,
+    place: BracketPlace,
+) -> Option<(Item, BracketPlace, usize)>
     requires { at ≤ length pattern.now }
     ensures is { MatchOption result (hyphen place (drop at pattern.now) ≡ None) (λ r. hyphen place (drop at pattern.now) ≡ Some (r.0, r.1, drop r.2 pattern.now)) }
     ensures within { MatchOption result (Unit {0}) (λ r. (at ≤ r.2) × (r.2 ≤ length pattern.now)) }
     ensures ordered { MatchOption result (Unit {0}) (λ r. IsOrdered r.0) }
 {
     match place {
-        Place::First => from_byte(pattern, at, b'-'),
-        Place::AfterByte => {
+        BracketPlace::First => from_byte(pattern, at, b'-'),
+        BracketPlace::AfterByte => {
             if is_at(pattern, at, b']') {
-                Some((Item::Range(b'-', b'-'), Place::AfterByte, at))
+                Some((Item::Range(b'-', b'-'), BracketPlace::AfterByte, at))
             } else {
                 None
             }
         }
-        Place::AfterRange => Some((Item::Range(b'-', b'-'), Place::AfterByte, at)),
+        BracketPlace::AfterRange => Some((Item::Range(b'-', b'-'), BracketPlace::AfterByte, at)),
     }
 }
 
-// Whether a `[:` stands at a place.
+/// Whether a `[:` stands at a place.
 fn is_class(pattern: &[u8], at: usize) -> bool
     requires { at ≤ length pattern.now }
     ensures is { result ≡ (begins 91 (drop at pattern.now) && begins 58 (drop 1 (drop at pattern.now))) }
@@ -233,8 +237,8 @@ fn is_class(pattern: &[u8], at: usize) -> bool
     is_at(pattern, at, b'[') && is_at(pattern, at + 1, b':')
 }
 
-// The item at a place: what it is, what then stands before the place after it, and that place.
-fn read_item(pattern: &[u8], at: usize, place: Place) -> Option<(Item, Place, usize)>
+/// The item at a place: what it is, what then stands before the place after it, and that place.
+fn read_item(pattern: &[u8], at: usize, place: BracketPlace) -> Option<(Item, BracketPlace, usize)>
     requires { at ≤ length pattern.now }
     ensures is { MatchOption result (item_at place (drop at pattern.now) ≡ None) (λ r. item_at place (drop at pattern.now) ≡ Some (r.0, r.1, drop r.2 pattern.now)) }
     ensures within { MatchOption result (Unit {0}) (λ r. (at < r.2) × (r.2 ≤ length pattern.now)) }
@@ -252,8 +256,8 @@ fn read_item(pattern: &[u8], at: usize, place: Place) -> Option<(Item, Place, us
     }
 }
 
-// The class that is named at a place, after the `[:`.
-fn from_name(pattern: &[u8], at: usize) -> Option<(Item, Place, usize)>
+/// The class that is named at a place, after the `[:`.
+fn from_name(pattern: &[u8], at: usize) -> Option<(Item, BracketPlace, usize)>
     requires { at ≤ length pattern.now }
     ensures is { MatchOption result (named (drop at pattern.now) (class_at (drop at pattern.now)) ≡ None) (λ r. named (drop at pattern.now) (class_at (drop at pattern.now)) ≡ Some (r.0, r.1, drop r.2 pattern.now)) }
     ensures within { MatchOption result (Unit {0}) (λ r. (at ≤ r.2) × (r.2 ≤ length pattern.now)) }
@@ -263,24 +267,24 @@ fn from_name(pattern: &[u8], at: usize) -> Option<(Item, Place, usize)>
         None => None,
         Some(class) => Some((
             Item::Named(class),
-            Place::AfterRange,
+            BracketPlace::AfterRange,
             at + length_of_name(class),
         )),
     }
 }
 
-// Whether a `]` at the place closes the bracket expression.
-fn is_closed(pattern: &[u8], at: usize, place: Place) -> bool
+/// Whether a `]` at the place closes the bracket expression.
+fn is_closed(pattern: &[u8], at: usize, place: BracketPlace) -> bool
     ensures { result ≡ closes place (drop at pattern.now) }
 {
     match place {
-        Place::First => false,
-        Place::AfterByte => is_at(pattern, at, b']'),
-        Place::AfterRange => is_at(pattern, at, b']'),
+        BracketPlace::First => false,
+        BracketPlace::AfterByte => is_at(pattern, at, b']'),
+        BracketPlace::AfterRange => is_at(pattern, at, b']'),
     }
 }
 
-// Adds the bytes of an item.
+/// Adds the bytes of an item.
 fn add_item(set: &mut ByteSet, item: Item)
     requires { IsOrdered item }
     ensures { HasAlso set.old set.new (λ b. IsInRanges b (ranges_in item)) }
@@ -291,15 +295,15 @@ fn add_item(set: &mut ByteSet, item: Item)
     }
 }
 
-// Adds the bytes of the items at a place, and answers the place after the closing `]`.
+/// Adds the bytes of the items at a place, and answers the place after the closing `]`.
 fn gather(pattern: &[u8], from: usize, set: &mut ByteSet) -> Option<usize>
     requires { from ≤ length pattern.now }
-    ensures is { MatchOption result ((ranges : List (ℕ × ℕ)) (rest : List ℕ) → Items Place.First (drop from pattern.now) ranges rest → ⊥)
-        (λ next. (ranges : List (ℕ × ℕ)) × Items Place.First (drop from pattern.now) ranges (drop next pattern.now) × HasAlso set.old set.new (λ b. IsInRanges b ranges)) }
+    ensures is { MatchOption result ((ranges : List (ℕ × ℕ)) (rest : List ℕ) → Items BracketPlace.First (drop from pattern.now) ranges rest → ⊥)
+        (λ next. (ranges : List (ℕ × ℕ)) × Items BracketPlace.First (drop from pattern.now) ranges (drop next pattern.now) × HasAlso set.old set.new (λ b. IsInRanges b ranges)) }
     ensures within { MatchOption result (Unit {0}) (λ next. (from < next) × (next ≤ length pattern.now)) }
 {
     let mut at = from;
-    let mut place = Place::First;
+    let mut place = BracketPlace::First;
     while at < pattern.len() {
         if is_closed(pattern, at, place) {
             return Some(at + 1);

@@ -1,9 +1,9 @@
 //! Sets of bytes that are made.
 
 ghost use Rattle.std.specs.Prelude.{◌≡◌, ℕ, ◌<◌, ◌≤◌, ◌↔◌, ◌⊎◌, ◌/◌, ◌%◌, ◌^◌, IsTrue, length};
-ghost use Rattle.rawk_ere_code.specs.ByteSets.{IsIn, HasAlso, IsSetOf, IsInRanges};
+ghost use Rattle.rawk_ere_tree.specs.ByteSets.{IsIn, HasAlso, IsSetOf, IsInRanges};
 
-use rawk_ere_code::byte_set::{ByteSet, is_in};
+use rawk_ere_tree::byte_set::{ByteSet, is_in};
 
 /// Adds a byte.
 pub fn add(set: &mut ByteSet, byte: u8)

@@ -49,7 +49,7 @@ pub fn digits(pattern: &[u8], at: usize) -> (u16, usize)
     (value, pattern.len())
 }
 
-// The byte that a backslash and this byte stand for.
+/// The byte that a backslash and this byte stand for.
 fn escaped(byte: u8) -> Option<u8>
     ensures { result ≡ escaped_byte byte }
 {
@@ -66,7 +66,7 @@ fn escaped(byte: u8) -> Option<u8>
     }
 }
 
-// The number that a value and at most two octal digits make, and the place after them.
+/// The number that a value and at most two octal digits make, and the place after them.
 fn octal(pattern: &[u8], at: usize, value: u16) -> (u16, usize)
     requires at { at ≤ length pattern.now }
     requires value { value < 8 }

@@ -1,17 +1,16 @@
-//! Extended regular expressions, compiled.
+//! Extended regular expressions, read from patterns.
 
 ghost use Rattle.std.specs.Prelude.{◌≡◌, ◌+◌, ◌-◌, ◌*◌, ◌<◌, ◌≤◌, length, ℕ, Some, IfOk, IfErr};
-ghost use Rattle.rawk_ere_code.specs.Tree.{size_of, IsWithinLimits};
-ghost use Rattle.rawk_ere.specs.Reads.{Reads, IsRefused};
-ghost use Rattle.rawk_ere.specs.Nonempty.{IsFirstNonempty};
-ghost use Rattle.rawk_ere_code.specs.Code.{code_of};
-ghost use Rattle.rawk_ere_code.specs.Ends.{IsLongest, IsMatch};
-ghost use Rattle.rawk_ere_code.specs.Open.{IsOpenMatch, IsSettled, IsOpenFrom};
-ghost use Rattle.rawk_ere_walk.specs.Search.{IsBetween, AreBetween};
+ghost use Rattle.rawk_ere_tree.specs.Tree.{size_of, IsWithinLimits};
+ghost use Rattle.rawk_ere.specs.PatternOf.{IsPatternOf, IsRefused};
+ghost use Rattle.rawk_ere_tree.specs.Code.{code_of};
+ghost use Rattle.rawk_ere_tree.specs.Ends.{IsLongest, IsMatch};
+ghost use Rattle.rawk_ere_tree.specs.Open.{IsOpenMatch, IsSettled, IsOpenFrom};
+ghost use Rattle.rawk_ere_automaton.specs.Search.{IsBetween, AreBetween};
 
 use crate::error::EreError;
 use crate::read::read;
-use rawk_ere_walk::compiled::Automaton;
+use rawk_ere_automaton::automaton::Automaton;
 use std::alloc::{AllocError, Global};
 use std::marker::Model;
 
@@ -23,8 +22,8 @@ pub struct Ere {
 
 /// The tree of the expression.
 impl Model for Ere {
-    ghost use Rattle.rawk_ere_code.specs.Tree.{Tree};
-    ghost use Rattle.rawk_ere_code.specs.TreeCode.{tree_code};
+    ghost use Rattle.rawk_ere_tree.specs.Tree.{Tree};
+    ghost use Rattle.rawk_ere_tree.specs.TreeCode.{tree_code};
 
     ghost Value = { Tree };
 
@@ -37,7 +36,7 @@ impl Ere {
     /// The expression that a pattern is, after POSIX XBD 9.4. `Syntax`: it is none; `TooLarge`: it is one whose size is
     /// above 65,536 or in which more than 200 groups and repetitions stand one inside another; `Memory`.
     pub fn parse(alloc: Global, pattern: &[u8]) -> Result<Ere, EreError>
-        ensures is { IfOk result (λ e. Reads pattern.now e) }
+        ensures is { IfOk result (λ e. IsPatternOf pattern.now e) }
         ensures within { IfOk result IsWithinLimits }
         ensures refused { IfErr result (λ x. IsRefused x pattern.now) }
     {
@@ -95,33 +94,6 @@ impl Ere {
         ensures within { IfOk result (AreBetween from (length text.now)) }
     {
         self.automaton.find(alloc, text, from)
-    }
-
-    /// The leftmost nonempty match from `from` on, and the longest there: its begin and its end.
-    pub fn find_nonempty(
-        &self,
-        alloc: Global,
-        text: &[u8],
-        from: usize,
-    ) -> Result<Option<(usize, usize)>, AllocError>
-        requires { from ≤ length text.now }
-        ensures is { IfOk result (IsFirstNonempty text.now self.now from) }
-        ensures within { IfOk result (AreBetween from (length text.now)) }
-    {
-        let mut at = from;
-        while at < text.len() {
-            let found = self.find(alloc, text, at)?;
-            match found {
-                None => return Ok(None),
-                Some((begin, end)) => {
-                    if begin < end {
-                        return Ok(Some((begin, end)));
-                    }
-                    at = begin + 1;
-                }
-            }
-        }
-        Ok(None)
     }
 
     /// The leftmost nonempty match from `from` on, and the longest there, if it stays that in every longer text that begins

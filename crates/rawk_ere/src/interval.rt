@@ -4,7 +4,7 @@ ghost use Rattle.std.specs.Prelude.{◌≡◌, ℕ, ◌+◌, ◌-◌, ◌<◌, �
 ghost use Rattle.rawk_ere.specs.Pattern.{IsBraceAt, IsBraceWithin, braced, after_comma, after_least, without_least, exactly, at_least, between, digits_from, begins, begins_digit};
 
 use crate::bytes::{digit_at, digits, is_at};
-use rawk_ere_code::node::Count;
+use rawk_ere_tree::node::Count;
 
 /// What a `{` begins.
 #[derive(Clone, Copy)]
@@ -17,7 +17,7 @@ pub enum Brace {
     Interval(Count, usize),
 }
 
-// What follows when there are no digits after the `{`: `{,n}` is refused.
+/// What follows when there are no digits after the `{`: `{,n}` is refused.
 fn no_least(pattern: &[u8], at: usize) -> Brace
     requires { at ≤ length pattern.now }
     ensures is { IsBraceAt pattern.now result (without_least (drop at pattern.now)) }
@@ -37,7 +37,7 @@ fn no_least(pattern: &[u8], at: usize) -> Brace
     }
 }
 
-// What follows the comma after the least number, which is 256 if it is above 255.
+/// What follows the comma after the least number, which is 256 if it is above 255.
 fn with_comma(pattern: &[u8], at: usize, least: u16) -> Brace
     requires { at ≤ length pattern.now }
     ensures is { (whole : ℕ) → least ≡ min whole 256 → IsBraceAt pattern.now result (after_comma whole (drop at pattern.now)) }

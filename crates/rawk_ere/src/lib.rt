@@ -2,12 +2,12 @@
 #![tactic(auto)]
 
 pub mod bracket;
+pub mod byte_kind;
 pub mod byte_set;
 pub mod bytes;
 pub mod error;
 pub mod expression;
 pub mod interval;
-pub mod lead;
 pub mod part;
 pub mod read;
 pub mod scan;

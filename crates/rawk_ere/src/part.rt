@@ -1,12 +1,12 @@
 //! A part of an expression that is being read, with its measures.
 
 ghost use Rattle.std.specs.Prelude.{◌≡◌, ◌+◌, ◌*◌, ◌<◌, ◌≤◌, min, ◌⊎◌, IfOk, IfErr, [], ◌∷◌, List};
-ghost use Rattle.rawk_ere_code.specs.Tree.{Empty, OneOf, Start, End, Join, Either, Group, Repeat, size_of, nesting_of, repeated_size};
-ghost use Rattle.rawk_ere_code.specs.Node.{tree_of};
+ghost use Rattle.rawk_ere_tree.specs.Tree.{Empty, OneOf, Start, End, Join, Either, Group, Repeat, size_of, nesting_of, repeated_size};
+ghost use Rattle.rawk_ere_tree.specs.Node.{tree_of};
 
 use crate::error::EreError;
-use rawk_ere_code::byte_set::ByteSet;
-use rawk_ere_code::node::{Count, Node};
+use rawk_ere_tree::byte_set::ByteSet;
+use rawk_ere_tree::node::{Count, Node};
 use std::alloc::{AllocError, Global};
 use std::marker::Model;
 
@@ -20,16 +20,16 @@ pub struct Part {
 
 /// The tree of the part.
 impl Model for Part {
-    ghost use Rattle.rawk_ere_code.specs.Tree.{Tree};
-    ghost use Rattle.rawk_ere_code.specs.TreeCode.{tree_code};
+    ghost use Rattle.rawk_ere_tree.specs.Tree.{Tree};
+    ghost use Rattle.rawk_ere_tree.specs.TreeCode.{tree_code};
 
     ghost Value = { Tree };
 
     ghost coded = { tree_code };
 
     ghost use Rattle.std.specs.Prelude.{◌≡◌, ◌≤◌, min};
-    ghost use Rattle.rawk_ere_code.specs.Tree.{size_of, nesting_of};
-    ghost use Rattle.rawk_ere_code.specs.Node.{tree_of};
+    ghost use Rattle.rawk_ere_tree.specs.Tree.{size_of, nesting_of};
+    ghost use Rattle.rawk_ere_tree.specs.Node.{tree_of};
 
     ghost view = { λ p. tree_of p.node };
 
@@ -38,7 +38,7 @@ impl Model for Part {
         × (p.nesting ≤ 200) };
 }
 
-// Two nodes, one after the other.
+/// Two nodes, one after the other.
 fn join_nodes(alloc: Global, a: Node, b: Node) -> Result<Node, AllocError>
     ensures { IfOk result (λ n. tree_of n ≡ Join (tree_of a) (tree_of b)) }
 {
@@ -48,7 +48,7 @@ fn join_nodes(alloc: Global, a: Node, b: Node) -> Result<Node, AllocError>
     }
 }
 
-// A node after a row of nodes.
+/// A node after a row of nodes.
 fn join_to(alloc: Global, mut parts: Vec<Node>, b: Node) -> Result<Node, AllocError>
     ensures { IfOk result (λ n. tree_of n ≡ Join (tree_of (Node.Join parts)) (tree_of b)) }
 {
@@ -66,7 +66,7 @@ fn join_pair(alloc: Global, a: Node, b: Node) -> Result<Node, AllocError>
     Ok(Node::Join(parts))
 }
 
-// One of two nodes.
+/// One of two nodes.
 fn alternate_nodes(alloc: Global, a: Node, b: Node) -> Result<Node, AllocError>
     ensures { IfOk result (λ n. tree_of n ≡ Either (tree_of a) (tree_of b)) }
 {
@@ -76,7 +76,7 @@ fn alternate_nodes(alloc: Global, a: Node, b: Node) -> Result<Node, AllocError>
     }
 }
 
-// A row of nodes, or one more.
+/// A row of nodes, or one more.
 fn alternate_to(alloc: Global, mut parts: Vec<Node>, b: Node) -> Result<Node, AllocError>
     ensures { IfOk result (λ n. tree_of n ≡ Either (tree_of (Node.Either parts)) (tree_of b)) }
 {
@@ -117,7 +117,7 @@ fn repeat_node(alloc: Global, a: Node, count: Count) -> Result<Node, AllocError>
     Ok(Node::Repeat(inner, count))
 }
 
-// The size that a repetition gives a part of this size, as far as the limit tells it.
+/// The size that a repetition gives a part of this size, as far as the limit tells it.
 fn repeated(count: Count, size: u32) -> u32
     requires { size ≤ 65537 }
     ensures { result ≡ min (repeated_size count size) 65537 }

@@ -1,16 +1,16 @@
 //! From tokens to the tree.
 
 ghost use Rattle.std.specs.Prelude.{◌≡◌, ◌+◌, ◌<◌, ◌≤◌, ◌⊎◌, ◌↔◌, List, [], ◌∷◌, length, drop, reverse, IfOk, IfErr, IsTrue, Some, None, Option, true, false, nat_eq};
-ghost use Rattle.rawk_ere_code.specs.Tree.{Tree, OneOf, nesting_of, IsWithinLimits};
-ghost use Rattle.rawk_ere_code.specs.Node.{tree_of};
-ghost use Rattle.rawk_ere.specs.Reads.{Reads, IsRefused, IsReadOnce};
+ghost use Rattle.rawk_ere_tree.specs.Tree.{Tree, OneOf, nesting_of, IsWithinLimits};
+ghost use Rattle.rawk_ere_tree.specs.Node.{tree_of};
+ghost use Rattle.rawk_ere.specs.PatternOf.{IsPatternOf, IsRefused, IsReadOnce};
 ghost use Rattle.rawk_ere.specs.Reading.{fresh, pieces_with, branch_of, whole_of, with_atom, with_anchor, with_bar, with_count, step, run, is_formed, depth_of, IsStepRefused, IsTreeRefused};
 
 use crate::error::EreError;
 use crate::part::Part;
 use crate::scan::scan;
 use crate::token::Token;
-use rawk_ere_code::node::{Count, Node};
+use rawk_ere_tree::node::{Count, Node};
 use std::alloc::{AllocError, Global};
 
 /// What has been read of a group: the branches before the last bar, the pieces after it that stand as they are, and the
@@ -22,7 +22,7 @@ pub struct Frame {
     pub current: Option<Part>,
 }
 
-// What of a group is read at its start.
+/// What of a group is read at its start.
 fn nothing_read() -> Frame
     ensures { result ≡ fresh }
 {
@@ -33,7 +33,7 @@ fn nothing_read() -> Frame
     }
 }
 
-// The pieces, with the last one.
+/// The pieces, with the last one.
 fn join_last(
     alloc: Global,
     pieces: Option<Part>,
@@ -53,65 +53,50 @@ fn join_last(
     }
 }
 
-// All that is read of the group.
+/// All that is read of the group.
 fn close_group(alloc: Global, frame: Frame) -> Result<Part, AllocError>
     ensures { IfOk result (λ p. p ≡ whole_of frame) }
 {
-    let Frame {
-        alternatives,
-        pieces,
-        current,
-    } = frame;
-    let all = join_last(alloc, pieces, current)?;
+    let all = join_last(alloc, frame.pieces, frame.current)?;
     let branch = match all {
         None => Part::empty(),
         Some(part) => part,
     };
-    match alternatives {
+    match frame.alternatives {
         None => Ok(branch),
         Some(before) => before.or(alloc, branch),
     }
 }
 
-// One more piece, which may be repeated.
+/// One more piece, which may be repeated.
 fn add_atom(alloc: Global, frame: Frame, atom: Part) -> Result<Frame, AllocError>
     ensures { IfOk result (λ f. f ≡ with_atom frame atom) }
 {
-    let Frame {
-        alternatives,
-        pieces,
-        current,
-    } = frame;
-    let all = join_last(alloc, pieces, current)?;
+    let all = join_last(alloc, frame.pieces, frame.current)?;
     Ok(Frame {
-        alternatives,
+        alternatives: frame.alternatives,
         pieces: all,
         current: Some(atom),
     })
 }
 
-// One more piece, which may not.
+/// One more piece, which may not.
 fn add_anchor(alloc: Global, frame: Frame, anchor: Part) -> Result<Frame, AllocError>
     ensures { IfOk result (λ f. f ≡ with_anchor frame anchor) }
 {
-    let Frame {
-        alternatives,
-        pieces,
-        current,
-    } = frame;
-    let all = join_last(alloc, pieces, current)?;
+    let all = join_last(alloc, frame.pieces, frame.current)?;
     let joined = match all {
         None => anchor,
         Some(before) => before.join(alloc, anchor)?,
     };
     Ok(Frame {
-        alternatives,
+        alternatives: frame.alternatives,
         pieces: Some(joined),
         current: None,
     })
 }
 
-// The branch is over.
+/// The branch is over.
 fn add_bar(alloc: Global, frame: Frame) -> Result<Frame, AllocError>
     ensures { IfOk result (λ f. f ≡ with_bar frame) }
 {
@@ -123,7 +108,7 @@ fn add_bar(alloc: Global, frame: Frame) -> Result<Frame, AllocError>
     })
 }
 
-// The last piece is repeated.
+/// The last piece is repeated.
 fn add_count(alloc: Global, frame: Frame, count: Count) -> Result<Frame, EreError>
     ensures is { IfOk result (λ f. with_count frame frame.current count ≡ Some f) }
     ensures refused { IfErr result (λ x. (x ≡ EreError.Memory) ⊎ ((x ≡ EreError.Syntax) × (with_count frame frame.current count ≡ None))
@@ -147,7 +132,7 @@ fn add_count(alloc: Global, frame: Frame, count: Count) -> Result<Frame, EreErro
     }
 }
 
-// What a token makes of the groups that are open; the innermost one is given and answered apart.
+/// What a token makes of the groups that are open; the innermost one is given and answered apart.
 fn read_token(
     alloc: Global,
     outer: &mut Vec<Frame>,
@@ -181,7 +166,7 @@ fn read_token(
     }
 }
 
-// Whether the tokens have a tree. It takes no memory.
+/// Whether the tokens have a tree. It takes no memory.
 fn is_well_formed(tokens: &[Token]) -> bool
     ensures { result ≡ is_formed tokens.now 0 false }
 {
@@ -214,7 +199,7 @@ fn is_well_formed(tokens: &[Token]) -> bool
     depth == 0
 }
 
-// The part that well-formed tokens stand for.
+/// The part that well-formed tokens stand for.
 fn read_tokens(alloc: Global, tokens: &[Token]) -> Result<Part, EreError>
     ensures is { IfOk result (λ e. run [] fresh tokens.now ≡ Some e) }
     ensures refused { IfErr result (λ x. IsTreeRefused x (run [] fresh tokens.now)) }
@@ -233,7 +218,7 @@ fn read_tokens(alloc: Global, tokens: &[Token]) -> Result<Part, EreError>
 
 /// The node that a pattern stands for. `Syntax`: it is no expression; `TooLarge`: it is one beyond the limits.
 pub fn read(alloc: Global, pattern: &[u8]) -> Result<Node, EreError>
-    ensures is { IfOk result (λ n. Reads pattern.now (tree_of n)) }
+    ensures is { IfOk result (λ n. IsPatternOf pattern.now (tree_of n)) }
     ensures within { IfOk result (λ n. IsWithinLimits (tree_of n)) }
     ensures refused { IfErr result (λ x. IsRefused x pattern.now) }
 {

@@ -2,19 +2,19 @@
 
 ghost use Rattle.std.specs.Prelude.{◌≡◌, ℕ, ◌+◌, ◌-◌, ◌<◌, ◌≤◌, List, [], ◌∷◌, ◌++◌, length, drop, MatchOption, IfOk, IfErr, OnOk};
 ghost use Rattle.rawk_ere.specs.declared.token.Token.{Token};
-ghost use Rattle.rawk_ere.specs.Pattern.{IsOneOf, IsToken, IsLed, AreTokens, IsScanRefused};
+ghost use Rattle.rawk_ere.specs.Pattern.{IsOneOf, IsToken, IsFirstToken, AreTokens, IsScanRefused};
 
 use crate::bracket::bracket_at;
+use crate::byte_kind::{ByteKind, kind_of};
 use crate::byte_set::{all, of_byte};
 use crate::bytes::unescape;
 use crate::error::EreError;
 use crate::interval::{Brace, brace_at};
-use crate::lead::{Lead, led_by};
 use crate::token::Token;
-use rawk_ere_code::node::Count;
+use rawk_ere_tree::node::Count;
 use std::alloc::{AllocError, Global};
 
-// The byte itself.
+/// The byte itself.
 fn one_byte(byte: u8) -> Token
     ensures { IsOneOf (λ k. k ≡ byte) result }
 {
@@ -22,7 +22,7 @@ fn one_byte(byte: u8) -> Token
     Token::OneOf(set)
 }
 
-// Any byte.
+/// Any byte.
 fn any_byte() -> Token
     ensures { IsOneOf (λ _. Unit {0}) result }
 {
@@ -30,29 +30,29 @@ fn any_byte() -> Token
     Token::OneOf(set)
 }
 
-// The token that the byte before a place begins with, and the place after it.
-fn led_token(pattern: &[u8], at: usize, byte: u8, lead: Lead) -> Option<(Token, usize)>
+/// The token that the byte before a place begins with, and the place after it.
+fn first_token(pattern: &[u8], at: usize, byte: u8, kind: ByteKind) -> Option<(Token, usize)>
     requires { at ≤ length pattern.now }
-    ensures is { MatchOption result ((t : Token) (rest : List ℕ) → IsLed lead byte (drop at pattern.now) t rest → ⊥) (λ r. IsLed lead byte (drop at pattern.now) r.0 (drop r.1 pattern.now)) }
+    ensures is { MatchOption result ((t : Token) (rest : List ℕ) → IsFirstToken kind byte (drop at pattern.now) t rest → ⊥) (λ r. IsFirstToken kind byte (drop at pattern.now) r.0 (drop r.1 pattern.now)) }
     ensures within { MatchOption result (Unit {0}) (λ r. (at ≤ r.1) × (r.1 ≤ length pattern.now)) }
 {
-    match lead {
-        Lead::Itself => Some((one_byte(byte), at)),
-        Lead::Any => Some((any_byte(), at)),
-        Lead::Start => Some((Token::Start, at)),
-        Lead::End => Some((Token::End, at)),
-        Lead::Bar => Some((Token::Bar, at)),
-        Lead::Open => Some((Token::Open, at)),
-        Lead::Close => Some((Token::Close, at)),
-        Lead::Star => Some((Token::Times(Count::Star), at)),
-        Lead::Plus => Some((Token::Times(Count::Plus), at)),
-        Lead::Maybe => Some((Token::Times(Count::Maybe), at)),
-        Lead::Backslash => match unescape(pattern, at) {
+    match kind {
+        ByteKind::Ordinary => Some((one_byte(byte), at)),
+        ByteKind::Any => Some((any_byte(), at)),
+        ByteKind::Start => Some((Token::Start, at)),
+        ByteKind::End => Some((Token::End, at)),
+        ByteKind::Bar => Some((Token::Bar, at)),
+        ByteKind::Open => Some((Token::Open, at)),
+        ByteKind::Close => Some((Token::Close, at)),
+        ByteKind::Star => Some((Token::Times(Count::Star), at)),
+        ByteKind::Plus => Some((Token::Times(Count::Plus), at)),
+        ByteKind::Maybe => Some((Token::Times(Count::Maybe), at)),
+        ByteKind::Backslash => match unescape(pattern, at) {
             None => None,
             Some((is, next)) => Some((one_byte(is), next)),
         },
-        Lead::Bracket => bracket_at(pattern, at),
-        Lead::Brace => match brace_at(pattern, at) {
+        ByteKind::Bracket => bracket_at(pattern, at),
+        ByteKind::Brace => match brace_at(pattern, at) {
             Brace::Itself => Some((one_byte(b'{'), at)),
             Brace::Wrong => None,
             Brace::Interval(count, next) => Some((Token::Times(count), next)),
@@ -60,17 +60,17 @@ fn led_token(pattern: &[u8], at: usize, byte: u8, lead: Lead) -> Option<(Token, 
     }
 }
 
-// The token at a place, and the place after it.
+/// The token at a place, and the place after it.
 fn token_at(pattern: &[u8], at: usize) -> Option<(Token, usize)>
     requires { at < length pattern.now }
     ensures is { MatchOption result ((t : Token) (rest : List ℕ) → IsToken (drop at pattern.now) t rest → ⊥) (λ r. IsToken (drop at pattern.now) r.0 (drop r.1 pattern.now)) }
     ensures within { MatchOption result (Unit {0}) (λ r. (at < r.1) × (r.1 ≤ length pattern.now)) }
 {
     let byte = pattern[at];
-    led_token(pattern, at + 1, byte, led_by(byte))
+    first_token(pattern, at + 1, byte, kind_of(byte))
 }
 
-// One more token.
+/// One more token.
 fn add_token(tokens: &mut Vec<Token>, token: Token) -> Result<(), AllocError>
     ensures { OnOk result (tokens.new.items ≡ tokens.old.items ++ token ∷ []) }
 {

@@ -1,7 +1,7 @@
 //! The tokens of a pattern.
 
-use rawk_ere_code::byte_set::ByteSet;
-use rawk_ere_code::node::Count;
+use rawk_ere_tree::byte_set::ByteSet;
+use rawk_ere_tree::node::Count;
 
 /// What a byte, an escape, a bracket expression or an operator of a pattern stands for.
 #[derive(Clone, Copy)]

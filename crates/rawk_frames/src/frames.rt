@@ -211,7 +211,7 @@ impl Frames {
         self.locals.undo(&mut group.locals);
     }
 
-    // Makes a change within the step in progress. It fails where memory is refused.
+    /// Makes a change within the step in progress. It fails where memory is refused.
     fn change(&mut self, change: FramesChange) -> Result<(), AllocError>
         ensures did { OnOk result (frames_of self.new.now ≡ changed_frames change (frames_of self.old.now)) }
         ensures start { GrownFrames self.old.start self.new.start }
@@ -271,14 +271,14 @@ impl Reversible for Frames {
     }
 }
 
-// How many activations there are. The locals are read by the clauses alone.
+/// How many activations there are. The locals are read by the clauses alone.
 fn depth_of(frames: &Stack<Activation>, locals: &Stack<Local>) -> usize
     ensures { result ≡ length (frames_from (live_values frames.now.now) (live_slots locals.now.now)) }
 {
     frames.len()
 }
 
-// What is kept of an activation. The locals are read by the clauses alone.
+/// What is kept of an activation. The locals are read by the clauses alone.
 fn frame_of<'a>(
     frames: &'a Stack<Activation>,
     locals: &Stack<Local>,
@@ -292,7 +292,7 @@ fn frame_of<'a>(
     }
 }
 
-// Where a local of the newest activation stands.
+/// Where a local of the newest activation stands.
 fn place_of(frames: &Stack<Activation>, locals: &Stack<Local>, number: usize) -> Option<usize>
     ensures found { IfSome result (λ p. IsPlace number (live_values frames.now.now) (live_slots locals.now.now) p) }
     ensures absent { IfNone result (length (locals_now (frames_from (live_values frames.now.now) (live_slots locals.now.now))) ≤ number) }
@@ -310,7 +310,7 @@ fn place_of(frames: &Stack<Activation>, locals: &Stack<Local>, number: usize) ->
     }
 }
 
-// A local of the newest activation.
+/// A local of the newest activation.
 fn local_of<'a>(
     frames: &Stack<Activation>,
     locals: &'a Stack<Local>,
@@ -324,7 +324,7 @@ fn local_of<'a>(
     }
 }
 
-// Writes a local of the newest activation.
+/// Writes a local of the newest activation.
 fn set_local_of(
     frames: &Stack<Activation>,
     locals: &mut Stack<Local>,

@@ -150,7 +150,7 @@ impl KeysLeft {
         self.visited.undo(&mut group.visited);
     }
 
-    // Makes a change within the step in progress. It fails where memory is refused.
+    /// Makes a change within the step in progress. It fails where memory is refused.
     fn change(&mut self, change: KeysChange) -> Result<(), AllocError>
         ensures did { OnOk result (keys_of self.new.now ≡ changed_keys change (keys_of self.old.now)) }
         ensures start { GrownKeys self.old.start self.new.start }
@@ -205,7 +205,7 @@ impl Reversible for KeysLeft {
     }
 }
 
-// The next key of the innermost loop.
+/// The next key of the innermost loop.
 fn next_of<'a>(lists: &'a Stack<Vec<Vec<u8>>>, visited: &Stack<usize>) -> Option<&'a [u8]>
     ensures { option_copied result ≡ slice_get (keys_now (left_lists (live_values visited.now.now) (live_values lists.now.now))) 0 }
 {
@@ -218,7 +218,7 @@ fn next_of<'a>(lists: &'a Stack<Vec<Vec<u8>>>, visited: &Stack<usize>) -> Option
     }
 }
 
-// A key of a list.
+/// A key of a list.
 fn key_of(list: &Vec<Vec<u8>>, number: usize) -> Option<&[u8]>
     ensures { option_copied result ≡ slice_get (drop number (texts list.now.items)) 0 }
 {
@@ -228,7 +228,7 @@ fn key_of(list: &Vec<Vec<u8>>, number: usize) -> Option<&[u8]>
     }
 }
 
-// One more key of the innermost loop is visited.
+/// One more key of the innermost loop is visited.
 fn advance_of(lists: &Stack<Vec<Vec<u8>>>, visited: &mut Stack<usize>) -> Result<(), AllocError>
     ensures did { OnOk result (left_lists (live_values visited.new.now) (live_values lists.now.now) ≡ without_first (left_lists (live_values visited.old.now) (live_values lists.now.now))) }
     ensures start { visited.new.start ≡ visited.old.start }

@@ -6,6 +6,3 @@ pub mod keys_left;
 
 pub use frames::{Activation, Frames, FramesChange, FramesGroup, Local};
 pub use keys_left::{KeysChange, KeysLeft, KeysLeftGroup, Ranges, RangesGroup};
-
-#[cfg(test)]
-mod tests;

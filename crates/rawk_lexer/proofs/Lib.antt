@@ -1,0 +1,4 @@
+pub mod Lexemes
+pub mod Gaps
+pub mod Cuts
+pub mod EreCuts

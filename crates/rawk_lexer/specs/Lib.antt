@@ -1,12 +1,10 @@
-pub mod Cuts
 pub mod Ere
-pub mod EreCuts
 pub mod EreToken
 pub mod Escape
-pub mod Gaps
 pub mod Lex
-pub mod Lexemes
 pub mod Lines
 pub mod Moves
+pub mod Name
 pub mod Ready
+pub mod Shown
 pub mod Token

@@ -6,7 +6,7 @@ use Rattle.rawk_lexer.specs.declared.scan.Class.{Class}
 use Rattle.rawk_lexer.specs.declared.scan.Class.TheVariants as class
 use Rattle.rawk_lexer.specs.declared.token.Kind.{Kind}
 use Rattle.rawk_lexer.specs.declared.token.Kind.TheVariants.{EndOfText}
-use Rattle.rawk_lexer.specs.Lex.{Token, is_in, run, mantissa_len, number_len, begins_number, closing, closed, quoted, double, two_or_one, symbol, token, blank_len, skip_from, skip, kind, next, left, ere_at, ere_len, past_ere}
+use Rattle.rawk_lexer.specs.Lex.{Token, is_in, run, mantissa_len, number_len, begins_number, closing, closed, quoted, double, two_or_one, symbol, token, blank_len, skip_from, skip, kind, next, left}
 
 run_moves : (c : Class) (b : ℕ) (z : List ℕ) → is_in c b ≡ true → 1 ≤ run c (b ∷ z)
 run_moves c b z h = rw h (omega arith)
@@ -96,12 +96,3 @@ next_shrinks z h = go (skip z) refl
     go : (s : List ℕ) → skip z ≡ s → length (skip (drop (token (skip z)).1 (skip z))) < length (skip z)
     go [] e = absurd (h (ap (λ s. (token s).0) e ∙ token_nil))
     go (b ∷ s) e = rw e (dropped (token (b ∷ s)).1 (b ∷ s) (token_moves b s) (omega arith))
-
--- behind a regular expression less text is left
-pub ere_shrinks : (z : List ℕ) → ere_len z ≢ 0 → left (past_ere z) < left z
-unfolding left past_ere ere_len
-ere_shrinks z h = go (skip z) refl
-  where
-    go : (s : List ℕ) → skip z ≡ s → length (skip (drop (ere_at (skip z)) (skip z))) < length (skip z)
-    go [] e = absurd (h (ap ere_at e))
-    go (b ∷ s) e = dropped (ere_at (skip z)) (skip z) (omega arith) (rw e (omega arith))

@@ -2,10 +2,9 @@
 
 ghost use Rattle.std.specs.Prelude.{◌≢◌, List, ℕ};
 ghost use Rattle.rawk_lexer.specs.declared.token.Kind.{Kind};
-ghost use Rattle.rawk_lexer.specs.Cuts.{Shows};
-ghost use Rattle.rawk_lexer.specs.EreCuts.{ShowsEre};
 ghost use Rattle.rawk_lexer.specs.EreToken.{IsEre};
 ghost use Rattle.rawk_lexer.specs.Lex as spec;
+ghost use Rattle.rawk_lexer.specs.Shown.{Shows, ShowsEre};
 ghost use Rattle.rawk_lexer.specs.Token.{IsToken};
 
 /// What a `Cursor` shows of a text is the text's next token, the longest one behind its blanks, and no other token stands

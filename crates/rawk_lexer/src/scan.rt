@@ -8,7 +8,7 @@ use crate::ere;
 use crate::token::{Kind, WORDS};
 
 #[derive(Clone, Copy, Debug)]
-enum Class {
+pub(crate) enum Class {
     Blank,
     Digit,
     Word,
@@ -18,7 +18,7 @@ enum Class {
 /// A kind, and a length in bytes.
 pub type Token = (Kind, usize);
 
-fn is_in(class: Class, b: u8) -> bool
+pub(crate) fn is_in(class: Class, b: u8) -> bool
     ensures { result ≡ spec.is_in class b }
 {
     match class {
@@ -54,7 +54,7 @@ fn lookup(mut table: &[(&[u8], Kind)], word: &[u8]) -> Kind
 }
 
 #[tactic(auto, unfolding(crate::specs::Lex::keyword))]
-fn keyword(word: &[u8]) -> Kind
+pub(crate) fn keyword(word: &[u8]) -> Kind
     ensures { result ≡ spec.keyword word.now }
 {
     lookup(&WORDS, word)

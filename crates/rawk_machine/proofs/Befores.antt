@@ -8,8 +8,8 @@ use Rattle.rawk_store.specs.Back.{back}
 use Rattle.rawk_store.specs.BackLaws.{length-back}
 use Rattle.rawk_store.specs.Layout.{Layout}
 use Rattle.rawk_code.specs.Actions.{SetAt}
-use Rattle.rawk_machine.specs.declared.last.Last.{Last}
-use Rattle.rawk_machine.specs.declared.last.Last.TheVariants as last
+use Rattle.rawk_machine.specs.declared.last_move.LastMove.{LastMove}
+use Rattle.rawk_machine.specs.declared.last_move.LastMove.TheVariants as last
 use Rattle.rawk_machine.specs.Standing.{Seen}
 use Rattle.rawk_machine.specs.Kept.{pasts, back_in, globals_forth, before_of}
 
@@ -17,7 +17,7 @@ length_forth : (xs : List Value) (gs : List Group) → length (globals_forth xs 
 length_forth xs [] = refl
 length_forth xs (g ∷ gs) = length_forth (back xs g.globals.entries.items) gs ∙ length-back xs g.globals.entries.items
 
-pub length_before : (la : Last) (l : Layout) (sets : List SetAt) (point : ℕ) (here : List Group) (items : List Kept) (s : Seen) → (la ≡ last.On → here ≡ []) → before_of la l.globals l.current (pasts l sets point here items) ≡ Some s → length s.globals ≡ length l.globals
+pub length_before : (la : LastMove) (l : Layout) (sets : List SetAt) (point : ℕ) (here : List Group) (items : List Kept) (s : Seen) → (la ≡ last.On → here ≡ []) → before_of la l.globals l.current (pasts l sets point here items) ≡ Some s → length s.globals ≡ length l.globals
 length_before last.Nothing l sets point here items s clean h = absurd (cc h)
 length_before last.On l sets point here [] s clean h = absurd (cc h)
 length_before last.On l sets point here (item ∷ items) s clean h =

@@ -8,27 +8,27 @@ use Rattle.rawk_store.specs.State.{State}
 use Rattle.rawk_machine.specs.Standing.{Standing, MayCome, IsAt, dropped, whole, ground_of, moment_of}
 use Rattle.rawk_machine.specs.Reached.{stands_as}
 
-whole_dropped : (gone told bytes : Bytes) (s : State) (n : ℕ) → n ≤ length bytes → n ≤ s.consumed → whole gone told s ≡ whole (gone ++ take n bytes) told (record s { consumed = s.consumed - n })
-whole_dropped gone told bytes s n h k =
+whole_dropped : (gone handed bytes : Bytes) (s : State) (n : ℕ) → n ≤ length bytes → n ≤ s.consumed → whole gone handed s ≡ whole (gone ++ take n bytes) handed (record s { consumed = s.consumed - n })
+whole_dropped gone handed bytes s n h k =
     let e : length gone + s.consumed ≡ length (gone ++ take n bytes) + (s.consumed - n) = omega (arith, length-append gone (take n bytes), length-take-le n bytes h) in
-    ap (λ (c : ℕ). record (whole gone told s) { consumed = c }) e
+    ap (λ (c : ℕ). record (whole gone handed s) { consumed = c }) e
 
 -- bytes that were dropped are gone
-pub at_dropped : {S : Type 0} (machine : Standing S) (n : ℕ) (input : Input) (gone told : Bytes) → n ≤ length machine.tape.bytes → n ≤ machine.state.consumed → IsAt machine input gone told → IsAt (dropped n machine) input (gone ++ take n machine.tape.bytes) told
-at_dropped machine n input gone told h k at =
-    stands_as (ground_of machine input) machine.sets machine.point (moment_of machine) gone told (gone ++ take n machine.tape.bytes) told (record machine.state { consumed = machine.state.consumed - n })
-    (sym (whole_dropped gone told machine.tape.bytes machine.state n h k)) at
+pub at_dropped : {S : Type 0} (machine : Standing S) (n : ℕ) (input : Input) (gone handed : Bytes) → n ≤ length machine.tape.bytes → n ≤ machine.state.consumed → IsAt machine input gone handed → IsAt (dropped n machine) input (gone ++ take n machine.tape.bytes) handed
+at_dropped machine n input gone handed h k at =
+    stands_as (ground_of machine input) machine.sets machine.point (moment_of machine) gone handed (gone ++ take n machine.tape.bytes) handed (record machine.state { consumed = machine.state.consumed - n })
+    (sym (whole_dropped gone handed machine.tape.bytes machine.state n h k)) at
 
-pub at_kept : {S : Type 0} (machine : Standing S) (n : ℕ) (input : Input) (gone told : Bytes) → n ≤ length machine.tape.bytes → n ≤ machine.state.consumed → IsAt (dropped n machine) input (gone ++ take n machine.tape.bytes) told → IsAt machine input gone told
-at_kept machine n input gone told h k at =
-    stands_as (ground_of machine input) machine.sets machine.point (moment_of (dropped n machine)) (gone ++ take n machine.tape.bytes) told gone told machine.state
-    (whole_dropped gone told machine.tape.bytes machine.state n h k) at
+pub at_kept : {S : Type 0} (machine : Standing S) (n : ℕ) (input : Input) (gone handed : Bytes) → n ≤ length machine.tape.bytes → n ≤ machine.state.consumed → IsAt (dropped n machine) input (gone ++ take n machine.tape.bytes) handed → IsAt machine input gone handed
+at_kept machine n input gone handed h k at =
+    stands_as (ground_of machine input) machine.sets machine.point (moment_of (dropped n machine)) (gone ++ take n machine.tape.bytes) handed gone handed machine.state
+    (whole_dropped gone handed machine.tape.bytes machine.state n h k) at
 
--- output that was given is told
-pub at_given : {S : Type 0} (machine : Standing S) (input : Input) (gone told : Bytes) → IsAt machine input gone told → IsAt (record machine { state = record machine.state { output = [] } }) input gone (told ++ machine.state.output)
-at_given machine input gone told at =
-    stands_as (ground_of machine input) machine.sets machine.point (moment_of machine) gone told gone (told ++ machine.state.output) (record machine.state { output = [] })
-    (ap (λ (o : Bytes). record (whole gone told machine.state) { output = o }) (append-nil (told ++ machine.state.output))) at
+-- output that was given is handed
+pub at_given : {S : Type 0} (machine : Standing S) (input : Input) (gone handed : Bytes) → IsAt machine input gone handed → IsAt (record machine { state = record machine.state { output = [] } }) input gone (handed ++ machine.state.output)
+at_given machine input gone handed at =
+    stands_as (ground_of machine input) machine.sets machine.point (moment_of machine) gone handed gone (handed ++ machine.state.output) (record machine.state { output = [] })
+    (ap (λ (o : Bytes). record (whole gone handed machine.state) { output = o }) (append-nil (handed ++ machine.state.output))) at
 
 -- these bytes, in two parts
 before_parts : (gone bytes : Bytes) (n : ℕ) (rest : Input) → before (gone ++ take n bytes) (before (drop n bytes) rest) ≡ before gone (before bytes rest)

@@ -1,4 +1,4 @@
--- How the elements of an array are told apart.
+-- How the elements of an array are handed apart.
 use Rattle.std.specs.FinMap as map
 use Rattle.std.specs.Coded.{Coded, coded_list, coded_ℕ}
 use Rattle.rawk_value.specs.declared.value.Value.{Value}

@@ -52,9 +52,9 @@ over_ending e f r s h = cc
 over_run : (e f : Ending) (r s : Run) → Over e r ≡ Over f s → r ≡ s
 over_run e f r s h = cc
 
-point_in : {S : Type 0} (t : Trace) (machine : Standing S) (input : Input) (gone told : Bytes) → CodeRun machine.code machine.settings (given_of machine input) t → (at : HasReached machine input gone told) → machine.ending ≡ None → IsPointOf t machine told
-point_in t machine input gone told run at going =
-    let s : State = whole_state machine gone told in
+point_in : {S : Type 0} (t : Trace) (machine : Standing S) (input : Input) (gone handed : Bytes) → CodeRun machine.code machine.settings (given_of machine input) t → (at : HasReached machine input gone handed) → machine.ending ≡ None → IsPointOf t machine handed
+point_in t machine input gone handed run at going =
+    let s : State = whole_state machine gone handed in
     let point : Point = record { site = machine.site; state = s } in
     let c : Config = Going machine.place machine.operands machine.keys machine.returns machine.phase (record { points = at.earlier ++ point ∷ []; state = s }) in
     let here : after machine.code machine.settings (given_of machine input) at.count ≡ c =
@@ -66,9 +66,9 @@ point_in t machine input gone told run at going =
       output = refl;
     }
 
-end_in : {S : Type 0} (t : Trace) (e : Ending) (machine : Standing S) (input : Input) (gone told : Bytes) → CodeRun machine.code machine.settings (given_of machine input) t → (at : HasReached machine input gone told) → machine.ending ≡ Some e → IsEndOf t e machine told
-end_in t e machine input gone told run at over =
-    let s : State = whole_state machine gone told in
+end_in : {S : Type 0} (t : Trace) (e : Ending) (machine : Standing S) (input : Input) (gone handed : Bytes) → CodeRun machine.code machine.settings (given_of machine input) t → (at : HasReached machine input gone handed) → machine.ending ≡ Some e → IsEndOf t e machine handed
+end_in t e machine input gone handed run at over =
+    let s : State = whole_state machine gone handed in
     let r : Run = record { points = at.earlier; state = s } in
     let here : after machine.code machine.settings (given_of machine input) at.count ≡ Over e r =
     at.reached ∙ ap (λ (o : Option Ending). config_at o machine.place machine.operands machine.keys machine.returns machine.phase (run_at o machine.site at.earlier s)) over in
@@ -85,12 +85,12 @@ end_in t e machine input gone told run at over =
     }
 
 -- the machine stands in the trace of the program that its code is of
-pub stands_in_trace : {S : Type 0} (p : Program) (machine : Standing S) (input : Input) (gone told : Bytes) → CodeOf p machine.code → IsAt machine input gone told → StandsIn (trace p machine.settings (given_of machine input)) machine told
-stands_in_trace {S} p machine input gone told code at = by_ending machine.ending refl
+pub stands_in_trace : {S : Type 0} (p : Program) (machine : Standing S) (input : Input) (gone handed : Bytes) → CodeOf p machine.code → IsAt machine input gone handed → StandsIn (trace p machine.settings (given_of machine input)) machine handed
+stands_in_trace {S} p machine input gone handed code at = by_ending machine.ending refl
   where
-    by_ending : (o : Option Ending) → machine.ending ≡ o → stands_by o (trace p machine.settings (given_of machine input)) machine told
-    by_ending None is = point_in (trace p machine.settings (given_of machine input)) machine input gone told (code machine.settings (given_of machine input)) (has_reached machine input gone told at) is
-    by_ending (Some e) is = end_in (trace p machine.settings (given_of machine input)) e machine input gone told (code machine.settings (given_of machine input)) (has_reached machine input gone told at) is
+    by_ending : (o : Option Ending) → machine.ending ≡ o → stands_by o (trace p machine.settings (given_of machine input)) machine handed
+    by_ending None is = point_in (trace p machine.settings (given_of machine input)) machine input gone handed (code machine.settings (given_of machine input)) (has_reached machine input gone handed at) is
+    by_ending (Some e) is = end_in (trace p machine.settings (given_of machine input)) e machine input gone handed (code machine.settings (given_of machine input)) (has_reached machine input gone handed at) is
 
 whole_none : (s : State) → whole [] [] s ≡ s
 whole_none s = let e : 0 + s.consumed ≡ s.consumed = omega arith in ap (λ (c : ℕ). record s { consumed = c }) e

@@ -11,8 +11,8 @@ use Rattle.rawk_store.specs.Saving.{saved_in}
 use Rattle.rawk_store.specs.GroupBack.{FitsIn, put_back}
 use Rattle.rawk_travel.specs.Moving.{phase_of, ending_of}
 use Rattle.rawk_code.specs.Actions.{SetAt}
-use Rattle.rawk_machine.specs.declared.last.Last.{Last}
-use Rattle.rawk_machine.specs.declared.last.Last.TheVariants as last
+use Rattle.rawk_machine.specs.declared.last_move.LastMove.{LastMove}
+use Rattle.rawk_machine.specs.declared.last_move.LastMove.TheVariants as last
 use Rattle.rawk_machine.specs.Standing.{Moment, Earlier, Past, Seen, seen}
 
 -- a moment, as it lies in the parts
@@ -86,7 +86,7 @@ seen_forth globals current kept = record {
 }
 
 -- what was seen before the last move
-abbrev pub before_of : Last → List Value → Shown → List Past → Option Seen
+abbrev pub before_of : LastMove → List Value → Shown → List Past → Option Seen
 before_of last.Nothing globals current history = None
 before_of last.On globals current history = seen_first history
 before_of (last.Back kept) globals current history = Some (seen_forth globals current kept)

@@ -61,17 +61,17 @@ reached_by ground sets point moment now (Some e) count at earlier state pending 
   site = ap (λ (s : State). site_at_end e (record { points = earlier; state = s })) is ∙ site;
 }
 
-pub stands_reached : (ground : Ground) (sets : List SetAt) (point : ℕ) (moment : Moment) (gone told : Bytes) → (at : StandsAt ground sets point moment gone told) → ReachedBy ground sets moment moment.ending at.earlier (whole gone told moment.state)
-stands_reached ground sets point moment gone told at = reached_by ground sets point moment (whole gone told moment.state) moment.ending at.count at.at at.earlier at.state at.pending at.arrived at.number
+pub stands_reached : (ground : Ground) (sets : List SetAt) (point : ℕ) (moment : Moment) (gone handed : Bytes) → (at : StandsAt ground sets point moment gone handed) → ReachedBy ground sets moment moment.ending at.earlier (whole gone handed moment.state)
+stands_reached ground sets point moment gone handed at = reached_by ground sets point moment (whole gone handed moment.state) moment.ending at.count at.at at.earlier at.state at.pending at.arrived at.number
 
-pub has_reached : {S : Type 0} (machine : Standing S) (input : Input) (gone told : Bytes) → IsAt machine input gone told → HasReached machine input gone told
-has_reached machine input gone told at =
-    let r = stands_reached (ground_of machine input) machine.sets machine.point (moment_of machine) gone told at in
+pub has_reached : {S : Type 0} (machine : Standing S) (input : Input) (gone handed : Bytes) → IsAt machine input gone handed → HasReached machine input gone handed
+has_reached machine input gone handed at =
+    let r = stands_reached (ground_of machine input) machine.sets machine.point (moment_of machine) gone handed at in
     record { count = r.count; earlier = at.earlier; reached = r.reached; number = at.number; site = r.site }
 
 -- with a state that is the same with what was dropped and given
-pub stands_as : (ground : Ground) (sets : List SetAt) (point : ℕ) (m : Moment) (gone told gone2 told2 : Bytes) (s : State) → whole gone2 told2 s ≡ whole gone told m.state → StandsAt ground sets point m gone told → StandsAt ground sets point (record m { state = s }) gone2 told2
-stands_as ground sets point m gone told gone2 told2 s e at = record {
+pub stands_as : (ground : Ground) (sets : List SetAt) (point : ℕ) (m : Moment) (gone handed gone2 told2 : Bytes) (s : State) → whole gone2 told2 s ≡ whole gone handed m.state → StandsAt ground sets point m gone handed → StandsAt ground sets point (record m { state = s }) gone2 told2
+stands_as ground sets point m gone handed gone2 told2 s e at = record {
   count = at.count;
   at = at.at;
   earlier = at.earlier;

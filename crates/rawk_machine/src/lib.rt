@@ -3,13 +3,13 @@
 
 mod arrival;
 mod back;
+mod earlier;
+mod getters;
 mod journal;
-mod last;
-mod look;
+mod last_move;
 mod machine;
 mod start;
 mod step;
-mod watch;
 
 pub use machine::Machine;
 pub use rawk_store::{Full, Keeper, Off};

@@ -14,7 +14,7 @@ ghost use Rattle.rawk_travel.specs.Moving.{ending_of};
 use crate::arrival::step;
 use crate::back::{global_of, go_back, keep_below, write_global};
 use crate::journal::journaled;
-use crate::last::Last;
+use crate::last_move::LastMove;
 use crate::start::{copy_settings, fill_globals};
 use crate::step::Step;
 use rawk_code::{Code, SetAt, Settings};
@@ -38,7 +38,7 @@ pub struct Machine<R: Source + Drop, K: Keeper> {
     pub(crate) sets: Vec<SetAt>,
     // What each set changed that was made at the present point.
     pub(crate) here: Vec<Group>,
-    pub(crate) last: Last,
+    pub(crate) last: LastMove,
     pub(crate) steps: u64,
     pub(crate) point: u64,
     pub(crate) executed: u128,
@@ -142,7 +142,7 @@ impl<R: Source + Drop, K: Keeper> Machine<R, K> {
             keeper,
             sets: Vec::new(alloc),
             here: Vec::new(alloc),
-            last: Last::Nothing,
+            last: LastMove::Nothing,
             steps,
             point: 0,
             executed,
@@ -159,7 +159,7 @@ impl<R: Source + Drop, K: Keeper> Machine<R, K> {
         ensures steps { self.new.steps ≡ self.old.steps }
         ensures may { (gone : Bytes) (input : Input) → MayCome R.may_give self.new gone input → MayCome R.may_give self.old gone input }
         ensures still { (gone : Bytes) → (input : Input) × MayCome R.may_give self.new gone input }
-        ensures stands { (input : Input) (gone told : Bytes) → MayCome R.may_give self.new gone input → IsAt self.old input gone told → IsAt self.new input gone told }
+        ensures stands { (input : Input) (gone handed : Bytes) → MayCome R.may_give self.new gone input → IsAt self.old input gone handed → IsAt self.new input gone handed }
         ensures stood { (input : Input) → MayCome R.may_give self.new [] input → Stood self.old input → Stood self.new input }
         ensures moves { OnOk result (self.old.ending ≡ None → MovesOn self.old self.new) }
         ensures limit { self.new.limit ≡ self.old.limit }
@@ -210,7 +210,7 @@ impl<R: Source + Drop, K: Keeper> Machine<R, K> {
         go_back(&mut self.store, &mut self.here, &mut item);
         keep_below(&mut self.sets, self.point);
         self.tape.consume(self.store.registers.now.consumed);
-        self.last = Last::Back(item);
+        self.last = LastMove::Back(item);
         self.point -= 1;
         true
     }
@@ -229,7 +229,7 @@ impl<R: Source + Drop, K: Keeper> Machine<R, K> {
         self.store.undo(&mut group);
         self.tape.consume(self.store.registers.now.consumed);
         let _last = self.sets.pop();
-        self.last = Last::Nothing;
+        self.last = LastMove::Nothing;
         true
     }
 
@@ -259,7 +259,7 @@ impl<R: Source + Drop, K: Keeper> Machine<R, K> {
             target,
             value,
         })?;
-        self.last = Last::Nothing;
+        self.last = LastMove::Nothing;
         Ok(None)
     }
 }
@@ -327,7 +327,7 @@ impl<R: Source + Drop> Machine<R, Off> {
         ensures given { buffer.new.items ≡ self.old.state.output }
         ensures rest { self.new ≡ record self.old { state = record self.old.state { output = [] } } }
         ensures may { (gone : Bytes) (input : Input) → MayCome R.may_give self.new gone input ↔ MayCome R.may_give self.old gone input }
-        ensures stands { (input : Input) (gone told : Bytes) → IsAt self.old input gone told → IsAt self.new input gone (told ++ buffer.new.items) }
+        ensures stands { (input : Input) (gone handed : Bytes) → IsAt self.old input gone handed → IsAt self.new input gone (handed ++ buffer.new.items) }
     {
         self.store.output.give(buffer);
     }
@@ -338,7 +338,7 @@ impl<R: Source + Drop> Machine<R, Off> {
         ensures given { result.items ≡ self.old.state.output }
         ensures rest { self.new ≡ record self.old { state = record self.old.state { output = [] } } }
         ensures may { (gone : Bytes) (input : Input) → MayCome R.may_give self.new gone input ↔ MayCome R.may_give self.old gone input }
-        ensures stands { (input : Input) (gone told : Bytes) → IsAt self.old input gone told → IsAt self.new input gone (told ++ result.items) }
+        ensures stands { (input : Input) (gone handed : Bytes) → IsAt self.old input gone handed → IsAt self.new input gone (handed ++ result.items) }
     {
         let mut buffer = Vec::new(alloc);
         self.give_into(&mut buffer);
@@ -377,7 +377,7 @@ impl<R: Source + Drop> Machine<R, Off> {
         ensures dropped { self.new ≡ dropped result self.old }
         ensures fewer { 2 * self.new.tape.consumed ≤ length self.new.tape.bytes }
         ensures may { (gone : Bytes) (input : Input) → MayCome R.may_give self.new (gone ++ take result self.old.tape.bytes) input ↔ MayCome R.may_give self.old gone input }
-        ensures stands { (input : Input) (gone told : Bytes) → IsAt self.new input (gone ++ take result self.old.tape.bytes) told ↔ IsAt self.old input gone told }
+        ensures stands { (input : Input) (gone handed : Bytes) → IsAt self.new input (gone ++ take result self.old.tape.bytes) handed ↔ IsAt self.old input gone handed }
     {
         let size = self.drop_front();
         self.pack(alloc);

@@ -1,73 +1,25 @@
 //! The parts before the first instruction.
 
-ghost use Rattle.std.specs.Prelude.{◌≡◌, ◌++◌, ◌∷◌, [], List, length, replicate, position, IfOk, OnOk};
-ghost use Rattle.std.specs.Str.{bytes_eq};
+ghost use Rattle.std.specs.Prelude.{◌≡◌, ◌++◌, [], length, replicate, IfOk, OnOk};
 ghost use Rattle.rawk_value.specs.declared.value.Value.{Value};
-ghost use Rattle.rawk_store.specs.State.{first_specials};
-ghost use Rattle.rawk_code.specs.Trace.{special_names, with_first, settled};
+ghost use Rattle.rawk_special.specs.Special.{first_specials};
+ghost use Rattle.rawk_code.specs.Trace.{with_first, settled};
 
 use rawk_code::{FirstValue, Settings};
+use rawk_special::{COUNT, first_value, global_number};
 use rawk_store::Cells;
 use rawk_value::{Bytes, Value};
 use std::alloc::{AllocError, Global};
-
-/// The names of the special variables, in the order of their numbers.
-static SPECIAL: [&[u8]; 11] = [
-    b"NR", b"FNR", b"FS", b"OFS", b"ORS", b"RS", b"SUBSEP", b"CONVFMT", b"OFMT", b"RSTART",
-    b"RLENGTH",
-];
-
-/// The place of a word among several.
-fn place_among(word: &[u8], words: &[&[u8]]) -> Option<usize>
-    ensures { result ≡ position (λ w. bytes_eq word.now w.now) words.now }
-{
-    words.iter().position(|w| word == *w)
-}
-
-/// The number of a special variable.
-fn special_number(name: &[u8]) -> Option<usize>
-    ensures { result ≡ position (bytes_eq name.now) special_names }
-{
-    place_among(name, &SPECIAL)
-}
-
-/// The place of a name among those of the other globals.
-fn other_number(name: &[u8], names: &[Bytes]) -> Option<usize>
-    ensures { result ≡ position (bytes_eq name.now) names.now }
-{
-    names.iter().position(|w| name == w.as_slice())
-}
-
-/// Adds a global with a text. It fails where memory is refused.
-fn add_text(alloc: Global, globals: &mut Cells, text: &[u8]) -> Result<(), AllocError>
-    ensures { OnOk result (globals.new.now ≡ globals.old.now ++ (Value.String text.now) ∷ []) }
-{
-    globals.add(Value::String(Bytes::from_slice(alloc, text)?))
-}
-
-/// Adds a global with a number. It fails where memory is refused.
-fn add_number(globals: &mut Cells, n: i64) -> Result<(), AllocError>
-    ensures { OnOk result (globals.new.now ≡ globals.old.now ++ (Value.Number n) ∷ []) }
-{
-    globals.add(Value::Number(n))
-}
 
 /// The special variables. It fails where memory is refused.
 fn add_specials(alloc: Global, globals: &mut Cells) -> Result<(), AllocError>
     requires { globals.old.now ≡ [] }
     ensures { OnOk result (globals.new.now ≡ first_specials) }
 {
-    add_number(globals, 0)?;
-    add_number(globals, 0)?;
-    add_text(alloc, globals, b" ")?;
-    add_text(alloc, globals, b" ")?;
-    add_text(alloc, globals, b"\n")?;
-    add_text(alloc, globals, b"\n")?;
-    add_text(alloc, globals, b"\x1c")?;
-    add_text(alloc, globals, b"%.6g")?;
-    add_text(alloc, globals, b"%.6g")?;
-    add_number(globals, 0)?;
-    add_number(globals, -1)
+    for number in 0..COUNT {
+        globals.add(first_value(alloc, number)?)?;
+    }
+    Ok(())
 }
 
 /// The other globals, without values. It fails where memory is refused.
@@ -80,19 +32,6 @@ fn add_others(globals: &mut Cells, names: &[Bytes]) -> Result<(), AllocError>
     Ok(())
 }
 
-/// The number of a global.
-fn global_number(name: &[u8], names: &[Bytes]) -> Option<usize>
-    ensures { result ≡ position (bytes_eq name.now) (special_names ++ names.now) }
-{
-    match special_number(name) {
-        Some(number) => Some(number),
-        None => match other_number(name, names) {
-            Some(number) => Some(number + 11),
-            None => None,
-        },
-    }
-}
-
 /// One first value. A name that no global has is passed over. It fails where memory is refused.
 fn settle_one(
     alloc: Global,
@@ -102,7 +41,7 @@ fn settle_one(
 ) -> Result<(), AllocError>
     ensures { OnOk result (globals.new.now ≡ with_first names.now first.now globals.old.now) }
 {
-    match global_number(first.name.as_slice(), names) {
+    match global_number(names, first.name.as_slice()) {
         None => Ok(()),
         Some(number) => globals.set(
             number,

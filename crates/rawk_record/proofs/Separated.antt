@@ -3,10 +3,10 @@ use Rattle.std.proofs.Common.{◌≡◌, ◌≤◌, ◌<◌, ◌+◌, ◌-◌, �
 use Rattle.std.proofs.lemmas.Bool.{cases_Bool, ne_eqb}
 use Rattle.std.proofs.lemmas.List.{map_push, length_push}
 use Rattle.rawk_value.specs.Values.{Bytes}
-use Rattle.rawk_ere_code.specs.Tree.{Tree}
-use Rattle.rawk_match.specs.declared.span.Span.{Span}
-use Rattle.rawk_match.specs.Matches.{first_nonempty}
-use Rattle.rawk_match.specs.Laws.{IsSpan, nonempty_within}
+use Rattle.rawk_ere_tree.specs.Tree.{Tree}
+use Rattle.rawk_search.specs.declared.span.Span.{Span}
+use Rattle.rawk_search.specs.Matches.{first_nonempty}
+use Rattle.rawk_search.specs.Laws.{IsSpan, nonempty_within}
 use Rattle.rawk_record.specs.Fields.{comes_first, nearer, newline_from, next_separator, between, ere_parts}
 use Rattle.rawk_record.specs.Pieces.{texts, AllInRange}
 use Rattle.rawk_record.specs.Separators.{IsAhead, IsParted}

@@ -4,10 +4,10 @@ use Rattle.std.specs.List.{slice_split, position_or_len}
 use Rattle.rawk_value.specs.Values.{Bytes, is_blank, is_empty}
 use Rattle.rawk_value.specs.declared.fault.Fault.{Fault}
 use Rattle.rawk_value.specs.declared.fault.Fault.TheVariants.{BadEre}
-use Rattle.rawk_ere_code.specs.Tree.{Tree}
-use Rattle.rawk_match.specs.declared.span.Span.{Span}
-use Rattle.rawk_match.specs.Matches.{first_nonempty}
-use Rattle.rawk_match.specs.Expressions.{ere_of}
+use Rattle.rawk_ere_tree.specs.Tree.{Tree}
+use Rattle.rawk_search.specs.declared.span.Span.{Span}
+use Rattle.rawk_search.specs.Matches.{first_nonempty}
+use Rattle.rawk_search.specs.Expressions.{ere_of}
 
 -- the runs of bytes other than blanks
 abbrev pub words : Bytes → List Bytes

@@ -3,8 +3,8 @@ use Rattle.std.specs.Prelude.{◌≡◌, Bool, true, false, ◌&&◌, ◌||◌, 
 use Rattle.rawk_value.specs.Values.{Bytes}
 use Rattle.rawk_value.specs.declared.fault.Fault.{Fault}
 use Rattle.rawk_value.specs.declared.fault.Fault.TheVariants.{BadEre}
-use Rattle.rawk_ere_code.specs.Tree.{Tree}
-use Rattle.rawk_match.specs.Expressions.{ere_of}
+use Rattle.rawk_ere_tree.specs.Tree.{Tree}
+use Rattle.rawk_search.specs.Expressions.{ere_of}
 use Rattle.rawk_record.specs.Fields.{words, byte_parts, dynamic_parts, fields_of}
 
 dynamic_fault : (e : Option Tree) (newline : Bool) (s : Bytes) (f : Fault) → dynamic_parts e newline s ≡ Err f → f ≡ BadEre

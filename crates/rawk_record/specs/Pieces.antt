@@ -4,7 +4,7 @@ use Rattle.std.specs.List.{slice_split}
 use Rattle.rawk_value.specs.Values.{Bytes, is_empty}
 use Rattle.rawk_value.specs.declared.fault.Fault.{Fault}
 use Rattle.rawk_value.specs.declared.fault.Fault.TheVariants.{OutOfMemory}
-use Rattle.rawk_ere_code.specs.Tree.{Tree}
+use Rattle.rawk_ere_tree.specs.Tree.{Tree}
 use Rattle.rawk_record.specs.Fields.{words, byte_parts, ere_parts, dynamic_parts, fields_of}
 use Rattle.rawk_record.specs.declared.pieces.Piece.{Piece}
 use Rattle.rawk_record.specs.declared.pieces.Separator.{Separator}

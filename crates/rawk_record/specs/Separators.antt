@@ -1,8 +1,8 @@
 -- The separators that come next.
 use Rattle.std.specs.Prelude.{◌≡◌, ℕ, ◌+◌, ◌-◌, ◌≤◌, Bool, true, List, length, ◌++◌}
 use Rattle.rawk_value.specs.Values.{Bytes}
-use Rattle.rawk_ere_code.specs.Tree.{Tree}
-use Rattle.rawk_match.specs.Matches.{first_nonempty}
+use Rattle.rawk_ere_tree.specs.Tree.{Tree}
+use Rattle.rawk_search.specs.Matches.{first_nonempty}
 use Rattle.rawk_record.specs.Fields.{newline_from, next_separator, between}
 use Rattle.rawk_record.specs.Pieces.{texts, AllInRange}
 use Rattle.rawk_record.specs.declared.pieces.Piece.{Piece}

@@ -15,6 +15,3 @@ pub use class::Class;
 pub use parts::FieldRef;
 pub use pieces::{Fields, Piece, Separator, fields_of, pieces_between};
 pub use record::Record;
-
-#[cfg(test)]
-mod tests;

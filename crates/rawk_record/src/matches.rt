@@ -1,7 +1,7 @@
 //! The fields between the matches of an extended regular expression.
 
 ghost use Rattle.std.specs.Prelude.{◌≡◌, ◌≤◌, [], true, IfOk, OnOk, length};
-ghost use Rattle.rawk_match.specs.Matches.{first_nonempty};
+ghost use Rattle.rawk_search.specs.Matches.{first_nonempty};
 ghost use Rattle.rawk_record.specs.Fields.{comes_first, ere_parts, nearer, newline_from};
 ghost use Rattle.rawk_record.specs.Pieces.{AllInRange, texts};
 ghost use Rattle.rawk_record.specs.Separators.{IsAhead};
@@ -9,7 +9,7 @@ ghost use Rattle.rawk_record.specs.Separators.{IsAhead};
 use crate::pieces::Piece;
 use memchr::memchr;
 use rawk_ere::Ere;
-use rawk_match::{Span, next_nonempty};
+use rawk_search::{Span, next_nonempty};
 use std::alloc::{AllocError, Global};
 
 /// What comes next from a place on: a match, and where newlines separate too, a newline.

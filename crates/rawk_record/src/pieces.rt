@@ -9,7 +9,7 @@ use crate::class::{Blank, ByteClass, Class, mask_at};
 use crate::mask::{lowest_bit, without_bit};
 use crate::matches::cut_matches;
 use rawk_ere::Ere;
-use rawk_match::LastExpression;
+use rawk_search::CachedExpression;
 use rawk_value::Fault;
 use std::alloc::{AllocError, Global};
 
@@ -40,7 +40,7 @@ impl<'a> Separator<'a> {
     pub fn named(
         alloc: Global,
         fs: &[u8],
-        last: &'a mut LastExpression,
+        last: &'a mut CachedExpression,
     ) -> Result<Separator<'a>, Fault>
         ensures { Decides fs.now result }
     {
@@ -239,7 +239,7 @@ pub struct Fields {
 pub fn fields_of(alloc: Global, text: &[u8], fs: &[u8], newline: bool) -> Result<Fields, Fault>
     ensures { IsFieldsAnswer text.now (fields_of text.now fs.now newline) result }
 {
-    let mut last = LastExpression::new(alloc);
+    let mut last = CachedExpression::new(alloc);
     let separator = Separator::named(alloc, fs, &mut last)?;
     let mut pieces = Vec::new(alloc);
     match cut(alloc, text, separator, newline, &mut pieces) {

@@ -18,7 +18,7 @@ use std::mem;
 #[derive(Drop)]
 pub struct Slots<T> {
     items: Vec<T>,
-    // Where in `saved` a slot's old content stands, if it stands there; else any number.
+    /// Where in `saved` a slot's old content stands, if it stands there; else any number.
     marks: Vec<usize>,
     saved: Vec<Saved<T>>,
 }

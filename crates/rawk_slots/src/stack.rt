@@ -205,7 +205,7 @@ pub enum StackChange<T> {
 }
 
 impl<T: Drop> Stack<T> {
-    // Makes a change within the step in progress. It fails where memory is refused.
+    /// Makes a change within the step in progress. It fails where memory is refused.
     fn change(&mut self, change: StackChange<T>) -> Result<(), AllocError>
         ensures did { OnOk result (live_values self.new.now ≡ changed_values change (live_values self.old.now)) }
         ensures start { GrownStack self.old.start self.new.start }

@@ -47,7 +47,7 @@ keys l = keys_of l.keys
 
 -- the parts lie as their types keep them
 pub record IsSound (l : Layout) : Type 0 where
-  pub arrays : IsLaid l.arrays.names l.arrays.slots
+  pub arrays : IsLaid l.arrays.index l.arrays.slots
   pub frames : AreFramesLive l.frames
   pub keys : AreKeysLive l.keys
   pub operands : IsLive l.operands

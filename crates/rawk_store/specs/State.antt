@@ -1,5 +1,6 @@
 -- The state of a program, and what can be assigned in it.
 use Rattle.std.specs.Prelude.{ℕ, zero, suc, ◌-◌, ℤ, pos, negsuc, int_le, ◌==◌, Bool, if◌then◌else◌, List, [], ◌∷◌, length, map, slice_index_or, slice_set, Result, Ok, Err}
+use Rattle.rawk_limits.specs.declared.TheConstants.{LAST_FIELD}
 use Rattle.rawk_value.specs.declared.value.Value.{Value}
 use Rattle.rawk_value.specs.declared.value.Value.TheVariants.{Uninitialized, Number, String, Input}
 use Rattle.rawk_value.specs.declared.fault.Fault.{Fault}
@@ -10,6 +11,7 @@ use Rattle.rawk_frames.specs.Frame.{Frame}
 use Rattle.rawk_record.specs.Fields.{fields_of}
 use Rattle.rawk_record.specs.Changed.{resized, with_value}
 pub use Rattle.rawk_record.specs.Changed.{joined}
+pub use Rattle.rawk_special.specs.declared.special.TheConstants.{NR, FNR, FS, OFS, ORS, RS, SUBSEP, CONVFMT, OFMT, RSTART, RLENGTH}
 use Rattle.rawk_store.specs.declared.target.Target as target
 use Rattle.rawk_store.specs.declared.target.Target.TheVariants.{Global}
 
@@ -25,46 +27,6 @@ pub record State : Type 0 where
   pub output : Bytes
   pub status : ℕ
   pub here : ℕ
-
--- the numbers of the special variables; NF is the number of fields and has none
-abbrev pub NR : ℕ
-NR = 0
-
-abbrev pub FNR : ℕ
-FNR = 1
-
-abbrev pub FS : ℕ
-FS = 2
-
-abbrev pub OFS : ℕ
-OFS = 3
-
-abbrev pub ORS : ℕ
-ORS = 4
-
-abbrev pub RS : ℕ
-RS = 5
-
-abbrev pub SUBSEP : ℕ
-SUBSEP = 6
-
-abbrev pub CONVFMT : ℕ
-CONVFMT = 7
-
-abbrev pub OFMT : ℕ
-OFMT = 8
-
-abbrev pub RSTART : ℕ
-RSTART = 9
-
-abbrev pub RLENGTH : ℕ
-RLENGTH = 10
-
--- the special variables at first
-abbrev pub first_specials : List Value
-first_specials =
-    Number (pos 0) ∷ Number (pos 0) ∷ String (32 ∷ []) ∷ String (32 ∷ []) ∷ String (10 ∷ []) ∷ String (10 ∷ []) ∷ String (28 ∷ [])
-    ∷ String (37 ∷ 46 ∷ 54 ∷ 103 ∷ []) ∷ String (37 ∷ 46 ∷ 54 ∷ 103 ∷ []) ∷ Number (pos 0) ∷ Number (negsuc 0) ∷ []
 
 abbrev pub global_value : ℕ → State → Value
 global_value x s = slice_index_or s.globals x Uninitialized
@@ -90,9 +52,9 @@ with_global x v s = record s { globals = slice_set s.globals x v }
 abbrev pub Target : Type 0
 Target = target.Target
 
--- a field number, at most 1,000,000
+-- a field number, within its limit
 abbrev pub field_number : ℤ → Result ℕ Fault
-field_number (pos n) = if int_le (pos n) (pos 1000000) then Ok n else Err FieldNumber
+field_number (pos n) = if int_le (pos n) (pos LAST_FIELD) then Ok n else Err FieldNumber
 field_number (negsuc n) = Err FieldNumber
 
 -- with these fields, and `$0` made of their texts with the OFS of now between two

@@ -7,8 +7,8 @@ ghost use Rattle.rawk_record.specs.Changed.{rebuilt, resized, with_value};
 ghost use Rattle.rawk_record.specs.Shown.{no_record, read_as, record_back, split_record};
 ghost use Rattle.rawk_record.specs.FieldRefs.{ref_value};
 
-use rawk_match::LastExpression;
 use rawk_record::{FieldRef, Record, Separator};
+use rawk_search::CachedExpression;
 use rawk_value::{Fault, Value};
 use std::alloc::{AllocError, Global};
 use std::marker::Model;
@@ -25,7 +25,7 @@ pub struct Current {
     built: Record,
     changed: bool,
     // The expression of the last field separator of several bytes.
-    last: LastExpression,
+    last: CachedExpression,
 }
 
 impl Model for Current {
@@ -82,7 +82,7 @@ impl Current {
             other: Record::new(alloc),
             built: Record::new(alloc),
             changed: false,
-            last: LastExpression::new(alloc),
+            last: CachedExpression::new(alloc),
         }
     }
 

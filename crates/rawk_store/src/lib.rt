@@ -6,6 +6,7 @@ pub mod keeper;
 pub mod numbering;
 pub mod output;
 pub mod registers;
+pub mod ring;
 pub mod saving;
 pub mod store;
 pub mod target;
@@ -23,9 +24,7 @@ pub use rawk_record::{
 };
 pub use rawk_slots::{Reversible, Saved, SlotGroup, Slots, Stack, StackGroup, led_to};
 pub use registers::{Bank, Ending, Phase, Registers};
+pub use ring::Ring;
 pub use saving::{saved_by_all, saved_in_groups};
 pub use store::{Cells, Group, Operands, OperandsGroup, Store};
 pub use target::Target;
-
-#[cfg(test)]
-mod tests;

@@ -1,4 +1,6 @@
 pub mod Turns
+pub mod Globals
+pub mod Indexes
 pub mod Settlements
 pub mod Sites
 pub mod Steps

@@ -52,46 +52,46 @@ part_lines text items x old new so_far more =
 counted : (text : List ℕ) (items : List part.Item) (lines : List ℕ) → lines ≡ map (line_of text) (places items) → length lines ≡ length (places items)
 counted text items lines so_far = ap length so_far ∙ length-map (places items) (line_of text)
 
-pub begin_settles : (text : List ℕ) (items : List part.Item) (x : part.Item) (ss zs : List step.Stmt) (ts : Vec Stmt) (old new : List ℕ) (p q : Program)
-    → x ≡ from_item.Begin ss → zs ≡ ss → spec.Statements (length old) zs ts.items p.names.items q.names.items → new ≡ old ++ map (line_at text) zs
+pub begin_settles : (text : List ℕ) (items : List part.Item) (x : part.Item) (ss zs : List step.Stmt) (ts : Vec Stmt) (old new : List ℕ) (p q : Program) (a b : Names)
+    → x ≡ from_item.Begin ss → zs ≡ ss → spec.Statements (length old) zs ts.items a b → new ≡ old ++ map (line_at text) zs
     → q.begin.items ≡ p.begin.items ++ tree_stmt.Block ts ∷ [] → q.rules.items ≡ p.rules.items → q.end.items ≡ p.end.items
-    → spec.IsSettledWith text items p old → spec.IsSettledWith text (items ++ x ∷ []) q new
-begin_settles text items x ss zs ts old new p q is same body lines begins rules ends before =
+    → spec.IsSettledWith text items p a old → spec.IsSettledWith text (items ++ x ∷ []) q b new
+begin_settles text items x ss zs ts old new p q a b is same body lines begins rules ends before =
     let n = counted text items old before.lines_are in
-    let body' : spec.Statements (length (places items)) ss ts.items p.names.items q.names.items =
-    subst (λ k. spec.Statements k ss ts.items p.names.items q.names.items) n (subst (λ (ys : List step.Stmt). spec.Statements (length old) ys ts.items p.names.items q.names.items) same body) in
+    let body' : spec.Statements (length (places items)) ss ts.items a b =
+    subst (λ k. spec.Statements k ss ts.items a b) n (subst (λ (ys : List step.Stmt). spec.Statements (length old) ys ts.items a b) same body) in
     let lines' : new ≡ old ++ map (line_of text) (map place_of ss) = lines ∙ ap (λ (l : List step.Stmt). old ++ map (line_at text) l) same ∙ ap (λ l. old ++ l) (sym (map-map (line_of text) place_of ss)) in
     rw is (record { sorted = rw (begins, rules, ends) (spec.begin ts before.sorted body'); lines_are = part_lines text items (from_item.Begin ss) old new before.lines_are lines' })
 
-pub end_settles : (text : List ℕ) (items : List part.Item) (x : part.Item) (ss zs : List step.Stmt) (ts : Vec Stmt) (old new : List ℕ) (p q : Program)
-    → x ≡ from_item.End ss → zs ≡ ss → spec.Statements (length old) zs ts.items p.names.items q.names.items → new ≡ old ++ map (line_at text) zs
+pub end_settles : (text : List ℕ) (items : List part.Item) (x : part.Item) (ss zs : List step.Stmt) (ts : Vec Stmt) (old new : List ℕ) (p q : Program) (a b : Names)
+    → x ≡ from_item.End ss → zs ≡ ss → spec.Statements (length old) zs ts.items a b → new ≡ old ++ map (line_at text) zs
     → q.begin.items ≡ p.begin.items → q.rules.items ≡ p.rules.items → q.end.items ≡ p.end.items ++ tree_stmt.Block ts ∷ []
-    → spec.IsSettledWith text items p old → spec.IsSettledWith text (items ++ x ∷ []) q new
-end_settles text items x ss zs ts old new p q is same body lines begins rules ends before =
+    → spec.IsSettledWith text items p a old → spec.IsSettledWith text (items ++ x ∷ []) q b new
+end_settles text items x ss zs ts old new p q a b is same body lines begins rules ends before =
     let n = counted text items old before.lines_are in
-    let body' : spec.Statements (length (places items)) ss ts.items p.names.items q.names.items =
-    subst (λ k. spec.Statements k ss ts.items p.names.items q.names.items) n (subst (λ (ys : List step.Stmt). spec.Statements (length old) ys ts.items p.names.items q.names.items) same body) in
+    let body' : spec.Statements (length (places items)) ss ts.items a b =
+    subst (λ k. spec.Statements k ss ts.items a b) n (subst (λ (ys : List step.Stmt). spec.Statements (length old) ys ts.items a b) same body) in
     let lines' : new ≡ old ++ map (line_of text) (map place_of ss) = lines ∙ ap (λ (l : List step.Stmt). old ++ map (line_at text) l) same ∙ ap (λ l. old ++ l) (sym (map-map (line_of text) place_of ss)) in
     rw is (record { sorted = rw (begins, rules, ends) (spec.ending ts before.sorted body'); lines_are = part_lines text items (from_item.End ss) old new before.lines_are lines' })
 
-pub main_settles : (text : List ℕ) (items : List part.Item) (x : part.Item) (place line : ℕ) (ss zs : List step.Stmt) (ts : Vec Stmt) (pushed old new : List ℕ) (p q : Program)
+pub main_settles : (text : List ℕ) (items : List part.Item) (x : part.Item) (place line : ℕ) (ss zs : List step.Stmt) (ts : Vec Stmt) (pushed old new : List ℕ) (p q : Program) (a b : Names)
     → x ≡ from_item.Main place ss → zs ≡ ss → line ≡ line_of text place → pushed ≡ old ++ line ∷ []
-    → spec.Statements (length pushed) zs ts.items p.names.items q.names.items → new ≡ pushed ++ map (line_at text) zs
+    → spec.Statements (length pushed) zs ts.items a b → new ≡ pushed ++ map (line_at text) zs
     → q.begin.items ≡ p.begin.items → q.rules.items ≡ p.rules.items ++ rule_of (length old) ts ∷ [] → q.end.items ≡ p.end.items
-    → spec.IsSettledWith text items p old → spec.IsSettledWith text (items ++ x ∷ []) q new
-main_settles text items x place line ss zs ts pushed old new p q is same at_line push body lines begins rules ends before =
+    → spec.IsSettledWith text items p a old → spec.IsSettledWith text (items ++ x ∷ []) q b new
+main_settles text items x place line ss zs ts pushed old new p q a b is same at_line push body lines begins rules ends before =
     let n = counted text items old before.lines_are in
     let m : length pushed ≡ length (places items) + 1 = ap length push ∙ length-append old (line ∷ []) ∙ ap (λ k. k + 1) n in
-    let body' : spec.Statements (length (places items) + 1) ss ts.items p.names.items q.names.items =
-    subst (λ k. spec.Statements k ss ts.items p.names.items q.names.items) m (subst (λ (ys : List step.Stmt). spec.Statements (length pushed) ys ts.items p.names.items q.names.items) same body) in
+    let body' : spec.Statements (length (places items) + 1) ss ts.items a b =
+    subst (λ k. spec.Statements k ss ts.items a b) m (subst (λ (ys : List step.Stmt). spec.Statements (length pushed) ys ts.items a b) same body) in
     let lines' : new ≡ old ++ map (line_of text) (place ∷ map place_of ss) =
     lines ∙ ap (λ (l : List step.Stmt). pushed ++ map (line_at text) l) same ∙ ap (λ l. pushed ++ l) (sym (map-map (line_of text) place_of ss))
     ∙ ap (λ l. l ++ map (line_of text) (map place_of ss)) (push ∙ ap (λ k. old ++ k ∷ []) at_line) ∙ append_assoc old (line_of text place ∷ []) (map (line_of text) (map place_of ss)) in
     let rules' : q.rules.items ≡ p.rules.items ++ rule_of (length (places items)) ts ∷ [] = rules ∙ ap (λ k. p.rules.items ++ rule_of k ts ∷ []) n in
     rw is (record { sorted = rw (begins, rules', ends) (spec.main place ts before.sorted body'); lines_are = part_lines text items (from_item.Main place ss) old new before.lines_are lines' })
 
-pub item_more : (text : List ℕ) (items : List part.Item) (i : ℕ) (x : part.Item) (old new : List ℕ) (p q : Program) → i < length items → x ≡ get_or items i x
-    → spec.IsSettledWith text (take i items) p old → ((found : List part.Item) → spec.IsSettledWith text found p old → spec.IsSettledWith text (found ++ x ∷ []) q new) → spec.IsSettledWith text (take (i + 1) items) q new
-item_more text items i x old new p q h held before next =
+pub item_more : (text : List ℕ) (items : List part.Item) (i : ℕ) (x : part.Item) (old new : List ℕ) (p q : Program) (a b : Names) → i < length items → x ≡ get_or items i x
+    → spec.IsSettledWith text (take i items) p a old → ((found : List part.Item) → spec.IsSettledWith text found p a old → spec.IsSettledWith text (found ++ x ∷ []) q b new) → spec.IsSettledWith text (take (i + 1) items) q b new
+item_more text items i x old new p q a b h held before next =
     let t : take (i + 1) items ≡ take i items ++ x ∷ [] = take_more items i x h ∙ ap (λ y. take i items ++ y ∷ []) (sym held) in
     rw t (next (take i items) before)

@@ -3,13 +3,13 @@ use Rattle.std.proofs.Common.{◌≡◌, ℕ, zero, suc, ◌≤◌, Bool, true, 
 use Rattle.rawk_lexer.specs.declared.token.Kind.{Kind}
 use Rattle.rawk_lexer.specs.declared.token.Kind.TheVariants as k
 use Rattle.rawk_lexer.specs.Lex.{kind, next, spelling, left}
-use Rattle.rawk_syntax.specs.declared.refused.Refused.{Refused}
+use Rattle.rawk_syntax.specs.declared.parse_error.ParseError.{ParseError}
 use Rattle.rawk_syntax.specs.declared.grammar.Wanted.TheVariants as want
 use Rattle.rawk_syntax.specs.declared.draft.Expr.{Expr}
 use Rattle.rawk_syntax.specs.declared.draft.Stmt.{Stmt}
 use Rattle.rawk_syntax.specs.declared.draft.Stmt.TheVariants as tree
 use Rattle.rawk_syntax.specs.declared.draft.Item.{Item}
-use Rattle.rawk_syntax.specs.Parser.{Input, Outcome, Reads, and_then, expect, sees, after, newlines, pure}
+use Rattle.rawk_syntax.specs.Parser.{Input, Outcome, Parses, and_then, expect, sees, after, newlines, pure}
 use Rattle.rawk_syntax.specs.Expression.{expression}
 use Rattle.rawk_syntax.specs.Statement as x
 use Rattle.rawk_syntax.specs.Tokens.{Spells, Newlines}
@@ -80,7 +80,7 @@ several_are [] h = cc
 several_are (e ∷ []) h = cc
 several_are (e ∷ f ∷ es) h = omega arith
 
-several_sound : (d : ℕ) (e : Refused) (i : Input) (r : List Expr × Input) → kind i ≡ k.LeftParen → x.several (suc d) e i ≡ Ok r → Encloses d r.0 i r.1
+several_sound : (d : ℕ) (e : ParseError) (i : Input) (r : List Expr × Input) → kind i ≡ k.LeftParen → x.several (suc d) e i ≡ Ok r → Encloses d r.0 i r.1
 unfolding x.several
 several_sound d e i r s h = let a = and_then_ok (x.enclosed (suc d) i) _ r h in go a.0 (enclosed_sound d i a.0 s a.1) (x.is_several a.0.0) refl a.2
   where
@@ -96,7 +96,7 @@ printed_sound : (d : ℕ) (i : Input) (r : List Expr × Input) → x.printed (su
 unfolding x.printed Prints
 printed_sound d i r h = go (x.closes (kind i)) (x.list (suc d) i) refl h
   where
-    or_sound : (e : Refused) (b : Bool) → sees k.LeftParen i ≡ b → cond b (x.several (suc d) e i) (Err e) ≡ Ok r → Prints d r.0 i r.1
+    or_sound : (e : ParseError) (b : Bool) → sees k.LeftParen i ≡ b → cond b (x.several (suc d) e i) (Err e) ≡ Ok r → Prints d r.0 i r.1
     or_sound e true s h = inr (inl (several_sound d e i r (sees_kind k.LeftParen i s) h))
     or_sound e false s h = not_ok e r h
 
@@ -217,6 +217,6 @@ program_sound d i r h =
     let same : g.0 ≡ r.0 = sym g.1 in
     subst (λ xs. Texts (suc d) xs i) same g.2
 
-pub found_from : (d : ℕ) (r : Result (List Item) Refused) (text new : Input) → Reads (x.program (suc d) text) r new → IfOk r (λ items. Texts (suc d) items text)
+pub found_from : (d : ℕ) (r : Result (List Item) ParseError) (text new : Input) → Parses (x.program (suc d) text) r new → IfOk r (λ items. Texts (suc d) items text)
 found_from d (Ok items) text new h = program_sound d text (items, new) h
 found_from d (Err e) text new h = tt

@@ -5,7 +5,7 @@ use Rattle.rawk_lexer.specs.contracts.token.Kind.{the_type}
 use Rattle.rawk_lexer.specs.declared.token.Kind.{Kind}
 use Rattle.rawk_lexer.specs.declared.token.Kind.TheVariants as k
 use Rattle.rawk_lexer.specs.Lex.{kind, next, spelling, left}
-use Rattle.rawk_syntax.specs.declared.refused.Refused.{Refused}
+use Rattle.rawk_syntax.specs.declared.parse_error.ParseError.{ParseError}
 use Rattle.rawk_syntax.specs.Parser.{Input, Outcome, Parser, and_then, same_kind, sees, after, expect, refuse, newlines, newlines_from}
 use Rattle.rawk_syntax.specs.Tokens.{Spells, Newlines, none, more}
 
@@ -24,7 +24,7 @@ done x j = Ok (x, j)
 pub at_ok : {A : Type 0} (P : A → Input → Type 0) (x : A) (j : Input) (r : A × Input) → P x j → done x j ≡ Ok r → P r.0 r.1
 at_ok P x j r p h = let e : (x, j) ≡ r = cc in subst (λ q. P q.0 q.1) e p
 
-pub not_ok : {A : Type 0} {C : Type 0} (e : Refused) (r : A) → Err e ≡ Ok r → C
+pub not_ok : {A : Type 0} {C : Type 0} (e : ParseError) (r : A) → Err e ≡ Ok r → C
 not_ok e r h = cc
 
 -- ---- tokens

@@ -4,15 +4,15 @@ use Rattle.rawk_lexer.specs.declared.token.Kind.{Kind}
 use Rattle.rawk_lexer.specs.declared.token.Kind.TheVariants as k
 use Rattle.rawk_lexer.specs.Lex.{kind, next, spelling, left}
 use Rattle.rawk_lexer.specs.Moves.{some_left}
-use Rattle.rawk_syntax.specs.declared.refused.Refused.{Refused}
-use Rattle.rawk_syntax.specs.declared.refused.Refused.TheVariants as refused
+use Rattle.rawk_syntax.specs.declared.parse_error.ParseError.{ParseError}
+use Rattle.rawk_syntax.specs.declared.parse_error.ParseError.TheVariants as refused
 use Rattle.rawk_syntax.specs.declared.grammar.Wanted.TheVariants as want
 use Rattle.rawk_syntax.specs.declared.draft.Expr.{Expr}
 use Rattle.rawk_syntax.specs.declared.draft.Stmt.{Stmt}
 use Rattle.rawk_syntax.specs.declared.draft.Stmt.TheVariants as tree
 use Rattle.rawk_syntax.specs.declared.draft.Item.{Item}
 use Rattle.rawk_syntax.specs.declared.draft.Item.TheVariants as part
-use Rattle.rawk_syntax.specs.Parser.{Input, Outcome, Reads, ◌>>=◌, ◌>>◌, pure, expect, sees, after, newlines}
+use Rattle.rawk_syntax.specs.Parser.{Input, Outcome, Parses, ◌>>=◌, ◌>>◌, pure, expect, sees, after, newlines}
 use Rattle.rawk_syntax.specs.Expression as x
 use Rattle.rawk_syntax.specs.Statement as y
 use Rattle.rawk_syntax.specs.Tokens.{Spells, Newlines}
@@ -96,7 +96,7 @@ enclosed (parentheses {d = d} {es = es} {v = v} {w = w} {i = i} {j = j} {l = l} 
     let c = spells_shrink k.RightParen w l m (λ q. cc) t in
     record { first = s.is_kind; less = omega arith; two = two; read = in_parentheses d es v w i j l m s h t }
 
-several_is : (d : ℕ) (e : Refused) (es : List Expr) (i j : Input) → Enclosed d es i j → y.several (suc d) e i ≡ Ok (es, j)
+several_is : (d : ℕ) (e : ParseError) (es : List Expr) (i j : Input) → Enclosed d es i j → y.several (suc d) e i ≡ Ok (es, j)
 unfolding y.several
 several_is d e es i j g =
     then_ok (y.enclosed (suc d) i) (λ fs l. cond (y.is_several fs) (Ok (fs, l)) (Err e)) es j g.read
@@ -333,7 +333,7 @@ whole_program d ps i h = whole_from h (left i) [] (omega arith)
 same_first : (o : Outcome (List Item)) (p q : List Item × Input) → o ≡ Ok p → o ≡ Ok q → p.0 ≡ q.0
 same_first o p q h g = let e : p ≡ q = cc in ap (λ r. r.0) e
 
-pub complete_from : (d : ℕ) (r : Result (List Item) Refused) (text new : Input) → Reads (y.program d text) r new → (items : List Item) → Texts d items text → IsItems items r
+pub complete_from : (d : ℕ) (r : Result (List Item) ParseError) (text new : Input) → Parses (y.program d text) r new → (items : List Item) → Texts d items text → IsItems items r
 complete_from d (Ok found) text new h items t = let g = whole_program d items text t in same_first (y.program d text) (found, new) (items, g.0) h g.1
 complete_from d (Err refused.OutOfMemory) text new h items t = refl
 complete_from d (Err (refused.Here kind place)) text new h items t =

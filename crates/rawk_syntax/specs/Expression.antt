@@ -7,7 +7,7 @@ use Rattle.rawk_lexer.specs.Escape.{unescaped_of, unquoted}
 use Rattle.rawk_value.specs.declared.operator.Arithmetic.{Arithmetic}
 use Rattle.rawk_value.specs.declared.operator.Arithmetic.TheVariants as arithmetic
 use Rattle.rawk_syntax.specs.declared.refusal.RefusalKind.TheVariants as refused
-use Rattle.rawk_syntax.specs.declared.refused.Refused.TheVariants.{Here}
+use Rattle.rawk_syntax.specs.declared.parse_error.ParseError.TheVariants.{Here}
 use Rattle.rawk_syntax.specs.declared.grammar.Wanted.{Wanted}
 use Rattle.rawk_syntax.specs.declared.grammar.Wanted.TheVariants as want
 use Rattle.rawk_syntax.specs.declared.draft.Assignment.{Assignment}
@@ -20,7 +20,7 @@ use Rattle.rawk_syntax.specs.declared.draft.Place.{Place}
 use Rattle.rawk_syntax.specs.declared.draft.Place.TheVariants as spot
 use Rattle.rawk_syntax.specs.Parser.{Parser, and_then, ◌>>=◌, ◌>>◌, pure, refuse, peek, take_token, expect}
 use Rattle.rawk_syntax.specs.Constant.{constant}
-use Rattle.rawk_syntax.specs.Special.{is_special}
+use Rattle.rawk_special.specs.Special.{is_special}
 
 -- ---- tables
 

@@ -1,12 +1,13 @@
 pub mod Refusals
 pub mod Parser
 pub mod Constant
-pub mod Special
 pub mod Expression
 pub mod Nests
 pub mod Statement
 pub mod Tokens
 pub mod Grammar
 pub mod Programs
+pub mod Indexed
 pub mod Settled
+pub mod Sites
 pub mod Texts

@@ -7,14 +7,14 @@ use Rattle.rawk_lexer.specs.declared.token.Kind.TheVariants as k
 use Rattle.rawk_lexer.specs.Lex.{kind, next, left}
 use Rattle.rawk_syntax.specs.declared.refusal.RefusalKind.{RefusalKind}
 use Rattle.rawk_syntax.specs.declared.refusal.RefusalKind.TheVariants as refused
-use Rattle.rawk_syntax.specs.declared.refused.Refused.{Refused}
-use Rattle.rawk_syntax.specs.declared.refused.Refused.TheVariants.{OutOfMemory, Here}
+use Rattle.rawk_syntax.specs.declared.parse_error.ParseError.{ParseError}
+use Rattle.rawk_syntax.specs.declared.parse_error.ParseError.TheVariants.{OutOfMemory, Here}
 
 abbrev pub Input : Type 0
 Input = List ℕ
 
 abbrev pub Outcome : Type 0 → Type 0
-Outcome A = Result (A × Input) Refused
+Outcome A = Result (A × Input) ParseError
 
 abbrev pub Parser : Type 0 → Type 0
 Parser A = Input → Outcome A
@@ -58,7 +58,7 @@ reason k.Assign = refused.Syntax
 reason k.PlusAssign = refused.Syntax
 reason _ = refused.LeftOut
 
-unfoldable pub refusal : Input → Refused
+unfoldable pub refusal : Input → ParseError
 refusal i = Here (reason (kind i)) (left i)
 
 abbrev pub refuse : {A : Type 0} → Parser A
@@ -96,6 +96,6 @@ unfoldable pub newlines : Input → Input
 newlines i = newlines_from (left i) i
 
 -- what a function that parses ensures: the parser's outcome, unless memory fails
-abbrev pub Reads : {A : Type 0} → Outcome A → Result A Refused → Input → Type 0
-Reads outcome (Ok a) new = outcome ≡ Ok (a, new)
-Reads outcome (Err e) new = e ≢ OutOfMemory → outcome ≡ Err e
+abbrev pub Parses : {A : Type 0} → Outcome A → Result A ParseError → Input → Type 0
+Parses outcome (Ok a) new = outcome ≡ Ok (a, new)
+Parses outcome (Err e) new = e ≢ OutOfMemory → outcome ≡ Err e

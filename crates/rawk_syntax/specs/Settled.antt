@@ -1,5 +1,5 @@
 -- How the settled tree comes from the tree of the text.
-use Rattle.std.specs.Prelude.{◌≡◌, ℕ, ℤ, ◌+◌, pos, if◌then◌else◌, List, [], ◌∷◌, ◌++◌, length, map, Option, Some, None}
+use Rattle.std.specs.Prelude.{◌≡◌, ℕ, ℤ, ◌+◌, pos, if◌then◌else◌, List, [], ◌∷◌, ◌++◌, length, map, position, Option, Some, None}
 use Rattle.std.specs.List.{flat_map}
 use Rattle.std.specs.Str.{bytes_eq}
 use Rattle.std.specs.Global.{Box, Vec}
@@ -26,36 +26,30 @@ use Rattle.rawk_syntax.specs.declared.tree.Stmt.TheVariants as tree_stmt
 use Rattle.rawk_syntax.specs.declared.tree.Guard.TheVariants as tree_guard
 use Rattle.rawk_syntax.specs.declared.tree.Rule.{Rule}
 use Rattle.rawk_syntax.specs.declared.tree.Program.{Program}
-use Rattle.rawk_syntax.specs.Special.{special_number, is_field_count}
+use Rattle.rawk_special.specs.declared.special.TheConstants.{COUNT}
+use Rattle.rawk_special.specs.Special.{global_number, is_field_count}
 use Rattle.rawk_syntax.specs.Expression.{link}
 
 -- the program's own names that were met, in the order of their first appearance
 abbrev pub Names : Type 0
 Names = List (List ℕ)
 
--- where a name is among names that begin at this number
-abbrev pub number_among : ℕ → List ℕ → Names → Option ℕ
-number_among n word [] = None
-number_among n word (name ∷ names) = if bytes_eq word name then Some n else number_among (n + 1) word names
-
+-- the number of one of the program's own names, and the names then met: a new one comes last
 abbrev pub numbered_at : List ℕ → Names → Option ℕ → ℕ × Names
-numbered_at word names (Some n) = (n, names)
-numbered_at word names None = (11 + length names, names ++ word ∷ [])
+numbered_at word names (Some place) = (COUNT + place, names)
+numbered_at word names None = (COUNT + length names, names ++ word ∷ [])
 
--- the number of one of the program's own names, and the names then met: the first one has the number 11
 unfoldable pub numbered : List ℕ → Names → ℕ × Names
-numbered word names = numbered_at word names (number_among 11 word names)
+numbered word names = numbered_at word names (position (bytes_eq word) names)
 
-abbrev pub global_of : ℕ × Names → Place × Names
-global_of n = (tree_place.Global n.0, n.1)
+-- a name that is not among the globals is the next one
+abbrev pub meant_at : List ℕ → Names → Option ℕ → Place × Names
+meant_at word names (Some number) = (tree_place.Global number, names)
+meant_at word names None = (tree_place.Global (COUNT + length names), names ++ word ∷ [])
 
-abbrev pub meant_by : List ℕ → Names → Option ℕ → Place × Names
-meant_by word names (Some n) = (tree_place.Global n, names)
-meant_by word names None = global_of (numbered word names)
-
--- what a name stands for, and the names then met
+-- what a name stands for, and the names then met: the special variables have the first numbers
 unfoldable pub meant : List ℕ → Names → Place × Names
-meant word names = if is_field_count word then (tree_place.FieldCount, names) else meant_by word names (special_number word)
+meant word names = if is_field_count word then (tree_place.FieldCount, names) else meant_at word names (global_number names word)
 
 -- a part of the text's tree, and what it is settled as
 pub data Pair : Type 0 where
@@ -131,10 +125,10 @@ pub data Sorts : List part.Item → List Stmt → List Rule → List Stmt → Na
       → Sorts items begins rules ends a → Statements (length (places items) + 1) ss ts.items a b
       → Sorts (items ++ from_item.Main place ss ∷ []) begins (rules ++ rule_of (length (places items)) ts ∷ []) ends b
 
--- The program is that of these parts of the text: its names in the order of first appearance, its sites in the order of the text. Their lines are these.
-pub record IsSettledWith (text : List ℕ) (items : List part.Item) (p : Program) (lines : List ℕ) : Type 0 where
-  pub sorted : Sorts items p.begin.items p.rules.items p.end.items p.names.items
+-- The program is that of these parts of the text: these names in the order of first appearance, its sites in the order of the text. Their lines are these.
+pub record IsSettledWith (text : List ℕ) (items : List part.Item) (p : Program) (names : Names) (lines : List ℕ) : Type 0 where
+  pub sorted : Sorts items p.begin.items p.rules.items p.end.items names
   pub lines_are : lines ≡ map (line_of text) (places items)
 
 abbrev pub IsSettled : List ℕ → List part.Item → Program → Type 0
-IsSettled bytes items p = IsSettledWith bytes items p p.lines.items
+IsSettled bytes items p = IsSettledWith bytes items p p.names.items p.lines.items

@@ -4,8 +4,8 @@ use Rattle.rawk_lexer.specs.declared.token.Kind.{Kind}
 use Rattle.rawk_lexer.specs.declared.token.Kind.TheVariants as k
 use Rattle.rawk_lexer.specs.Lex.{kind, next, left}
 use Rattle.rawk_syntax.specs.declared.refusal.RefusalKind.TheVariants as refused
-use Rattle.rawk_syntax.specs.declared.refused.Refused.{Refused}
-use Rattle.rawk_syntax.specs.declared.refused.Refused.TheVariants.{Here}
+use Rattle.rawk_syntax.specs.declared.parse_error.ParseError.{ParseError}
+use Rattle.rawk_syntax.specs.declared.parse_error.ParseError.TheVariants.{Here}
 use Rattle.rawk_syntax.specs.declared.grammar.Wanted.TheVariants as want
 use Rattle.rawk_syntax.specs.declared.draft.Expr.{Expr}
 use Rattle.rawk_syntax.specs.declared.draft.Stmt.{Stmt}
@@ -51,7 +51,7 @@ is_several (e ∷ f ∷ es) = true
 is_several _ = false
 
 -- two expressions or more in parentheses; else the refusal that is given
-unfoldable pub several : ℕ → Refused → Parser (List Expr)
+unfoldable pub several : ℕ → ParseError → Parser (List Expr)
 several d e = enclosed d >>= (λ es j. if is_several es then Ok (es, j) else Err e)
 
 -- a list that is refused may be one in parentheses

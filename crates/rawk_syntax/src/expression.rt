@@ -1,19 +1,19 @@
 //! Expressions, a function for each rule.
 
 ghost use Rattle.std.specs.Prelude.{◌≡◌, IfOk};
-ghost use Rattle.rawk_syntax.specs.Parser.{Reads};
+ghost use Rattle.rawk_syntax.specs.Parser.{Parses};
 ghost use Rattle.rawk_syntax.specs.Constant.{constant as spec_constant};
 ghost use Rattle.rawk_syntax.specs.Expression as spec;
 ghost use Rattle.rawk_syntax.specs.Nests.{Nests};
 
 use crate::draft::{Assignment, Expr, Link, Place};
 use crate::grammar::{Grammar, Wanted};
+use crate::parse_error::ParseError;
 use crate::refusal::RefusalKind;
-use crate::refused::Refused;
-use crate::special::is_special;
 use crate::tokens::{expect, refuse};
 use rawk_items::{Boxed, Items};
 use rawk_lexer::{Cursor, Kind, unescaped, unquoted};
+use rawk_special::is_special;
 use rawk_value::{Arithmetic, Bytes, input_number};
 use std::alloc::{AllocError, Global};
 
@@ -73,11 +73,11 @@ fn constant(word: &[u8]) -> Option<i64>
 }
 
 #[tactic(auto, unfolding(crate::specs::Expression::number))]
-fn number(tokens: &mut Cursor<'_>) -> Result<i64, Refused>
-    ensures { Reads (spec.number tokens.old) result tokens.new }
+fn number(tokens: &mut Cursor<'_>) -> Result<i64, ParseError>
+    ensures { Parses (spec.number tokens.old) result tokens.new }
 {
     match constant(tokens.spelling()) {
-        None => Err(Refused::Here(RefusalKind::BadNumber, tokens.left())),
+        None => Err(ParseError::Here(RefusalKind::BadNumber, tokens.left())),
         Some(value) => {
             tokens.take();
             Ok(value)
@@ -87,8 +87,8 @@ fn number(tokens: &mut Cursor<'_>) -> Result<i64, Refused>
 
 /// A string, without its quotes and with its escapes replaced.
 #[tactic(auto, unfolding(crate::specs::Expression::text))]
-fn text(alloc: Global, tokens: &mut Cursor<'_>) -> Result<Bytes, Refused>
-    ensures { Reads (spec.text tokens.old) result tokens.new }
+fn text(alloc: Global, tokens: &mut Cursor<'_>) -> Result<Bytes, ParseError>
+    ensures { Parses (spec.text tokens.old) result tokens.new }
 {
     let bytes = unescaped(alloc, unquoted(tokens.spelling()))?;
     tokens.take();
@@ -96,19 +96,19 @@ fn text(alloc: Global, tokens: &mut Cursor<'_>) -> Result<Bytes, Refused>
 }
 
 #[tactic(auto, unfolding(crate::specs::Expression::name))]
-fn name(alloc: Global, tokens: &mut Cursor<'_>) -> Result<Bytes, Refused>
-    ensures { Reads (spec.name tokens.old) result tokens.new }
+fn name(alloc: Global, tokens: &mut Cursor<'_>) -> Result<Bytes, ParseError>
+    ensures { Parses (spec.name tokens.old) result tokens.new }
 {
     let word = Bytes::from_slice(alloc, tokens.spelling())?;
     tokens.take();
     Ok(word)
 }
 
-impl<F: Fn(Global, &mut Cursor<'_>, usize, Wanted) -> Result<Expr, Refused>> Grammar<F> {
+impl<F: Fn(Global, &mut Cursor<'_>, usize, Wanted) -> Result<Expr, ParseError>> Grammar<F> {
     #[tactic(auto, unfolding(crate::specs::Expression::place))]
-    fn place(&self, tokens: &mut Cursor<'_>) -> Result<Place, Refused>
+    fn place(&self, tokens: &mut Cursor<'_>) -> Result<Place, ParseError>
         requires { Nests self.now.depth (F.pre self.now.expression) (F.post self.now.expression) }
-        ensures { Reads (spec.place (spec.expression self.now.depth) tokens.old) result tokens.new }
+        ensures { Parses (spec.place (spec.expression self.now.depth) tokens.old) result tokens.new }
     {
         match tokens.peek() {
             Kind::Name => Ok(Place::Name(name(self.alloc, tokens)?)),
@@ -122,9 +122,9 @@ impl<F: Fn(Global, &mut Cursor<'_>, usize, Wanted) -> Result<Expr, Refused>> Gra
     }
 
     #[tactic(auto, unfolding(crate::specs::Expression::primary))]
-    fn primary(&self, tokens: &mut Cursor<'_>) -> Result<Expr, Refused>
+    fn primary(&self, tokens: &mut Cursor<'_>) -> Result<Expr, ParseError>
         requires { Nests self.now.depth (F.pre self.now.expression) (F.post self.now.expression) }
-        ensures { Reads (spec.primary (spec.expression self.now.depth) tokens.old) result tokens.new }
+        ensures { Parses (spec.primary (spec.expression self.now.depth) tokens.old) result tokens.new }
     {
         match tokens.peek() {
             Kind::Number => Ok(Expr::Number(number(tokens)?)),
@@ -139,9 +139,9 @@ impl<F: Fn(Global, &mut Cursor<'_>, usize, Wanted) -> Result<Expr, Refused>> Gra
         }
     }
 
-    fn links(&self, tokens: &mut Cursor<'_>) -> Result<Items<Link>, Refused>
+    fn links(&self, tokens: &mut Cursor<'_>) -> Result<Items<Link>, ParseError>
         requires { Nests self.now.depth (F.pre self.now.expression) (F.post self.now.expression) }
-        ensures { Reads (spec.links (spec.expression self.now.depth) tokens.old) result tokens.new }
+        ensures { Parses (spec.links (spec.expression self.now.depth) tokens.old) result tokens.new }
     {
         let mut links = Items::new(self.alloc);
         for _turn in 0..tokens.left() {
@@ -156,9 +156,9 @@ impl<F: Fn(Global, &mut Cursor<'_>, usize, Wanted) -> Result<Expr, Refused>> Gra
     }
 
     #[tactic(auto, unfolding(crate::specs::Expression::sum))]
-    fn sum(&self, tokens: &mut Cursor<'_>) -> Result<Expr, Refused>
+    fn sum(&self, tokens: &mut Cursor<'_>) -> Result<Expr, ParseError>
         requires { Nests self.now.depth (F.pre self.now.expression) (F.post self.now.expression) }
-        ensures { Reads (spec.sum (spec.expression self.now.depth) tokens.old) result tokens.new }
+        ensures { Parses (spec.sum (spec.expression self.now.depth) tokens.old) result tokens.new }
     {
         let first = self.primary(tokens)?;
         let links = self.links(tokens)?;
@@ -166,9 +166,9 @@ impl<F: Fn(Global, &mut Cursor<'_>, usize, Wanted) -> Result<Expr, Refused>> Gra
     }
 
     #[tactic(auto, unfolding(crate::specs::Expression::whole))]
-    fn whole(&self, tokens: &mut Cursor<'_>) -> Result<Expr, Refused>
+    fn whole(&self, tokens: &mut Cursor<'_>) -> Result<Expr, ParseError>
         requires { Nests self.now.depth (F.pre self.now.expression) (F.post self.now.expression) }
-        ensures { Reads (spec.whole (spec.expression self.now.depth) tokens.old) result tokens.new }
+        ensures { Parses (spec.whole (spec.expression self.now.depth) tokens.old) result tokens.new }
     {
         let left = self.sum(tokens)?;
         let Some(assignment) = assignment(tokens.peek()) else {
@@ -182,9 +182,9 @@ impl<F: Fn(Global, &mut Cursor<'_>, usize, Wanted) -> Result<Expr, Refused>> Gra
         Ok(Expr::Assign(assignment, place, Boxed::new(self.alloc, value)?))
     }
 
-    pub fn by(&self, tokens: &mut Cursor<'_>, wanted: Wanted) -> Result<Expr, Refused>
+    pub fn by(&self, tokens: &mut Cursor<'_>, wanted: Wanted) -> Result<Expr, ParseError>
         requires { Nests self.now.depth (F.pre self.now.expression) (F.post self.now.expression) }
-        ensures { Reads (spec.by (spec.expression self.now.depth) wanted tokens.old) result tokens.new }
+        ensures { Parses (spec.by (spec.expression self.now.depth) wanted tokens.old) result tokens.new }
     {
         match wanted {
             Wanted::Whole => self.whole(tokens),

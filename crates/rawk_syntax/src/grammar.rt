@@ -1,12 +1,12 @@
 //! The rules that hold expressions take the parser of those as a parameter, so that each is proved by itself.
 
-ghost use Rattle.rawk_syntax.specs.Parser.{Reads};
+ghost use Rattle.rawk_syntax.specs.Parser.{Parses};
 ghost use Rattle.rawk_syntax.specs.Expression as spec;
 ghost use Rattle.rawk_syntax.specs.Nests.{Nests};
 
 use crate::draft::Expr;
+use crate::parse_error::ParseError;
 use crate::refusal::RefusalKind;
-use crate::refused::Refused;
 use rawk_lexer::Cursor;
 use std::alloc::Global;
 
@@ -25,10 +25,10 @@ pub struct Grammar<F> {
     pub expression: F,
 }
 
-impl<F: Fn(Global, &mut Cursor<'_>, usize, Wanted) -> Result<Expr, Refused>> Grammar<F> {
-    pub fn deeper(&self, tokens: &mut Cursor<'_>, wanted: Wanted) -> Result<Expr, Refused>
+impl<F: Fn(Global, &mut Cursor<'_>, usize, Wanted) -> Result<Expr, ParseError>> Grammar<F> {
+    pub fn deeper(&self, tokens: &mut Cursor<'_>, wanted: Wanted) -> Result<Expr, ParseError>
         requires { Nests self.now.depth (F.pre self.now.expression) (F.post self.now.expression) }
-        ensures { Reads (spec.expression self.now.depth wanted tokens.old) result tokens.new }
+        ensures { Parses (spec.expression self.now.depth wanted tokens.old) result tokens.new }
     {
         (self.expression)(self.alloc, tokens, self.depth, wanted)
     }
@@ -40,11 +40,11 @@ pub fn expression(
     tokens: &mut Cursor<'_>,
     depth: usize,
     wanted: Wanted,
-) -> Result<Expr, Refused>
-    ensures { Reads (spec.expression depth wanted tokens.old) result tokens.new }
+) -> Result<Expr, ParseError>
+    ensures { Parses (spec.expression depth wanted tokens.old) result tokens.new }
 {
     if depth == 0 {
-        return Err(Refused::Here(RefusalKind::TooDeep, tokens.left()));
+        return Err(ParseError::Here(RefusalKind::TooDeep, tokens.left()));
     }
     Grammar {
         alloc,

@@ -4,17 +4,17 @@
 mod draft;
 mod expression;
 mod grammar;
-mod items;
 mod lines;
-mod reading;
+mod names;
+mod parse_error;
+mod parsing;
+mod programs;
 pub mod refusal;
-mod refused;
 mod settling;
-mod special;
 mod tokens;
 pub mod tree;
 
+pub use parsing::parse;
 pub use rawk_lexer::unescaped;
-pub use reading::parse;
 pub use refusal::{Refusal, RefusalKind};
 pub use tree::{Expr, Guard, Link, Place, Program, Rule, Stmt};

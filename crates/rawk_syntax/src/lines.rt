@@ -3,6 +3,7 @@
 ghost use Rattle.std.specs.Prelude.{◌≡◌, ◌==◌, [], ◌∷◌, ◌++◌, OnOk};
 ghost use Rattle.std.specs.List.{position};
 ghost use Rattle.rawk_lexer.specs.Lines as place;
+ghost use Rattle.rawk_syntax.specs.Sites.{line_at};
 
 use crate::tree::Program;
 use rawk_lexer::newlines;
@@ -14,6 +15,26 @@ impl Program {
         ensures { result ≡ position (λ l. l == line) self.now.lines.items }
     {
         self.lines.iter().position(|l| *l == line)
+    }
+
+    /// The line of a site, counted from 1; it is 0 where there is no site, as at the reading of a record. It takes no memory.
+    pub fn line_of_site(&self, site: Option<usize>) -> u64
+        ensures { result ≡ line_at self.now.lines.items site }
+    {
+        line_in(&self.lines, site)
+    }
+}
+
+/// The line of a site among those of all sites.
+fn line_in(lines: &[u64], site: Option<usize>) -> u64
+    ensures { result ≡ line_at lines.now site }
+{
+    match site {
+        None => 0,
+        Some(site) => match lines.get(site) {
+            Some(line) => *line,
+            None => 0,
+        },
     }
 }
 

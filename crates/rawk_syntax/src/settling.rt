@@ -10,62 +10,28 @@ ghost use Rattle.rawk_syntax.specs.Settled.{Settles, AnExpr, APlace, SomeLinks, 
 use crate::draft;
 use crate::draft::{Assignment, Item};
 use crate::lines::Sites;
-use crate::special::{is_field_count, special_number};
+use crate::names::Names;
 use crate::tree::{Expr, Guard, Link, Place, Program, Rule, Stmt};
+use rawk_special::{is_field_count, special_number};
 use rawk_value::Bytes;
 use std::alloc::{AllocError, Global};
 
-/// The number of the first name that is not special.
-const OWN: usize = 11;
-
-/// Where a name is among the program's own names.
-fn number_among(names: &[Bytes], word: &[u8]) -> Option<usize>
-    ensures { result ≡ spec.number_among 11 word.now names.now }
-{
-    for (at, name) in names.iter().enumerate() {
-        if word == name.as_slice() {
-            return Some(OWN + at);
-        }
-    }
-    None
-}
-
-/// The number of one of the program's own names, which is given at its first appearance.
-#[tactic(auto, unfolding(crate::specs::Settled::numbered))]
-fn numbered(alloc: Global, names: &mut Vec<Bytes>, word: &[u8]) -> Result<usize, AllocError>
-    ensures { IfOk result (λ n. (n, names.new.items) ≡ spec.numbered word.now names.old.items) }
-{
-    match number_among(names, word) {
-        Some(number) => Ok(number),
-        None => {
-            let number = OWN + names.len();
-            names.push(Bytes::from_slice(alloc, word)?)?;
-            Ok(number)
-        }
-    }
-}
-
 /// What a name stands for.
-#[tactic(auto, unfolding(crate::specs::Settled::meant))]
-fn meant(alloc: Global, names: &mut Vec<Bytes>, word: &[u8]) -> Result<Place, AllocError>
-    ensures { IfOk result (λ place. (place, names.new.items) ≡ spec.meant word.now names.old.items) }
+fn meant(alloc: Global, names: &mut Names, word: &[u8]) -> Result<Place, AllocError>
+    ensures { IfOk result (λ place. (place, names.new) ≡ spec.meant word.now names.old) }
 {
     if is_field_count(word) {
         return Ok(Place::FieldCount);
     }
     match special_number(word) {
         Some(number) => Ok(Place::Global(number)),
-        None => Ok(Place::Global(numbered(alloc, names, word)?)),
+        None => Ok(Place::Global(names.number(alloc, word)?)),
     }
 }
 
 #[cycle(settle)]
-fn settle_place(
-    alloc: Global,
-    names: &mut Vec<Bytes>,
-    place: &draft::Place,
-) -> Result<Place, AllocError>
-    ensures { IfOk result (λ s. Settles (APlace place.now s) names.old.items names.new.items) }
+fn settle_place(alloc: Global, names: &mut Names, place: &draft::Place) -> Result<Place, AllocError>
+    ensures { IfOk result (λ s. Settles (APlace place.now s) names.old names.new) }
 {
     match place {
         draft::Place::Name(word) => meant(alloc, names, word.as_slice()),
@@ -79,10 +45,10 @@ fn settle_place(
 #[cycle(settle)]
 fn settle_links(
     alloc: Global,
-    names: &mut Vec<Bytes>,
+    names: &mut Names,
     links: &[draft::Link],
 ) -> Result<Vec<Link>, AllocError>
-    ensures { IfOk result (λ s. Settles (SomeLinks links.now s.items) names.old.items names.new.items) }
+    ensures { IfOk result (λ s. Settles (SomeLinks links.now s.items) names.old names.new) }
 {
     let mut settled = Vec::new(alloc);
     for link in links {
@@ -99,8 +65,8 @@ fn number_of(n: &i64) -> Expr
 }
 
 #[cycle(settle)]
-fn settle_expr(alloc: Global, names: &mut Vec<Bytes>, e: &draft::Expr) -> Result<Expr, AllocError>
-    ensures { IfOk result (λ s. Settles (AnExpr e.now s) names.old.items names.new.items) }
+fn settle_expr(alloc: Global, names: &mut Names, e: &draft::Expr) -> Result<Expr, AllocError>
+    ensures { IfOk result (λ s. Settles (AnExpr e.now s) names.old names.new) }
 {
     match e {
         draft::Expr::Number(n) => Ok(number_of(n)),
@@ -125,10 +91,10 @@ fn settle_expr(alloc: Global, names: &mut Vec<Bytes>, e: &draft::Expr) -> Result
 
 fn settle_list(
     alloc: Global,
-    names: &mut Vec<Bytes>,
+    names: &mut Names,
     list: &[draft::Expr],
 ) -> Result<Vec<Expr>, AllocError>
-    ensures { IfOk result (λ s. Settles (SomeExprs list.now s.items) names.old.items names.new.items) }
+    ensures { IfOk result (λ s. Settles (SomeExprs list.now s.items) names.old names.new) }
 {
     let mut settled = Vec::new(alloc);
     for e in list {
@@ -140,10 +106,10 @@ fn settle_list(
 /// A missing list is `$0`.
 fn settle_printed(
     alloc: Global,
-    names: &mut Vec<Bytes>,
+    names: &mut Names,
     list: &[draft::Expr],
 ) -> Result<Vec<Expr>, AllocError>
-    ensures { IfOk result (λ s. Prints list.now s.items names.old.items names.new.items) }
+    ensures { IfOk result (λ s. Prints list.now s.items names.old names.new) }
 {
     if list.len() == 0 {
         let mut record = Vec::new(alloc);
@@ -157,11 +123,11 @@ fn settle_printed(
 /// A statement, with the number of its site.
 fn settle_statement(
     alloc: Global,
-    names: &mut Vec<Bytes>,
+    names: &mut Names,
     site: usize,
     s: &draft::Stmt,
 ) -> Result<Stmt, AllocError>
-    ensures { IfOk result (λ t. spec.AStatement site s.now t names.old.items names.new.items) }
+    ensures { IfOk result (λ t. spec.AStatement site s.now t names.old names.new) }
 {
     match s {
         draft::Stmt::Do(_, e) => {
@@ -189,11 +155,11 @@ fn place_of(s: &draft::Stmt) -> usize
 fn settle_action(
     alloc: Global,
     sites: &mut Sites<'_>,
-    names: &mut Vec<Bytes>,
+    names: &mut Names,
     steps: &[draft::Stmt],
 ) -> Result<Vec<Stmt>, AllocError>
     ensures text { sites.new.text ≡ sites.old.text }
-    ensures steps { IfOk result (λ v. spec.Statements (length sites.old.lines.items) steps.now v.items names.old.items names.new.items) }
+    ensures steps { IfOk result (λ v. spec.Statements (length sites.old.lines.items) steps.now v.items names.old names.new) }
     ensures lines { OnOk result (sites.new.lines.items ≡ sites.old.lines.items ++ map (λ s. line_of sites.old.text.now (spec.place_of s)) steps.now) }
 {
     let mut settled = Vec::new(alloc);
@@ -209,28 +175,29 @@ fn settle_action(
 fn settle_item(
     alloc: Global,
     sites: &mut Sites<'_>,
+    names: &mut Names,
     program: &mut Program,
     item: &Item,
 ) -> Result<(), AllocError>
     ensures text { sites.new.text ≡ sites.old.text }
-    ensures settled { OnOk result ((items : List part.Item) → spec.IsSettledWith sites.old.text.now items program.old sites.old.lines.items
-        → spec.IsSettledWith sites.old.text.now (items ++ item.now ∷ []) program.new sites.new.lines.items) }
+    ensures settled { OnOk result ((items : List part.Item) → spec.IsSettledWith sites.old.text.now items program.old names.old sites.old.lines.items
+        → spec.IsSettledWith sites.old.text.now (items ++ item.now ∷ []) program.new names.new sites.new.lines.items) }
 {
     match item {
         Item::Begin(steps) => {
-            let settled = settle_action(alloc, sites, &mut program.names, steps.as_slice())?;
+            let settled = settle_action(alloc, sites, names, steps.as_slice())?;
             program.begin.push(Stmt::Block(settled))?;
             Ok(())
         }
         Item::End(steps) => {
-            let settled = settle_action(alloc, sites, &mut program.names, steps.as_slice())?;
+            let settled = settle_action(alloc, sites, names, steps.as_slice())?;
             program.end.push(Stmt::Block(settled))?;
             Ok(())
         }
         Item::Main(place, steps) => {
             let site = sites.lines.len();
             sites.add(*place)?;
-            let settled = settle_action(alloc, sites, &mut program.names, steps.as_slice())?;
+            let settled = settle_action(alloc, sites, names, steps.as_slice())?;
             program.rules.push(Rule {
                 site,
                 guard: Guard::When(Expr::Number(1)),
@@ -253,9 +220,11 @@ pub fn settle(alloc: Global, text: &[u8], items: &[Item]) -> Result<Program, All
         lines: Vec::new(alloc),
     };
     let mut sites = Sites::new(alloc, text);
+    let mut names = Names::new(alloc);
     for item in items {
-        settle_item(alloc, &mut sites, &mut program, item)?;
+        settle_item(alloc, &mut sites, &mut names, &mut program, item)?;
     }
+    program.names = names.into_names();
     program.lines = sites.lines;
     Ok(program)
 }

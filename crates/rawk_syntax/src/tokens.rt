@@ -2,10 +2,10 @@
 
 ghost use Rattle.std.specs.Prelude.{◌≡◌};
 ghost use Rattle.rawk_syntax.specs.Parser as spec;
-ghost use Rattle.rawk_syntax.specs.Parser.{Reads};
+ghost use Rattle.rawk_syntax.specs.Parser.{Parses};
 
+use crate::parse_error::ParseError;
 use crate::refusal::RefusalKind;
-use crate::refused::Refused;
 use rawk_lexer::{Cursor, Kind};
 
 /// Why a text is refused at a token of this kind that no rule takes.
@@ -38,10 +38,10 @@ fn reason(kind: Kind) -> RefusalKind
 }
 
 #[tactic(auto, unfolding(crate::specs::Parser::refusal))]
-pub fn refuse(tokens: &Cursor<'_>) -> Refused
+pub fn refuse(tokens: &Cursor<'_>) -> ParseError
     ensures { result ≡ spec.refusal tokens.now }
 {
-    Refused::Here(reason(tokens.peek()), tokens.left())
+    ParseError::Here(reason(tokens.peek()), tokens.left())
 }
 
 #[tactic(auto, unfolding(crate::specs::Parser::same_kind))]
@@ -71,8 +71,8 @@ pub fn eat(tokens: &mut Cursor<'_>, kind: Kind) -> bool
 }
 
 #[tactic(auto, unfolding(crate::specs::Parser::expect))]
-pub fn expect(tokens: &mut Cursor<'_>, kind: Kind) -> Result<(), Refused>
-    ensures { Reads (spec.expect kind tokens.old) result tokens.new }
+pub fn expect(tokens: &mut Cursor<'_>, kind: Kind) -> Result<(), ParseError>
+    ensures { Parses (spec.expect kind tokens.old) result tokens.new }
 {
     if sees(tokens, kind) {
         tokens.take();

@@ -9,7 +9,7 @@ use Rattle.memchr.specs.Find.{Nowhere, NoneBefore, Passes, is_byte}
 use Rattle.rawk_value.specs.declared.fault.Fault.{Fault}
 use Rattle.rawk_tape.specs.Records.{Input, Found, found, last_line, next_line, next_record}
 use Rattle.rawk_tape.specs.Inputs.{before, nothing, is_failed}
-use Rattle.rawk_tape.specs.Tapes.{Held, MayBe, Answers, IsUnsettled}
+use Rattle.rawk_tape.specs.Tapes.{TapeState, MayBe, Answers, IsUnsettled}
 use Rattle.rawk_tape.specs.declared.source.Ending.{Ending}
 use Rattle.rawk_tape.specs.declared.found.Found.{Found as Place}
 
@@ -61,7 +61,7 @@ line_last separator bytes ending start none =
     line_past separator (is_failed ending) (drop start (bytes ++ [])) start _ place (omega arith) ∙ ap (λ (x : List ℕ). last_line (is_failed ending) (drop start x) start) all
 
 -- the answer where a separator was found among the bytes held
-pub found_line : {S : Type 0} (may_give : S → Input → Type 0) (tape : Held S) (kept : List ℕ) (separator scanned at start consumed : ℕ) → kept ≡ tape.bytes → start ≡ tape.consumed → tape.consumed ≡ consumed → tape.consumed ≤ scanned → Nowhere (Passes (is_byte separator) tape.bytes) tape.consumed scanned → NoneBefore (Passes (is_byte separator) kept) scanned (length kept) at × Passes (is_byte separator) kept at → (input : Input) → MayBe may_give tape input → next_record input consumed (separator ∷ []) ≡ found (slice_range tape.bytes start at) (at + 1)
+pub found_line : {S : Type 0} (may_give : S → Input → Type 0) (tape : TapeState S) (kept : List ℕ) (separator scanned at start consumed : ℕ) → kept ≡ tape.bytes → start ≡ tape.consumed → tape.consumed ≡ consumed → tape.consumed ≤ scanned → Nowhere (Passes (is_byte separator) tape.bytes) tape.consumed scanned → NoneBefore (Passes (is_byte separator) kept) scanned (length kept) at × Passes (is_byte separator) kept at → (input : Input) → MayBe may_give tape input → next_record input consumed (separator ∷ []) ≡ found (slice_range tape.bytes start at) (at + 1)
 found_line may_give tape kept separator scanned at start consumed k s c low none here input may =
     let P : ℕ → Type 0 = Passes (is_byte separator) tape.bytes in
     let h : NoneBefore P scanned (length tape.bytes) at × P at = subst (λ (x : List ℕ). NoneBefore (Passes (is_byte separator) x) scanned (length x) at × Passes (is_byte separator) x at) k here in
@@ -71,7 +71,7 @@ found_line may_give tape kept separator scanned at start consumed k s c low none
     ap (λ n. next_record input n (separator ∷ [])) (sym c) ∙ (e ∙ ap (λ n. found (slice_range tape.bytes n at) (at + 1)) (sym s))
 
 -- the answer where there is none, and nothing more to come
-pub no_line : {S : Type 0} (may_give : S → Input → Type 0) (tape : Held S) (kept lent : List ℕ) (separator scanned start consumed : ℕ) (ending : Ending) (answer : Result (Option Place) Fault) → ((rest : Input) → may_give tape.source rest → rest ≡ nothing ending) → kept ≡ tape.bytes → lent ≡ tape.bytes → start ≡ tape.consumed → tape.consumed ≡ consumed → Nowhere (Passes (is_byte separator) tape.bytes) tape.consumed scanned → Nowhere (Passes (is_byte separator) kept) scanned (length kept) → Answers (last_line (is_failed ending) (drop start lent) start) lent answer → (input : Input) → MayBe may_give tape input → Answers (next_record input consumed (separator ∷ [])) tape.bytes answer
+pub no_line : {S : Type 0} (may_give : S → Input → Type 0) (tape : TapeState S) (kept lent : List ℕ) (separator scanned start consumed : ℕ) (ending : Ending) (answer : Result (Option Place) Fault) → ((rest : Input) → may_give tape.source rest → rest ≡ nothing ending) → kept ≡ tape.bytes → lent ≡ tape.bytes → start ≡ tape.consumed → tape.consumed ≡ consumed → Nowhere (Passes (is_byte separator) tape.bytes) tape.consumed scanned → Nowhere (Passes (is_byte separator) kept) scanned (length kept) → Answers (last_line (is_failed ending) (drop start lent) start) lent answer → (input : Input) → MayBe may_give tape input → Answers (next_record input consumed (separator ∷ [])) tape.bytes answer
 no_line may_give tape kept lent separator scanned start consumed ending answer over k k' s c none more h input may =
     let P : ℕ → Type 0 = Passes (is_byte separator) tape.bytes in
     let more' : Nowhere P scanned (length tape.bytes) = subst (λ (x : List ℕ). Nowhere (Passes (is_byte separator) x) scanned (length x)) k more in

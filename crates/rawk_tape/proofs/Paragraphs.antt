@@ -4,7 +4,7 @@ use Rattle.std.proofs.lemmas.List.{length-append, get_or_append_left, take-appen
 use Rattle.rawk_value.specs.declared.fault.Fault.{Fault}
 use Rattle.rawk_tape.specs.Records.{Input, Found, found, next_paragraph, next_record}
 use Rattle.rawk_tape.specs.Inputs.{before, nothing, is_failed}
-use Rattle.rawk_tape.specs.Tapes.{Held, MayBe, Answers, IsShortOf, text_at}
+use Rattle.rawk_tape.specs.Tapes.{TapeState, MayBe, Answers, IsShortOf, text_at}
 use Rattle.rawk_tape.specs.Paragraphs.{IsScanned, IsParagraph}
 use Rattle.rawk_tape.specs.declared.source.Ending.{Ending}
 use Rattle.rawk_tape.specs.declared.found.Found.{Found as Place}
@@ -48,7 +48,7 @@ paragraph_longer bytes more start place p settled =
     }
 
 -- the answer where a paragraph is settled by the bytes held
-pub found_paragraph : {S : Type 0} (may_give : S → Input → Type 0) (tape : Held S) (place : Place) (consumed : ℕ) → IsParagraph tape.bytes consumed place → place.count < length tape.bytes → (input : Input) → MayBe may_give tape input → next_record input consumed [] ≡ Ok (Some (text_at tape.bytes place))
+pub found_paragraph : {S : Type 0} (may_give : S → Input → Type 0) (tape : TapeState S) (place : Place) (consumed : ℕ) → IsParagraph tape.bytes consumed place → place.count < length tape.bytes → (input : Input) → MayBe may_give tape input → next_record input consumed [] ≡ Ok (Some (text_at tape.bytes place))
 found_paragraph may_give tape place consumed p settled input may =
     let s = p.scanned in
     let all : List ℕ = tape.bytes ++ may.rest.bytes in
@@ -61,7 +61,7 @@ found_paragraph may_give tape place consumed p settled input may =
     ∙ (found_is all consumed place q may.rest.fails (λ _. omega arith) (omega (arith, s.text, s.after)) ∙ ap (λ (x : List ℕ). found x place.count) cut)
 
 -- the answer where nothing more is to come
-pub no_paragraph : {S : Type 0} (may_give : S → Input → Type 0) (tape : Held S) (kept : List ℕ) (consumed : ℕ) (ending : Ending) (answer : Result (Option Place) Fault) → ((rest : Input) → may_give tape.source rest → rest ≡ nothing ending) → kept ≡ tape.bytes → Answers (next_paragraph (is_failed ending) (drop consumed kept) consumed) kept answer → (input : Input) → MayBe may_give tape input → Answers (next_record input consumed []) tape.bytes answer
+pub no_paragraph : {S : Type 0} (may_give : S → Input → Type 0) (tape : TapeState S) (kept : List ℕ) (consumed : ℕ) (ending : Ending) (answer : Result (Option Place) Fault) → ((rest : Input) → may_give tape.source rest → rest ≡ nothing ending) → kept ≡ tape.bytes → Answers (next_paragraph (is_failed ending) (drop consumed kept) consumed) kept answer → (input : Input) → MayBe may_give tape input → Answers (next_record input consumed []) tape.bytes answer
 no_paragraph may_give tape kept consumed ending answer over k h input may =
     let whole : input ≡ before tape.bytes (nothing ending) = may.whole ∙ ap (before tape.bytes) (over may.rest may.comes) in
     let e : next_record input consumed [] ≡ next_paragraph (is_failed ending) (drop consumed tape.bytes) consumed =

@@ -3,13 +3,13 @@ use Rattle.std.proofs.Common.{◌≡◌, ◌≤◌, ◌+◌, ◌-◌, ℕ, Bool,
 use Rattle.std.proofs.lemmas.List.{length-drop, drop-append-le, take-append-le, append-nil}
 use Rattle.rawk_value.specs.declared.fault.Fault.{Fault}
 use Rattle.rawk_value.specs.declared.fault.Fault.TheVariants.{ReadFailed}
-use Rattle.rawk_ere_code.specs.Tree.{Tree}
-use Rattle.rawk_match.specs.declared.span.Span.{Span}
-use Rattle.rawk_match.specs.Matches.{first_nonempty, open_match}
-use Rattle.rawk_match.specs.Laws.{IsSpan, IsSkip, open_within, open_longer, open_closed, skip_longer, skip_trans}
+use Rattle.rawk_ere_tree.specs.Tree.{Tree}
+use Rattle.rawk_search.specs.declared.span.Span.{Span}
+use Rattle.rawk_search.specs.Matches.{first_nonempty, open_match}
+use Rattle.rawk_search.specs.Laws.{IsSpan, IsSkip, open_within, open_longer, open_closed, skip_longer, skip_trans}
 use Rattle.rawk_tape.specs.Records.{Input, Found, found, last_line, separator_in, ended_by, next_match, next_record}
 use Rattle.rawk_tape.specs.Inputs.{before, nothing, is_failed}
-use Rattle.rawk_tape.specs.Tapes.{Held, MayBe, Answers, IsUnsettled, IsExpression, IsWithin, place_before, text_at}
+use Rattle.rawk_tape.specs.Tapes.{TapeState, MayBe, Answers, IsUnsettled, IsExpression, IsWithin, place_before, text_at}
 use Rattle.rawk_tape.specs.declared.source.Ending.{Ending}
 use Rattle.rawk_tape.specs.declared.source.Ending.TheVariants.{Ended, Failed}
 use Rattle.rawk_tape.specs.declared.found.Found.{Found as Place}
@@ -54,7 +54,7 @@ match_within bytes start from m low span =
     (omega arith, omega arith, omega (arith, span.1), omega (arith, span.1), omega (arith, span.2))
 
 -- the answer where a match is settled by the bytes held
-pub found_match : {S : Type 0} (may_give : S → Input → Type 0) (tape : Held S) (e : Tree) (from : ℕ) (m : Span) → tape.consumed ≤ length tape.bytes → IsSkip (drop tape.consumed tape.bytes) e 0 from → open_match (drop tape.consumed tape.bytes) e from ≡ Some m → (input : Input) → MayBe may_give tape input → next_match (Some e) input.fails (drop tape.consumed input.bytes) tape.consumed ≡ Ok (Some (text_at tape.bytes (place_before m tape.consumed)))
+pub found_match : {S : Type 0} (may_give : S → Input → Type 0) (tape : TapeState S) (e : Tree) (from : ℕ) (m : Span) → tape.consumed ≤ length tape.bytes → IsSkip (drop tape.consumed tape.bytes) e 0 from → open_match (drop tape.consumed tape.bytes) e from ≡ Some m → (input : Input) → MayBe may_give tape input → next_match (Some e) input.fails (drop tape.consumed input.bytes) tape.consumed ≡ Ok (Some (text_at tape.bytes (place_before m tape.consumed)))
 found_match may_give tape e from m low skip is input may =
     let start = tape.consumed in
     let s = drop start tape.bytes in
@@ -91,7 +91,7 @@ last_failed s start e ending fails is =
     ∙ ap (λ (o : Option Span). ended_by o true s start) is
 
 -- the answer where nothing more is to come
-pub no_match : {S : Type 0} (may_give : S → Input → Type 0) (tape : Held S) (e : Tree) (ending : Ending) (answer : Result (Option Place) Fault) → ((rest : Input) → may_give tape.source rest → rest ≡ nothing ending) → Answers (next_match (Some e) (is_failed ending) (drop tape.consumed tape.bytes) tape.consumed) tape.bytes answer → (input : Input) → MayBe may_give tape input → Answers (next_match (Some e) input.fails (drop tape.consumed input.bytes) tape.consumed) tape.bytes answer
+pub no_match : {S : Type 0} (may_give : S → Input → Type 0) (tape : TapeState S) (e : Tree) (ending : Ending) (answer : Result (Option Place) Fault) → ((rest : Input) → may_give tape.source rest → rest ≡ nothing ending) → Answers (next_match (Some e) (is_failed ending) (drop tape.consumed tape.bytes) tape.consumed) tape.bytes answer → (input : Input) → MayBe may_give tape input → Answers (next_match (Some e) input.fails (drop tape.consumed input.bytes) tape.consumed) tape.bytes answer
 no_match may_give tape e ending answer over h input may =
     let whole : input ≡ before tape.bytes (nothing ending) = may.whole ∙ ap (before tape.bytes) (over may.rest may.comes) in
     let same : next_match (Some e) input.fails (drop tape.consumed input.bytes) tape.consumed ≡ next_match (Some e) (is_failed ending) (drop tape.consumed tape.bytes) tape.consumed =

@@ -24,7 +24,7 @@ abbrev pub size_taken : Result ℕ DeviceFault → ℕ
 size_taken (Ok n) = n
 size_taken (Err _) = 0
 
--- what a read told of the end: a read of no bytes is the end
+-- what a read reported of the end: a read of no bytes is the end
 abbrev pub ending_of : Result ℕ DeviceFault → Option Ending
 ending_of (Ok n) = if n == 0 then Some Ended else None
 ending_of (Err _) = Some Failed
@@ -38,7 +38,7 @@ failures_of (Err _) = 1
 abbrev pub CountsUp : ℕ → ℕ → ℕ → Type 0
 CountsUp old new n = old + n < 2 ^ 128 → new ≡ old + n
 
--- any input before the end is told, and after it none
+-- any input before the end is reported, and after it none
 abbrev pub AllowedBy : Option Ending → Input → Type 0
 AllowedBy over rest = (ending : Ending) → over ≡ Some ending → rest ≡ nothing ending
 

@@ -6,26 +6,26 @@ use Rattle.std.proofs.Math.Seq.{drop-append-add}
 use Rattle.rawk_value.specs.Values.{Bytes, is_empty}
 use Rattle.rawk_value.specs.declared.fault.Fault.{Fault}
 use Rattle.rawk_value.specs.declared.fault.Fault.TheVariants.{ReadFailed}
-use Rattle.rawk_ere_code.specs.Tree.{Tree}
-use Rattle.rawk_match.specs.declared.span.Span.{Span}
-use Rattle.rawk_match.specs.Expressions.{ere_of}
+use Rattle.rawk_ere_tree.specs.Tree.{Tree}
+use Rattle.rawk_search.specs.declared.span.Span.{Span}
+use Rattle.rawk_search.specs.Expressions.{ere_of}
 use Rattle.rawk_tape.specs.Records.{Input, Found, found, next_line, next_paragraph, separator_in, ended_by, next_match, next_record}
 use Rattle.rawk_tape.specs.Inputs.{before}
-use Rattle.rawk_tape.specs.Tapes.{Held, MayBe, ReadsAhead}
+use Rattle.rawk_tape.specs.Tapes.{TapeState, MayBe, ReadsAhead}
 use Rattle.rawk_tape.specs.declared.source.Ending.{Ending}
 
 -- some input may always be the tape's, where its source always gives some
-pub some_input : {S : Type 0} (may_give : S → Input → Type 0) (gives_some : (s : S) → (rest : Input) × may_give s rest) (tape : Held S) → (input : Input) × MayBe may_give tape input
+pub some_input : {S : Type 0} (may_give : S → Input → Type 0) (gives_some : (s : S) → (rest : Input) × may_give s rest) (tape : TapeState S) → (input : Input) × MayBe may_give tape input
 some_input may_give gives_some tape =
     let some = gives_some tape.source in
     (before tape.bytes some.0, record { rest = some.0; comes = some.1; whole = refl })
 
 -- what may be is the same with another count of consumed bytes
-pub MayBe-consumed : {S : Type 0} (may_give : S → Input → Type 0) (tape : Held S) (count : ℕ) (input : Input) → MayBe may_give (record tape { consumed = count }) input → MayBe may_give tape input
+pub MayBe-consumed : {S : Type 0} (may_give : S → Input → Type 0) (tape : TapeState S) (count : ℕ) (input : Input) → MayBe may_give (record tape { consumed = count }) input → MayBe may_give tape input
 MayBe-consumed may_give tape count input may = record { rest = may.rest; comes = may.comes; whole = may.whole }
 
 -- nothing was read
-pub ReadsAhead-refl : {S : Type 0} (may_give : S → Input → Type 0) (over : S → Option Ending) (handed : S → ℕ) (tape : Held S) → ReadsAhead may_give over handed tape tape
+pub ReadsAhead-refl : {S : Type 0} (may_give : S → Input → Type 0) (over : S → Option Ending) (handed : S → ℕ) (tape : TapeState S) → ReadsAhead may_give over handed tape tape
 ReadsAhead-refl may_give over handed tape = record {
   input = λ input may. may;
   consumed = refl;
@@ -39,7 +39,7 @@ pub before-before : (front back : Bytes) (input : Input) → before front (befor
 before-before front back input = ap (λ (x : Bytes). record { bytes = x; fails = input.fails }) (sym (append_assoc front back input.bytes))
 
 -- what may be once bytes were let go might have been behind them before
-pub MayBe-forgotten : {S : Type 0} (may_give : S → Input → Type 0) (old new : Held S) (size : ℕ) → new.source ≡ old.source → new.bytes ≡ drop size old.bytes → (input : Input) → MayBe may_give new input → MayBe may_give old (before (take size old.bytes) input)
+pub MayBe-forgotten : {S : Type 0} (may_give : S → Input → Type 0) (old new : TapeState S) (size : ℕ) → new.source ≡ old.source → new.bytes ≡ drop size old.bytes → (input : Input) → MayBe may_give new input → MayBe may_give old (before (take size old.bytes) input)
 MayBe-forgotten may_give old new size source bytes input may = record {
   rest = may.rest;
   comes = subst (λ s. may_give s may.rest) source may.comes;

@@ -4,10 +4,10 @@ use Rattle.std.specs.List.{prefix_len, position_or_len}
 use Rattle.rawk_value.specs.Values.{Bytes, begins, is_empty}
 use Rattle.rawk_value.specs.declared.fault.Fault.{Fault}
 use Rattle.rawk_value.specs.declared.fault.Fault.TheVariants.{BadSeparator, ReadFailed}
-use Rattle.rawk_ere_code.specs.Tree.{Tree}
-use Rattle.rawk_match.specs.declared.span.Span.{Span}
-use Rattle.rawk_match.specs.Expressions.{ere_of}
-use Rattle.rawk_match.specs.Matches.{first_nonempty, open_match}
+use Rattle.rawk_ere_tree.specs.Tree.{Tree}
+use Rattle.rawk_search.specs.declared.span.Span.{Span}
+use Rattle.rawk_search.specs.Expressions.{ere_of}
+use Rattle.rawk_search.specs.Matches.{first_nonempty, open_match}
 
 -- all bytes of an input, and whether a failed read ends it
 pub record Input : Type 0 where

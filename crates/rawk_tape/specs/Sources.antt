@@ -16,4 +16,4 @@ nothing_left bytes place ending e rest all so gives =
 -- some input is always allowed
 pub some_allowed : (over : Option Ending) → (rest : Input) × AllowedBy over rest
 some_allowed None = (nothing Ended, λ ending is. cc)
-some_allowed (Some told) = (nothing told, λ ending is. cc)
+some_allowed (Some reported) = (nothing reported, λ ending is. cc)

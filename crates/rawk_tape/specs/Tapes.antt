@@ -3,22 +3,22 @@ use Rattle.std.specs.Prelude.{true, ◌≡◌, ◌≢◌, ◌≤◌, ◌<◌, �
 use Rattle.rawk_value.specs.Values.{Bytes}
 use Rattle.rawk_value.specs.declared.fault.Fault.{Fault}
 use Rattle.rawk_value.specs.declared.fault.Fault.TheVariants.{ReadFailed, OutOfMemory}
-use Rattle.rawk_ere_code.specs.Tree.{Tree}
-use Rattle.rawk_match.specs.declared.span.Span.{Span}
-use Rattle.rawk_match.specs.Expressions.{ere_of}
+use Rattle.rawk_ere_tree.specs.Tree.{Tree}
+use Rattle.rawk_search.specs.declared.span.Span.{Span}
+use Rattle.rawk_search.specs.Expressions.{ere_of}
 use Rattle.rawk_tape.specs.Records.{Input, Found, next_record}
 use Rattle.rawk_tape.specs.Inputs.{before, CountsUp}
 use Rattle.rawk_tape.specs.declared.source.Ending.{Ending}
 use Rattle.rawk_tape.specs.declared.found.Found.{Found as Place}
 
 -- the source of what is still to come, the bytes read and kept, and how many of them are consumed
-pub record Held (S : Type 0) : Type 0 where
+pub record TapeState (S : Type 0) : Type 0 where
   pub source : S
   pub bytes : Bytes
   pub consumed : ℕ
 
 -- the input, from the first kept byte on, may be this one
-pub record MayBe {S : Type 0} (may_give : S → Input → Type 0) (tape : Held S) (input : Input) : Type 0 where
+pub record MayBe {S : Type 0} (may_give : S → Input → Type 0) (tape : TapeState S) (input : Input) : Type 0 where
   pub rest : Input
   pub comes : may_give tape.source rest
   pub whole : input ≡ before tape.bytes rest
@@ -33,7 +33,7 @@ pub record ReadsOn {S : Type 0} (may_give : S → Input → Type 0) (over : S �
   pub counted : CountsUp (handed old) (handed new) (length chunk)
 
 -- any number of reads: the bytes held stay and more stand behind them, each input that may be now might have been before, and nothing is asked of a source that is over
-pub record ReadsAhead {S : Type 0} (may_give : S → Input → Type 0) (over : S → Option Ending) (handed : S → ℕ) (old new : Held S) : Type 0 where
+pub record ReadsAhead {S : Type 0} (may_give : S → Input → Type 0) (over : S → Option Ending) (handed : S → ℕ) (old new : TapeState S) : Type 0 where
   pub input : (input : Input) → MayBe may_give new input → MayBe may_give old input
   pub consumed : new.consumed ≡ old.consumed
   pub grown : new.bytes ≡ old.bytes ++ drop (length old.bytes) new.bytes
@@ -42,11 +42,11 @@ pub record ReadsAhead {S : Type 0} (may_give : S → Input → Type 0) (over : S
   pub closed : (ending : Ending) → over old.source ≡ Some ending → new ≡ old
 
 -- how many bytes are consumed once a count is: of more than are kept, as many as before
-abbrev pub consumed_by : {S : Type 0} → Held S → ℕ → ℕ
+abbrev pub consumed_by : {S : Type 0} → TapeState S → ℕ → ℕ
 consumed_by tape count = if nat_le count (length tape.bytes) then count else tape.consumed
 
 -- with so many of its bytes consumed the tape is the earlier one, but for bytes read ahead
-pub record LeadsBack {S : Type 0} (may_give : S → Input → Type 0) (over : S → Option Ending) (handed : S → ℕ) (now : Held S) (count : ℕ) (earlier : Held S) : Type 0 where
+pub record LeadsBack {S : Type 0} (may_give : S → Input → Type 0) (over : S → Option Ending) (handed : S → ℕ) (now : TapeState S) (count : ℕ) (earlier : TapeState S) : Type 0 where
   pub fits : count ≤ length now.bytes
   pub ahead : ReadsAhead may_give over handed earlier (record now { consumed = count })
 

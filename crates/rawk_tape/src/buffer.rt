@@ -20,7 +20,7 @@ fn size_of_read(read: &Result<usize, DeviceFault>) -> usize
     }
 }
 
-/// What a read told of the end.
+/// What a read reported of the end.
 fn ending_of_read(read: &Result<usize, DeviceFault>) -> Option<Ending>
     ensures { result ≡ ending_of read.now }
 {

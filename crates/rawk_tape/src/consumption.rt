@@ -1,6 +1,6 @@
 //! The change of a tape, and the way back.
 ghost use Rattle.std.specs.Prelude.{◌≡◌, ◌≤◌, Ok, IfOk, OnErr, length};
-ghost use Rattle.rawk_tape.specs.Tapes.{Held, LeadsBack, ReadsAhead, consumed_by};
+ghost use Rattle.rawk_tape.specs.Tapes.{TapeState, LeadsBack, ReadsAhead, consumed_by};
 
 use crate::{Source, Tape};
 use rawk_slots::Reversible;
@@ -34,7 +34,7 @@ impl<R: Source + Drop> Reversible for Tape<R> {
     /// Consumes bytes up to a count. It takes no memory, always succeeds and asks the source for nothing; the entry is the count before.
     fn apply(&mut self, alloc: Global, change: Consumption) -> Result<Consumption, AllocError>
         ensures makes { IfOk result (λ undo. self.new ≡ record self.old { consumed = consumed_by self.old change.count }) }
-        ensures back { IfOk result (λ undo. (more : Held R) → ReadsAhead R.may_give R.over R.handed self.new more → LeadsBack R.may_give R.over R.handed more undo.count self.old) }
+        ensures back { IfOk result (λ undo. (more : TapeState R) → ReadsAhead R.may_give R.over R.handed self.new more → LeadsBack R.may_give R.over R.handed more undo.count self.old) }
         ensures err { OnErr result (ReadsAhead R.may_give R.over R.handed self.old self.new) }
         ensures source { self.new.source ≡ self.old.source }
         ensures done { result ≡ Ok (record { count = self.old.consumed }) }
@@ -49,7 +49,7 @@ impl<R: Source + Drop> Reversible for Tape<R> {
     /// Takes a consumption back, and leaves the newer count in the entry. It asks the source for nothing: what was read ahead stays.
     fn undo(&mut self, undo: &mut Consumption)
         requires { undo.old.count ≤ length self.old.bytes }
-        ensures back { (earlier : Held R) → LeadsBack R.may_give R.over R.handed self.old undo.old.count earlier → ReadsAhead R.may_give R.over R.handed earlier self.new }
+        ensures back { (earlier : TapeState R) → LeadsBack R.may_give R.over R.handed self.old undo.old.count earlier → ReadsAhead R.may_give R.over R.handed earlier self.new }
         ensures source { self.new.source ≡ self.old.source }
         ensures count { self.new.consumed ≡ undo.old.count }
         ensures newer { self.old ≡ record self.new { consumed = undo.new.count } }

@@ -1,12 +1,12 @@
 //! Sources and sinks of bytes, and the records of an input.
 #![tactic(auto)]
 
+mod at_end;
 mod buffer;
 mod bytes_sink;
 mod bytes_source;
 mod consumption;
 mod found;
-mod last;
 mod matches;
 mod search;
 mod sink;
@@ -14,8 +14,6 @@ mod source;
 mod std_sink;
 mod std_source;
 mod tape;
-#[cfg(test)]
-mod tests;
 
 pub use bytes_sink::BytesSink;
 pub use bytes_source::BytesSource;

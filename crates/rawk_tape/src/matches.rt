@@ -1,18 +1,18 @@
 //! The next record, which a match of an expression ends.
 ghost use Rattle.std.specs.Prelude.{◌≡◌, ◌≤◌, ◌<◌, ◌+◌, ◌^◌, ◌⊎◌, drop, length, None, Some, IfErr};
-ghost use Rattle.rawk_match.specs.Matches.{open_match};
-ghost use Rattle.rawk_match.specs.Laws.{IsSkip};
+ghost use Rattle.rawk_search.specs.Matches.{open_match};
+ghost use Rattle.rawk_search.specs.Laws.{IsSkip};
 ghost use Rattle.rawk_value.specs.Values.{Bytes};
 ghost use Rattle.rawk_tape.specs.declared.source.Ending.{Ending};
 ghost use Rattle.rawk_tape.specs.Records.{Input, next_match};
 ghost use Rattle.rawk_tape.specs.Inputs.{is_failed};
 ghost use Rattle.rawk_tape.specs.Tapes.{MayBe, ReadsAhead, LastRead, Answers, IsWithin, IsExpression, place_before};
 
+use crate::at_end::last_line;
 use crate::buffer::Buffer;
-use crate::last::last_line;
 use crate::{Ending, Found, Source};
 use rawk_ere::Ere;
-use rawk_match::{Span, next_nonempty, next_open, skip_to};
+use rawk_search::{Span, next_nonempty, next_open, skip_to};
 use rawk_value::Fault;
 use std::alloc::Global;
 
@@ -76,8 +76,8 @@ pub(crate) fn next_match<R: Source>(
     ere: &Ere,
 ) -> Result<Option<Found>, Fault>
     requires in_range { start ≤ length bytes.old }
-    requires told { R.over source.old ≡ over.old }
-    ensures told { R.over source.new ≡ over.new }
+    requires reported { R.over source.old ≡ over.old }
+    ensures reported { R.over source.new ≡ over.new }
     ensures ahead { ReadsAhead R.may_give R.over R.handed
         (record { source = source.old; bytes = bytes.old; consumed = start })
         (record { source = source.new; bytes = bytes.new; consumed = start }) }

@@ -25,7 +25,7 @@ pub trait Source {
     /// This input may be what is still to come.
     ghost may_give: { Self → Input → Type 0 };
 
-    /// How the input has ended, once a read has told it.
+    /// How the input has ended, once a read has reported it.
     ghost over: { Self → Option Ending };
 
     /// How many bytes were handed out.

@@ -1,10 +1,10 @@
 //! What is held of an input, and its next record.
+use crate::at_end::{last_line, last_paragraph};
 use crate::buffer::Buffer;
-use crate::last::{last_line, last_paragraph};
 use crate::matches::next_match;
 use crate::search::{find_in, scan_paragraph};
 use crate::{Ending, Found, Source};
-use rawk_match::LastExpression;
+use rawk_search::CachedExpression;
 use rawk_value::Fault;
 use std::alloc::Global;
 use std::marker::Model;
@@ -17,15 +17,15 @@ pub struct Tape<R: Source + Drop> {
     over: Option<Ending>,
     bytes: Buffer,
     start: usize,
-    expression: LastExpression,
+    expression: CachedExpression,
     alloc: Global,
 }
 
 impl<R: Source + Drop> Model for Tape<R> {
     ghost use Rattle.std.specs.Prelude.{◌≡◌, ◌≤◌, length};
-    ghost use Rattle.rawk_tape.specs.Tapes.{Held};
+    ghost use Rattle.rawk_tape.specs.Tapes.{TapeState};
 
-    ghost Value = { Held R };
+    ghost Value = { TapeState R };
 
     ghost view = { λ t. record { source = t.source; bytes = t.bytes; consumed = t.start } };
 
@@ -49,7 +49,7 @@ impl<R: Source + Drop> Tape<R> {
             over: None,
             bytes: Buffer::new(alloc),
             start: 0,
-            expression: LastExpression::new(alloc),
+            expression: CachedExpression::new(alloc),
             alloc,
         }
     }
@@ -85,7 +85,7 @@ impl<R: Source + Drop> Tape<R> {
         self.bytes.len() - self.start
     }
 
-    /// How the input has ended, once the source has told it.
+    /// How the input has ended, once the source has reported it.
     fn over(&self) -> Option<Ending>
         ensures { result ≡ R.over self.now.source }
     {

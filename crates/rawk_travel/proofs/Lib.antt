@@ -1,6 +1,6 @@
 pub mod Quiets
 pub mod Acts
-pub mod Lents
+pub mod BorrowedLemmas
 pub mod Faults
 pub mod Lines
 pub mod Takings

@@ -1,6 +1,6 @@
 pub mod Moving
 pub mod Reading
-pub mod Lent
+pub mod Borrowed
 pub mod Travel
 pub mod Gets
 pub mod Line

@@ -2,8 +2,8 @@
 #![tactic(auto, using(rawk_store::specs::Growth::grows))]
 
 mod act;
-mod lent;
+mod borrowed;
 mod print;
 mod reading;
+mod transfer;
 pub mod travel;
-mod went;

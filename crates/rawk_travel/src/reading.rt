@@ -4,7 +4,7 @@ ghost use Rattle.std.specs.Prelude.{◌≡◌, ◌≢◌, ◌≤◌, List, Some,
 ghost use Rattle.rawk_store.specs.Stores.{start_of};
 ghost use Rattle.rawk_travel.specs.Moving.{moving};
 ghost use Rattle.rawk_travel.specs.Reading.{counter_up, Takes, Shows, Counts, Finds, consumed_by, ReadsTo, KeepsRegisters, IsQuietReading};
-ghost use Rattle.rawk_travel.specs.Lent.{global_in};
+ghost use Rattle.rawk_travel.specs.Borrowed.{global_in};
 ghost use Rattle.rawk_record.specs.Shown.{read_as};
 ghost use Rattle.rawk_value.specs.Values.{Bytes, text_of, is_empty};
 ghost use Rattle.rawk_tape.specs.Records.{Input};
@@ -12,20 +12,12 @@ ghost use Rattle.rawk_tape.specs.Tapes.{MayBe};
 ghost use Rattle.rawk_tape.specs.declared.source.Ending.{Ending};
 ghost use Rattle.rawk_code.specs.Actions.{Point};
 
-use crate::lent::{global_lent, number, text_lent};
+use crate::borrowed::{global_borrowed, number, text_borrowed};
+use rawk_special::{FNR, FS, NR, RS};
 use rawk_store::{Cells, Store};
 use rawk_tape::{Found, Source, Tape};
 use rawk_value::{Fault, Value};
 use std::alloc::{AllocError, Global};
-
-/// The numbers of the globals NR, FNR, FS and RS.
-const NR: usize = 0;
-
-const FNR: usize = 1;
-
-const FS: usize = 2;
-
-const RS: usize = 5;
 
 /// What came of the reading of a record.
 #[derive(Clone, Copy, Debug)]
@@ -40,7 +32,7 @@ pub enum Reading {
 fn counter_up(globals: &Cells, counter: usize) -> Result<i64, Fault>
     ensures { result ≡ counter_up counter globals.now.now }
 {
-    let n = number(global_lent(globals, counter))?;
+    let n = number(global_borrowed(globals, counter))?;
     rawk_value::add(n, 1)
 }
 
@@ -57,7 +49,7 @@ fn show(
     ensures keys { store.new.keys ≡ store.old.keys }
 {
     let mut buffer = Vec::new(alloc);
-    let separator = text_lent(global_lent(&store.globals, FS), &mut buffer)?;
+    let separator = text_borrowed(global_borrowed(&store.globals, FS), &mut buffer)?;
     match store.current.read(alloc, text, separator, paragraph) {
         Ok(()) => Ok(None),
         Err(Fault::OutOfMemory) => Err(AllocError),
@@ -160,7 +152,7 @@ pub fn read<R: Source + Drop>(
 ) -> Result<Reading, AllocError>
     requires { tape.old.consumed ≡ store.old.registers.now.consumed }
     ensures may { (kept : Input) → MayBe R.may_give tape.new kept → MayBe R.may_give tape.old kept }
-    ensures did { IfOk result (λ r. (points : List Point) (gone told : Bytes) (kept : Input) → MayBe R.may_give tape.new kept → ReadsTo r points gone told kept (moving store.old) (moving store.new)) }
+    ensures did { IfOk result (λ r. (points : List Point) (gone handed : Bytes) (kept : Input) → MayBe R.may_give tape.new kept → ReadsTo r points gone handed kept (moving store.old) (moving store.new)) }
     ensures registers { IfOk result (λ r. KeepsRegisters (moving store.old) (moving store.new)) }
     ensures start { start_of store.new ≡ start_of store.old }
     ensures operands { store.new.operands ≡ store.old.operands }
@@ -171,7 +163,7 @@ pub fn read<R: Source + Drop>(
     ensures failed { IfOk result (λ r. r ≡ Reading.Faulted Fault.ReadFailed → R.over tape.new.source ≡ Some Ending.Failed) }
 {
     let mut buffer = Vec::new(alloc);
-    let separator = text_lent(global_lent(&store.globals, RS), &mut buffer)?;
+    let separator = text_borrowed(global_borrowed(&store.globals, RS), &mut buffer)?;
     let paragraph = separator.len() == 0;
     match tape.next(separator) {
         Err(fault) => refused(fault),

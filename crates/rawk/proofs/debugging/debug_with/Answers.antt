@@ -1,15 +1,15 @@
 use Rattle.std.proofs.Common.{refl, sym, ◌∙◌, subst}
 use Rattle.rawk.specs.declared.report.Report.{Report}
 use Rattle.rawk.specs.Debugs.{Debugs, never_stood, asks_all}
-use Rattle.rawk.proofs.Held.{told_all}
+use Rattle.rawk.proofs.Sessions.{reported_all}
 use Rattle.rawk.proofs.debugging.debug_with.Goals as goal
 
-pub returns-in-Err-clause-told : goal.returns-in-Err-clause-told
-returns-in-Err-clause-told g c =
+pub returns-in-Err-clause-reported : goal.returns-in-Err-clause-reported
+returns-in-Err-clause-reported g c =
     subst (λ (r : Report). Debugs g.R.Source.may_give asks_all g.W.Sink.may_hold c.args.program.now c.args.settings.now c.args.source c.args.commands.now c.args.steps c.args.history c.args.sink.now c.args.sink.now r)
     (sym c.stopped.ensures) (never_stood refl)
 
-pub returns-in-Ok-clause-told : goal.returns-in-Ok-clause-told
-returns-in-Ok-clause-told g c =
-    told_all g.R.Source.may_give _ g.W.Sink.may_hold c.args.program.now c.args.settings.now c.args.source c.in-Ok.lines c.args.commands.now c.args.steps c.args.history c.args.sink.now c.debug_from.new.sink c.debug_from.result
-    (λ asked asks. asks ∙ c.in-Ok.ensures.all) c.debug_from.ensures.told
+pub returns-in-Ok-clause-reported : goal.returns-in-Ok-clause-reported
+returns-in-Ok-clause-reported g c =
+    reported_all g.R.Source.may_give _ g.W.Sink.may_hold c.args.program.now c.args.settings.now c.args.source c.in-Ok.lines c.args.commands.now c.args.steps c.args.history c.args.sink.now c.debug_from.new.sink c.debug_from.result
+    (λ asked asks. asks ∙ c.in-Ok.ensures.all) c.debug_from.ensures.reported

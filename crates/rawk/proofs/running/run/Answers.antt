@@ -1,46 +1,24 @@
-use Rattle.std.proofs.Common.{◌≡◌, true, false, refl, sym, ◌∙◌, subst}
-use Rattle.rawk_code.specs.Correct.{CodeOf}
-use Rattle.rawk_code.specs.Settings.{settings_fit}
-use Rattle.rawk.specs.declared.report.Report.{Report}
-use Rattle.rawk.specs.Tells.{Tells, text_refused, settings_refused}
-use Rattle.rawk.proofs.Told.{told_run, told_refused}
+use Rattle.rawk.specs.Reports.{write_failures}
+use Rattle.rawk.proofs.Runs.{reported_run, reported_unstood, reported_refused, refused_writes, unchanged}
 use Rattle.rawk.proofs.running.run.Goals as goal
 
--- the text is refused
-pub returns-in-Err-clause-told : goal.returns-in-Err-clause-told
-returns-in-Err-clause-told g c =
-    subst (λ (r : Report). Tells g.R.Source.may_give g.W.Sink.may_hold c.args.program.now c.args.settings.now c.args.source c.args.steps c.args.sink.now c.args.sink.now r)
-    (sym c.text_refused.ensures) (text_refused c.in-Err.refusal c.in-Err.ensures.complete refl)
+-- nothing runs
+pub returns-in-Err-clause-reported : goal.returns-in-Err-clause-reported
+returns-in-Err-clause-reported g c =
+    reported_refused g.R.Source.may_give g.W.Sink.may_hold c.args.program.now c.args.settings.now c.args.source c.args.steps c.args.sink.now c.in-Err.report (g.met.R.Source.gives_some c.args.source) c.first_output.ensures c.in-Err.ensures.refused
 
--- the first values are refused
-pub returns-then-not-fits-clause-told : goal.returns-then-not-fits-clause-told
-returns-then-not-fits-clause-told g c =
-    let fit : settings_fit c.in-Ok.tree c.args.settings.now ≡ false = sym c.fits.ensures ∙ c.if-not-fits.true in
-    subst (λ (r : Report). Tells g.R.Source.may_give g.W.Sink.may_hold c.args.program.now c.args.settings.now c.args.source c.args.steps c.args.sink.now c.args.sink.now r)
-    (sym c.settings_refused.ensures) (settings_refused c.in-Ok.tree c.in-Ok.ensures.found fit refl)
+pub returns-in-Err-clause-failures : goal.returns-in-Err-clause-failures
+returns-in-Err-clause-failures g c = λ few.
+    unchanged (g.W.Sink.failures c.args.sink.now) (write_failures c.in-Err.report.cause) (refused_writes c.args.program.now c.args.settings.now c.in-Err.report c.in-Err.ensures.refused)
 
 -- memory is refused before the machine stands
-pub returns-in-Err-compile-clause-told : goal.returns-in-Err-compile-clause-told
-returns-in-Err-compile-clause-told g c =
-    let some = g.met.R.Source.gives_some c.args.source in
-    let fit : settings_fit c.in-Ok.tree c.args.settings.now ≡ true = sym c.fits.ensures ∙ c.if-not-fits.false in
-    subst (λ (r : Report). Tells g.R.Source.may_give g.W.Sink.may_hold c.args.program.now c.args.settings.now c.args.source c.args.steps c.args.sink.now c.args.sink.now r)
-    (sym c.stopped.ensures)
-    (told_refused g.R.Source.may_give g.W.Sink.may_hold c.args.program.now c.args.settings.now c.args.source c.args.steps c.args.sink.now c.args.sink.now c.in-Ok.tree some.0 c.in-Ok.ensures.found fit some.1 c.first_output.ensures refl)
+pub returns-in-Err-run_prepared-clause-reported : goal.returns-in-Err-run_prepared-clause-reported
+returns-in-Err-run_prepared-clause-reported g c =
+    reported_unstood g.R.Source.may_give g.W.Sink.may_hold c.args.program.now c.args.settings.now c.args.source c.args.steps c.args.sink.now c.run_prepared.new.sink c.in-Ok.prepared.program c.in-Ok.prepared.code c.stopped.result
+    (g.met.R.Source.gives_some c.args.source) c.first_output.ensures c.in-Ok.ensures.ready c.in-Err-run_prepared.ensures.err c.stopped.ensures
 
-pub returns-clause-told : goal.returns-clause-told
-returns-clause-told g c =
-    let some = g.met.R.Source.gives_some c.args.source in
-    let fit : settings_fit c.in-Ok.tree c.args.settings.now ≡ true = sym c.fits.ensures ∙ c.if-not-fits.false in
-    subst (λ (r : Report). Tells g.R.Source.may_give g.W.Sink.may_hold c.args.program.now c.args.settings.now c.args.source c.args.steps c.args.sink.now c.args.sink.now r)
-    (sym c.stopped-in-Err-new.ensures)
-    (told_refused g.R.Source.may_give g.W.Sink.may_hold c.args.program.now c.args.settings.now c.args.source c.args.steps c.args.sink.now c.args.sink.now c.in-Ok.tree some.0 c.in-Ok.ensures.found fit some.1 c.first_output.ensures refl)
-
--- the machine runs
-pub returns-in-Ok-new-clause-told : goal.returns-in-Ok-new-clause-told
-returns-in-Ok-new-clause-told g c =
-    let m = c.in-Ok-new.machine in
-    let fit : settings_fit c.in-Ok.tree c.args.settings.now ≡ true = sym c.fits.ensures ∙ c.if-not-fits.false in
-    told_run g.R.Source.may_give g.W.Sink.may_hold c.args.program.now c.args.settings.now c.args.source c.args.steps c.args.sink.now c.run_machine.new.sink c.in-Ok.tree m c.run_machine.result
-    c.in-Ok.ensures.found fit c.in-Ok-new.ensures.settings c.in-Ok-new.ensures.sets c.in-Ok-new.ensures.steps c.in-Ok-new.ensures.may
-    (c.run_machine.ensures.runs c.in-Ok.tree (subst (λ x. CodeOf c.in-Ok.tree x) (sym c.in-Ok-new.ensures.code) c.in-Ok-compile.ensures.meaning) (sym c.as_slice.ensures.value))
+-- the program runs
+pub returns-in-Ok-run_prepared-clause-reported : goal.returns-in-Ok-run_prepared-clause-reported
+returns-in-Ok-run_prepared-clause-reported g c =
+    reported_run g.R.Source.may_give g.W.Sink.may_hold c.args.program.now c.args.settings.now c.args.source c.args.steps c.args.sink.now c.run_prepared.new.sink c.in-Ok.prepared.program c.in-Ok.prepared.code c.in-Ok-run_prepared.report
+    c.in-Ok.ensures.ready c.in-Ok-run_prepared.ensures.ran

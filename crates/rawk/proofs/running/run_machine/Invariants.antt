@@ -5,10 +5,11 @@ use Rattle.rawk.proofs.running.run_machine.Given as goal
 
 -- the sink has taken the output of all points before the one at which the machine stands
 abbrev pub invariant-steps : goal.invariant-steps
-invariant-steps g l =
-    SoFar g.R.Source.may_give g.W.Sink.may_hold l.fn.machine l.fn.sink l.machine l.sink
-    × CountsUp (g.W.Sink.failures l.fn.sink) (g.W.Sink.failures l.sink) 0
-    × (l.machine.unset ≡ [])
+invariant-steps g l = record {
+  so : SoFar g.R.Source.may_give g.W.Sink.may_hold l.fn.machine l.fn.sink l.machine l.sink;
+  failures : CountsUp (g.W.Sink.failures l.fn.sink) (g.W.Sink.failures l.sink) 0;
+  alone : l.machine.unset ≡ [];
+}
 
 abbrev pub decreases-steps : goal.decreases-steps
 decreases-steps g l = l.machine.steps - l.machine.point

@@ -5,27 +5,27 @@ use Rattle.rawk_arrays.proofs.cells.count.Goals as goal
 
 pub loop-at-init : goal.loop-at-init
 loop-at-init c = record {
-  walking = walks_to c.args.array c.args.names.now (length c.args.names.now) c.latest-at.result (omega arith) c.latest-at.ensures;
-  counting = counting_begins c.args.array c.args.names.now c.args.cells.now.now c.latest-at.result c.requires.named c.latest-at.ensures;
+  walking = walks_to c.args.array c.args.index.now (length c.args.index.now) c.latest-at.result (omega arith) c.latest-at.ensures;
+  counting = counting_begins c.args.array c.args.index.now c.args.cells.now.now c.latest-at.result c.requires.array_key c.latest-at.ensures;
 }
 
 pub loop-at-smaller : goal.loop-at-smaller
 loop-at-smaller c =
-    let names = c.args.names.now in
-    let last = walk_on c.args.array names c.in-Some.number c.loop-at.at c.earlier-at.result c.in-Some.is c.loop-at.invariant.walking c.earlier-at.ensures in
-    falls c.args.array names c.in-Some.number c.loop-at.at c.earlier-at.result c.in-Some.is last
+    let index = c.args.index.now in
+    let last = walk_on c.args.array index c.in-Some.number c.loop-at.at c.earlier-at.result c.in-Some.is c.loop-at.invariant.walking c.earlier-at.ensures in
+    falls c.args.array index c.in-Some.number c.loop-at.at c.earlier-at.result c.in-Some.is last
 
 pub loop-at-preserved : goal.loop-at-preserved
 loop-at-preserved c =
-    let names = c.args.names.now in
+    let index = c.args.index.now in
     let i = c.in-Some.number in
     let inv = c.loop-at.invariant in
-    let last = walk_on c.args.array names i c.loop-at.at c.earlier-at.result c.in-Some.is inv.walking c.earlier-at.ensures in
-    let within = walk_in c.args.array names i c.loop-at.at c.in-Some.is inv.walking in
+    let last = walk_on c.args.array index i c.loop-at.at c.earlier-at.result c.in-Some.is inv.walking c.earlier-at.ensures in
+    let within = walk_in c.args.array index i c.loop-at.at c.in-Some.is inv.walking in
     record {
-      walking = walks_to c.args.array names i c.earlier-at.result (omega (arith, within)) last;
-      counting = counting_next c.args.array i names c.args.cells.now.now c.loop-at.at c.earlier-at.result c.loop-at.count (c.loop-at.count + c.filled_count-count.result) c.requires.distinct c.in-Some.is inv.walking inv.counting (ap (λ n. c.loop-at.count + n) c.filled_count-count.ensures) last;
+      walking = walks_to c.args.array index i c.earlier-at.result (omega (arith, within)) last;
+      counting = counting_next c.args.array i index c.args.cells.now.now c.loop-at.at c.earlier-at.result c.loop-at.count (c.loop-at.count + c.filled_count-count.result) c.requires.distinct c.in-Some.is inv.walking inv.counting (ap (λ n. c.loop-at.count + n) c.filled_count-count.ensures) last;
     }
 
 pub returns : goal.returns
-returns c = counted_all c.args.array c.args.names.now c.args.cells.now.now c.loop-at.at c.loop-at.count (not_some c.loop-at.at c.in_default.not-Some) c.requires.named c.loop-at.invariant.counting
+returns c = counted_all c.args.array c.args.index.now c.args.cells.now.now c.loop-at.at c.loop-at.count (not_some c.loop-at.at c.in_default.not-Some) c.requires.array_key c.loop-at.invariant.counting

@@ -4,22 +4,22 @@ use Rattle.rawk_arrays.proofs.cells.empty.Goals as goal
 
 pub loop-at-smaller : goal.loop-at-smaller
 loop-at-smaller c =
-    let names = c.args.names.now in
-    let last = walk_on c.args.array names c.in-Some.number c.loop-at.at c.earlier-at.result c.in-Some.is c.loop-at.invariant.walking c.earlier-at.ensures in
-    falls c.args.array names c.in-Some.number c.loop-at.at c.earlier-at.result c.in-Some.is last
+    let index = c.args.index.now in
+    let last = walk_on c.args.array index c.in-Some.number c.loop-at.at c.earlier-at.result c.in-Some.is c.loop-at.invariant.walking c.earlier-at.ensures in
+    falls c.args.array index c.in-Some.number c.loop-at.at c.earlier-at.result c.in-Some.is last
 
 pub loop-at-preserved : goal.loop-at-preserved
 loop-at-preserved c =
-    let names = c.args.names.now in
+    let index = c.args.index.now in
     let i = c.in-Some.number in
     let inv = c.loop-at.invariant in
-    let last = walk_on c.args.array names i c.loop-at.at c.earlier-at.result c.in-Some.is inv.walking c.earlier-at.ensures in
-    let within = walk_in c.args.array names i c.loop-at.at c.in-Some.is inv.walking in
+    let last = walk_on c.args.array index i c.loop-at.at c.earlier-at.result c.in-Some.is inv.walking c.earlier-at.ensures in
+    let within = walk_in c.args.array index i c.loop-at.at c.in-Some.is inv.walking in
     record {
-      walking = walks_to c.args.array names i c.earlier-at.result (omega (arith, within)) last;
-      emptying = emptying_next c.args.array names c.args.cells.now.now c.loop-at.cells.now c.empty_slot.new.cells.now i c.loop-at.at c.earlier-at.result c.in-Some.is inv.walking inv.emptying c.in_ok-empty_slot.ensures.did last;
+      walking = walks_to c.args.array index i c.earlier-at.result (omega (arith, within)) last;
+      emptying = emptying_next c.args.array index c.args.cells.now.now c.loop-at.cells.now c.empty_slot.new.cells.now i c.loop-at.at c.earlier-at.result c.in-Some.is inv.walking inv.emptying c.in_ok-empty_slot.ensures.did last;
       start = c.empty_slot.ensures.start ∙ inv.start;
     }
 
 pub returns-clause-did : goal.returns-clause-did
-returns-clause-did c = emptied c.args.array c.args.names.now c.args.cells.now.now c.loop-at.cells.now c.loop-at.at (not_some c.loop-at.at c.in_default.not-Some) c.requires.named c.loop-at.invariant.emptying
+returns-clause-did c = emptied c.args.array c.args.index.now c.args.cells.now.now c.loop-at.cells.now c.loop-at.at (not_some c.loop-at.at c.in_default.not-Some) c.requires.array_key c.loop-at.invariant.emptying

@@ -1,12 +1,12 @@
 use Rattle.std.proofs.Common.{◌≡◌}
-use Rattle.rawk_names.specs.Found.{left}
+use Rattle.rawk_keys.specs.Found.{left}
 use Rattle.rawk_arrays.specs.Walks.{IsWalking, IsEmptying}
 use Rattle.rawk_arrays.proofs.cells.empty.Given as goal
 
 abbrev pub invariant-loop-at : goal.invariant-loop-at
 invariant-loop-at l = record {
-  walking : IsWalking l.array l.names l.at;
-  emptying : IsEmptying l.array l.names l.fn.cells.now l.cells.now l.at;
+  walking : IsWalking l.array l.index l.at;
+  emptying : IsEmptying l.array l.index l.fn.cells.now l.cells.now l.at;
   start : l.cells.start ≡ l.fn.cells.start;
 }
 

@@ -8,11 +8,11 @@ loop-number-preserved c =
     let lt : c.loop-number.number < length slots = omega (arith, c.loop-number-test.true, c.len-number-end.ensures) in
     record {
       laid = c.pack_one.ensures.laid;
-      so_far = packed_next c.args.live c.args.names.now slots c.loop-number.number c.loop-number.packed_names c.pack_one.new.packed_names c.loop-number.packed.now c.pack_one.new.packed.now c.requires.from lt c.loop-number.invariant.so_far c.in_ok-pack_one.ensures.did;
+      so_far = packed_next c.args.live c.args.index.now slots c.loop-number.number c.loop-number.packed_names c.pack_one.new.packed_names c.loop-number.packed.now c.pack_one.new.packed.now c.requires.from lt c.loop-number.invariant.so_far c.in_ok-pack_one.ensures.did;
     }
 
 pub returns-clause-did : goal.returns-clause-did
 returns-clause-did c = λ b lt.
     let slots = c.args.cells.now.now in
     let all : c.loop-number.number ≡ length slots = omega (arith, c.loop-number-test.false, c.len-number-end.ensures, c.loop-number.auto.number-end) in
-    c.loop-number.invariant.so_far b lt ∙ packed_all b c.args.names.now slots c.loop-number.number all c.requires.from.named
+    c.loop-number.invariant.so_far b lt ∙ packed_all b c.args.index.now slots c.loop-number.number all c.requires.from.array_key

@@ -5,5 +5,5 @@ use Rattle.rawk_arrays.proofs.cells.pack_into.Given as goal
 abbrev pub invariant-loop-number : goal.invariant-loop-number
 invariant-loop-number l = record {
   laid : AreLaid l.packed_names l.packed;
-  so_far : (b : ℕ) → b < l.live → elements_of b l.packed_names l.packed.now ≡ elements_of b (take l.number l.names) (take l.number l.cells.now);
+  so_far : (b : ℕ) → b < l.live → elements_of b l.packed_names l.packed.now ≡ elements_of b (take l.number l.index) (take l.number l.cells.now);
 }

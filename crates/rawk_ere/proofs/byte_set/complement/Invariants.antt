@@ -1,5 +1,5 @@
 use Rattle.std.proofs.Common.{◌<◌}
-use Rattle.rawk_ere_code.specs.ByteSets.{IsIn, IsSetOf}
+use Rattle.rawk_ere_tree.specs.ByteSets.{IsIn, IsSetOf}
 use Rattle.rawk_ere.proofs.byte_set.complement.Given as goal
 
 abbrev pub invariant-loop-byte : goal.invariant-loop-byte

@@ -1,7 +1,7 @@
 use Rattle.std.proofs.Common.{◌≡◌, ◌∙◌, [], sym, subst, rules, Some, false, true}
 use Rattle.rawk_ere.specs.Reading.{run, fresh, is_formed, IsTreeRefused}
-use Rattle.rawk_ere.specs.Reads.{Reads, IsRefused}
-use Rattle.rawk_ere.proofs.ReadsLemmas.{unformed, no_tree, is_read, too_large}
+use Rattle.rawk_ere.specs.PatternOf.{IsPatternOf, IsRefused}
+use Rattle.rawk_ere.proofs.PatternOfLemmas.{unformed, no_tree, is_read, too_large}
 use Rattle.rawk_ere.proofs.read.read.Goals as goal
 
 pub returns-then-not-is_well_formed-clause-refused : goal.returns-then-not-is_well_formed-clause-refused
@@ -28,4 +28,4 @@ pub returns-clause-is : goal.returns-clause-is
 returns-clause-is c =
     let ts = c.in_ok-tokens.tokens.items in
     let r = subst (λ l. run [] fresh l ≡ Some c.in_ok-part.part) c.deref-2.ensures.value c.in_ok-part.ensures.is in
-    subst (λ e. Reads c.args.pattern.now e) (sym c.into_node.ensures.tree) (is_read c.args.pattern.now ts c.in_ok-part.part c.in_ok-tokens.ensures.is r)
+    subst (λ e. IsPatternOf c.args.pattern.now e) (sym c.into_node.ensures.tree) (is_read c.args.pattern.now ts c.in_ok-part.part c.in_ok-tokens.ensures.is r)

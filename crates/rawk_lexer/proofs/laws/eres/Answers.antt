@@ -1,4 +1,4 @@
-use Rattle.rawk_lexer.specs.EreCuts.{shown_is_ere, ere_is_shown}
+use Rattle.rawk_lexer.proofs.EreCuts.{shown_is_ere, ere_is_shown}
 use Rattle.rawk_lexer.proofs.laws.eres.Goals as goal
 
 pub returns : goal.returns

@@ -1,4 +1,4 @@
-use Rattle.rawk_lexer.specs.Cuts.{shown_is_token, token_is_shown}
+use Rattle.rawk_lexer.proofs.Cuts.{shown_is_token, token_is_shown}
 use Rattle.rawk_lexer.proofs.laws.tokens.Goals as goal
 
 pub returns : goal.returns

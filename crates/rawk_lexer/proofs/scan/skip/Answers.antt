@@ -1,7 +1,7 @@
 use Rattle.std.proofs.Common.{◌≡◌, ◌≢◌, sym, ◌∙◌, rules}
 use Rattle.std.proofs.lemmas.List.{take_rest}
 use Rattle.rawk_lexer.specs.Lex.{blank_len}
-use Rattle.rawk_lexer.specs.Gaps.{skip_stops, skip_goes}
+use Rattle.rawk_lexer.proofs.Gaps.{skip_stops, skip_goes}
 use Rattle.rawk_lexer.proofs.scan.skip.Goals as goal
 
 pub returns-then-blank-eq0-clause-rest : goal.returns-then-blank-eq0-clause-rest

@@ -4,7 +4,7 @@ use Rattle.rawk_value.specs.declared.value.Value.{Value}
 use Rattle.rawk_value.specs.declared.value.Value.TheVariants.{Uninitialized}
 use Rattle.rawk_store.specs.declared.registers.Registers.{Registers}
 use Rattle.rawk_store.specs.Layout.{Layout, IsSound}
-use Rattle.rawk_store.specs.State.{first_specials}
+use Rattle.rawk_special.specs.Special.{first_specials}
 use Rattle.rawk_store.specs.Stores.{empty_layout}
 use Rattle.rawk_code.specs.Trace.{FirstValue, settled}
 use Rattle.rawk_machine.specs.Stood.{first_layout}

@@ -1,5 +1,5 @@
 use Rattle.std.proofs.Common.{true, sym, ◌∙◌}
-use Rattle.rawk_match.specs.Laws.{nonempty_later, nonempty_never}
+use Rattle.rawk_search.specs.Laws.{nonempty_later, nonempty_never}
 use Rattle.rawk_record.proofs.matches.match_from.Goals as goal
 
 pub returns-then-from-span : goal.returns-then-from-span

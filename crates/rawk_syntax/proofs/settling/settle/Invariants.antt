@@ -5,5 +5,5 @@ use Rattle.rawk_syntax.proofs.settling.settle.Given as goal
 abbrev pub invariant-loop-item : goal.invariant-loop-item
 invariant-loop-item l = record {
   text : l.sites.text.now ≡ l.fn.text;
-  settled : IsSettledWith l.fn.text (take l.item-index l.items) l.program l.sites.lines.items;
+  settled : IsSettledWith l.fn.text (take l.item-index l.items) l.program l.names l.sites.lines.items;
 }

@@ -7,5 +7,5 @@ loop-e-init c = rw c.new-settled.ensures.items spec.no_exprs
 
 pub loop-e-preserved : goal.loop-e-preserved
 loop-e-preserved c =
-    expr_settles c.args.list.now c.loop-e.e-index c.e-item.result c.loop-e.settled.items c.push.new.self.items c.in_ok-settle_expr.field-0 c.args.names.now.items c.loop-e.names.items c.settle_expr.new.names.items
+    expr_settles c.args.list.now c.loop-e.e-index c.e-item.result c.loop-e.settled.items c.push.new.self.items c.in_ok-settle_expr.field-0 c.args.names.now c.loop-e.names c.settle_expr.new.names
     c.loop-e-test.true c.e-item.is c.in_ok-push.ensures.items c.loop-e.invariant c.in_ok-settle_expr.ensures

@@ -14,8 +14,8 @@ all_if (Err e) es a b some h = tt
 
 pub returns-then-list-eq0 : goal.returns-then-list-eq0
 returns-then-list-eq0 c =
-    record_printed c.args.list.now c.push.new.self.items c.in_ok-number.number c.args.names.now.items c.if-list-eq0.true
+    record_printed c.args.list.now c.push.new.self.items c.in_ok-number.number c.args.names.now c.if-list-eq0.true
     (c.in_ok-push.ensures.items ∙ ap (λ xs. xs ++ tree.Read (tree_place.Field c.in_ok-number.number) ∷ []) c.new-record.ensures.items) c.in_ok-number.ensures.ok
 
 pub returns : goal.returns
-returns c = all_if c.settle_list.result c.args.list.now c.args.names.now.items c.settle_list.new.names.items (omega arith) c.settle_list.ensures
+returns c = all_if c.settle_list.result c.args.list.now c.args.names.now c.settle_list.new.names (omega arith) c.settle_list.ensures

@@ -1,7 +1,7 @@
 use Rattle.std.proofs.Common.{drop, None, Some, Result, Ok, Option, true, arith, ap, sym, ◌∙◌, subst}
 use Rattle.std.proofs.lemmas.List.{length-drop}
 use Rattle.rawk_value.specs.declared.fault.Fault.{Fault}
-use Rattle.rawk_match.specs.Laws.{nonempty_within}
+use Rattle.rawk_search.specs.Laws.{nonempty_within}
 use Rattle.rawk_tape.specs.Records.{Found}
 use Rattle.rawk_tape.specs.Tapes.{Answers, IsWithin, text_at}
 use Rattle.rawk_tape.specs.declared.found.Found.{Found as Place}

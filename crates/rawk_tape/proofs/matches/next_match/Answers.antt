@@ -1,7 +1,7 @@
 use Rattle.std.proofs.Common.{◌≡◌, ◌+◌, length, drop, List, ℕ, None, Some, Ok, arith, ap, sym, refl, ◌∙◌, subst}
 use Rattle.std.proofs.lemmas.List.{length-drop, length-append}
-use Rattle.rawk_match.specs.Matches.{open_match}
-use Rattle.rawk_match.specs.Laws.{IsSkip, open_within}
+use Rattle.rawk_search.specs.Matches.{open_match}
+use Rattle.rawk_search.specs.Laws.{IsSkip, open_within}
 use Rattle.rawk_tape.specs.Tapes.{IsWithin, text_at}
 use Rattle.rawk_tape.specs.declared.found.Found.{Found as Place}
 use Rattle.rawk_tape.proofs.Ahead.{ahead_more, read_behind_unsettled}
@@ -52,10 +52,10 @@ loop-from-preserved g c =
     let is = searched l.bytes c.as_slice.result.now c.rest_of-rest.result.now c.args.start c.args.ere.now c.in_ok-from.from c.in_ok-found.field-0 None c.rest_of-rest.ensures c.as_slice.ensures (assumption c.in_ok-found.ensures) c.in_default.is in
     let skipped : IsSkip (drop c.args.start l.bytes) c.args.ere.now 0 c.in_ok-from.from = skip_on l.bytes c.as_slice.result.now c.rest_of-rest.result.now c.args.start c.args.ere.now l.from c.in_ok-from.from c.rest_of-rest.ensures c.as_slice.ensures l.invariant.skipped (assumption c.in_ok-from.ensures) in
     let longer : length c.read_from.new.self ≡ length l.bytes + length r.chunk = ap length r.grown ∙ length-append l.bytes r.chunk in
-    let ahead = ahead_more g.R.Source.may_give g.R.Source.over g.R.Source.handed (record { source = c.args.source.now; bytes = c.args.bytes.now; consumed = c.args.start }) (record { source = l.source; bytes = l.bytes; consumed = c.args.start }) (record { source = c.read_from.new.source; bytes = c.read_from.new.self; consumed = c.args.start }) i.ahead (i.told ∙ c.in_default-over.is) r refl in
+    let ahead = ahead_more g.R.Source.may_give g.R.Source.over g.R.Source.handed (record { source = c.args.source.now; bytes = c.args.bytes.now; consumed = c.args.start }) (record { source = l.source; bytes = l.bytes; consumed = c.args.start }) (record { source = c.read_from.new.source; bytes = c.read_from.new.self; consumed = c.args.start }) i.ahead (i.reported ∙ c.in_default-over.is) r refl in
     record {
       low = omega (arith, i.low);
-      told = c.in_ok-over.ensures.over;
+      reported = c.in_ok-over.ensures.over;
       ahead = ahead;
       skipped = skip_read l.bytes r.chunk c.read_from.new.self c.args.start c.args.ere.now c.in_ok-from.from i.low r.grown skipped;
       lazy = λ separator read. read_behind_unsettled separator c.args.start c.args.bytes.now l.bytes r.chunk c.read_from.new.self (λ same. same.1) (i.lazy separator read) i.ahead.grown r.grown r.bounded (match_open l.bytes c.args.start c.args.ere.now c.in_ok-from.from skipped is separator read);

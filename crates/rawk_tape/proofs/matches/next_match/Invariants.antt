@@ -1,6 +1,6 @@
 use Rattle.std.proofs.Common.{◌≡◌, ◌⊎◌, ◌≤◌, length, drop, ◌^◌, ◌+◌, ◌-◌, ◌*◌, is_none, if◌then◌else◌}
 use Rattle.rawk_value.specs.Values.{Bytes}
-use Rattle.rawk_match.specs.Laws.{IsSkip}
+use Rattle.rawk_search.specs.Laws.{IsSkip}
 use Rattle.rawk_tape.specs.Tapes.{ReadsAhead, LastRead, IsExpression}
 use Rattle.rawk_tape.proofs.matches.next_match.Given as goal
 
@@ -8,7 +8,7 @@ use Rattle.rawk_tape.proofs.matches.next_match.Given as goal
 abbrev pub invariant-loop-from : goal.invariant-loop-from
 invariant-loop-from g l = record {
   low : l.start ≤ length l.bytes;
-  told : g.R.Source.over l.source ≡ l.over;
+  reported : g.R.Source.over l.source ≡ l.over;
   ahead : ReadsAhead g.R.Source.may_give g.R.Source.over g.R.Source.handed (record { source = l.fn.source; bytes = l.fn.bytes; consumed = l.start }) (record { source = l.source; bytes = l.bytes; consumed = l.start });
   skipped : IsSkip (drop l.start l.bytes) l.ere 0 l.from;
   lazy : (separator : Bytes) → IsExpression separator l.ere → ((l.source ≡ l.fn.source) × (l.bytes ≡ l.fn.bytes)) ⊎ LastRead separator l.start l.fn.bytes l.bytes;

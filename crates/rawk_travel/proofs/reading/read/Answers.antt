@@ -9,7 +9,7 @@ use Rattle.rawk_travel.proofs.reading.read.Goals as goal
 pub returns-in-Err-clause-did : goal.returns-in-Err-clause-did
 returns-in-Err-clause-did g c =
     fault_did g.R.Source.may_give c.next.new.self c.refused.result c.in-Err.fault (moving c.args.store.now) c.args.tape.now.consumed c.in_ok-separator.separator.now c.in-Err.ensures.next c.requires
-    (c.in_ok-separator.ensures ∙ ap text_of c.global_lent.ensures) c.refused.ensures
+    (c.in_ok-separator.ensures ∙ ap text_of c.global_borrowed.ensures) c.refused.ensures
 
 pub returns-in-Err-clause-quiet : goal.returns-in-Err-clause-quiet
 returns-in-Err-clause-quiet g c =
@@ -18,12 +18,12 @@ returns-in-Err-clause-quiet g c =
 pub returns-in-Ok-None-clause-did : goal.returns-in-Ok-None-clause-did
 returns-in-Ok-None-clause-did g c =
     missing_did g.R.Source.may_give c.next.new.self c.in-Ok-None.field-0 (moving c.args.store.now) c.args.tape.now.consumed c.in_ok-separator.separator.now c.in-Ok-None.field-0-is c.in-Ok-None.ensures.next c.requires
-    (c.in_ok-separator.ensures ∙ ap text_of c.global_lent.ensures)
+    (c.in_ok-separator.ensures ∙ ap text_of c.global_borrowed.ensures)
 
 pub returns-clause-did : goal.returns-clause-did
 returns-clause-did g c =
     found_did g.R.Source.may_give c.next.new.self c.take_found.new.tape c.take_found.result c.in-Ok-Some.field-0 c.in-Ok-Some.found (moving c.args.store.now) (moving c.take_found.new.store) c.args.tape.now.consumed c.in_ok-separator.separator.now
-    c.in-Ok-Some.field-0-is c.in-Ok-Some.ensures.next c.take_found.ensures.tape c.requires (c.in_ok-separator.ensures ∙ ap text_of c.global_lent.ensures) c.take_found.ensures.did
+    c.in-Ok-Some.field-0-is c.in-Ok-Some.ensures.next c.take_found.ensures.tape c.requires (c.in_ok-separator.ensures ∙ ap text_of c.global_borrowed.ensures) c.take_found.ensures.did
 
 pub returns-clause-quiet : goal.returns-clause-quiet
 returns-clause-quiet g c =

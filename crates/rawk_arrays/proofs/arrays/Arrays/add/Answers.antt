@@ -8,5 +8,5 @@ pub returns-clause-did : goal.returns-clause-did
 returns-clause-did c =
     let s = c.self.inside in
     let next : c.in-Some.live ≡ s.live + 1 = omega (arith, c.in-Some.ensures) in
-    ap (λ n. arrays_of (record { names = s.names; slots = c.empty.new.cells.now; live = n })) next
-    ∙ (added_arrays s.names s.cells.now c.empty.new.cells.now s.live c.in_ok-walked.ensures.did ∙ ap (λ w. arrays_of w.now ++ no_elements ∷ []) c.self.view_is)
+    ap (λ n. arrays_of (record { index = s.index; slots = c.empty.new.cells.now; live = n })) next
+    ∙ (added_arrays s.index s.cells.now c.empty.new.cells.now s.live c.in_ok-walked.ensures.did ∙ ap (λ w. arrays_of w.now ++ no_elements ∷ []) c.self.view_is)

@@ -10,12 +10,12 @@ use Rattle.rawk_arrays.proofs.arrays.Arrays.element.Goals as goal
 pub returns-then-array-self : goal.returns-then-array-self
 returns-then-array-self c =
     let s = c.self.inside in
-    let l : Laid = record { names = s.names; slots = s.cells.now; live = s.live } in
+    let l : Laid = record { index = s.index; slots = s.cells.now; live = s.live } in
     c.element.ensures ∙ (ap (λ (e : Elements). get e c.args.key.now) (sym (array_there l c.args.array c.if-array-self.true)) ∙ ap (λ w. element_at c.args.array c.args.key.now (arrays_of w.now)) c.self.view_is)
 
 pub returns : goal.returns
 returns c =
     let s = c.self.inside in
-    let l : Laid = record { names = s.names; slots = s.cells.now; live = s.live } in
+    let l : Laid = record { index = s.index; slots = s.cells.now; live = s.live } in
     sym (get-empty (slice_cmp nat_cmp) c.args.key.now)
     ∙ (ap (λ (e : Elements). get e c.args.key.now) (sym (array_past l c.args.array c.if-array-self.false)) ∙ ap (λ w. element_at c.args.array c.args.key.now (arrays_of w.now)) c.self.view_is)

@@ -6,6 +6,6 @@ use Rattle.rawk_arrays.proofs.arrays.Arrays.pack.Goals as goal
 pub returns-then-self-len-clause-now : goal.returns-then-self-len-clause-now
 returns-then-self-len-clause-now c =
     let s = c.self.inside in
-    let l : Laid = record { names = s.names; slots = s.cells.now; live = s.live } in
-    let m : Laid = record { names = c.pack.new.names; slots = c.pack.new.cells.now; live = s.live } in
+    let l : Laid = record { index = s.index; slots = s.cells.now; live = s.live } in
+    let m : Laid = record { index = c.pack.new.index; slots = c.pack.new.cells.now; live = s.live } in
     same_arrays l m refl (λ b lt. c.pack.ensures.same b lt) ∙ ap (λ w. arrays_of w.now) c.self.view_is

@@ -6,19 +6,19 @@ use Rattle.rawk_arrays.proofs.arrays.Arrays.place.Goals as goal
 pub returns-then-array-self-clause-place : goal.returns-then-array-self-clause-place
 returns-then-array-self-clause-place c =
     let s = c.self.inside in
-    let l : Laid = record { names = s.names; slots = s.cells.now; live = s.live } in
+    let l : Laid = record { index = s.index; slots = s.cells.now; live = s.live } in
     omega (arith, length_arrays l, ap (λ w. length (arrays_of w.now)) c.self.view_is, c.if-array-self.true)
 
 pub returns-in_err-place-clause-same : goal.returns-in_err-place-clause-same
 returns-in_err-place-clause-same c =
     let s = c.self.inside in
-    let l : Laid = record { names = s.names; slots = s.cells.now; live = s.live } in
-    let m : Laid = record { names = c.slot_for.new.names; slots = c.slot_for.new.cells.now; live = s.live } in
-    spread_arrays l m refl c.self.invariant.named c.slot_for.ensures.more c.slot_for.ensures.now ∙ ap (λ w. arrays_of w.now) c.self.view_is
+    let l : Laid = record { index = s.index; slots = s.cells.now; live = s.live } in
+    let m : Laid = record { index = c.slot_for.new.index; slots = c.slot_for.new.cells.now; live = s.live } in
+    spread_arrays l m refl c.self.invariant.array_key c.slot_for.ensures.more c.slot_for.ensures.now ∙ ap (λ w. arrays_of w.now) c.self.view_is
 
 pub returns-clause-same : goal.returns-clause-same
 returns-clause-same c =
     let s = c.self.inside in
-    let l : Laid = record { names = s.names; slots = s.cells.now; live = s.live } in
-    let m : Laid = record { names = c.slot_for.new.names; slots = c.slot_for.new.cells.now; live = s.live } in
-    spread_arrays l m refl c.self.invariant.named c.slot_for.ensures.more c.slot_for.ensures.now ∙ ap (λ w. arrays_of w.now) c.self.view_is
+    let l : Laid = record { index = s.index; slots = s.cells.now; live = s.live } in
+    let m : Laid = record { index = c.slot_for.new.index; slots = c.slot_for.new.cells.now; live = s.live } in
+    spread_arrays l m refl c.self.invariant.array_key c.slot_for.ensures.more c.slot_for.ensures.now ∙ ap (λ w. arrays_of w.now) c.self.view_is

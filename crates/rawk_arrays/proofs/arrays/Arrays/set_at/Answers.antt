@@ -7,8 +7,8 @@ use Rattle.rawk_arrays.proofs.arrays.Arrays.set_at.Goals as goal
 pub returns-clause-did : goal.returns-clause-did
 returns-clause-did c = λ a k h.
     let s = c.self.inside in
-    let l : Laid = record { names = s.names; slots = s.cells.now; live = s.live } in
-    let m : Laid = record { names = s.names; slots = c.set.new.self.now; live = s.live } in
+    let l : Laid = record { index = s.index; slots = s.cells.now; live = s.live } in
+    let m : Laid = record { index = s.index; slots = c.set.new.self.now; live = s.live } in
     let here : IsPlaceOf a k c.args.place l = rw (ap (λ w. w.now) c.self.view_is) h in
-    let laid : IsLaid l.names l.slots = record { distinct = c.self.invariant.distinct; named = c.self.invariant.named } in
+    let laid : IsLaid l.index l.slots = record { distinct = c.self.invariant.distinct; array_key = c.self.invariant.array_key } in
     place_set a k c.args.place (Some c.args.value) l m here laid refl refl c.in_ok-set.ensures.did ∙ ap (λ w. with_element a k c.args.value (arrays_of w.now)) c.self.view_is

@@ -7,7 +7,7 @@ use Rattle.rawk_arrays.proofs.arrays.Arrays.value_at.Goals as goal
 pub returns : goal.returns
 returns c = λ a k h.
     let s = c.self.inside in
-    let l : Laid = record { names = s.names; slots = s.cells.now; live = s.live } in
+    let l : Laid = record { index = s.index; slots = s.cells.now; live = s.live } in
     let here : IsPlaceOf a k c.args.place l = rw (ap (λ w. w.now) c.self.view_is) h in
-    let laid : IsLaid l.names l.slots = record { distinct = c.self.invariant.distinct; named = c.self.invariant.named } in
+    let laid : IsLaid l.index l.slots = record { distinct = c.self.invariant.distinct; array_key = c.self.invariant.array_key } in
     c.filled.ensures ∙ (sym (place_value a k c.args.place l here laid) ∙ ap (λ w. element_at a k (arrays_of w.now)) c.self.view_is)

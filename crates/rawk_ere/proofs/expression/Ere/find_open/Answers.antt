@@ -1,5 +1,5 @@
 use Rattle.std.proofs.Common.{◌≡◌, ℕ, Some, IfOk, subst}
-use Rattle.rawk_ere_code.specs.Open.{IsSettled}
+use Rattle.rawk_ere_tree.specs.Open.{IsSettled}
 use Rattle.rawk_ere.proofs.expression.Ere.find_open.Goals as goal
 
 pub returns-clause-settled : goal.returns-clause-settled

@@ -14,11 +14,11 @@ returns-clause-may g c = λ gone input.
     )
 
 pub returns-clause-stands : goal.returns-clause-stands
-returns-clause-stands g c = λ input gone told.
+returns-clause-stands g c = λ input gone handed.
     let old = c.args.self.now in
     let n = c.drop_front-size.result in
     let is = c.pack.ensures ∙ c.drop_front-size.ensures.dropped in
     let later = gone ++ take n old.tape.bytes in (
-      λ m. at_kept old n input gone told c.drop_front-size.ensures.within c.drop_front-size.ensures.consumed (subst (λ (x : Standing g.row.R.Denot). IsAt x input later told) is m),
-      λ m. subst (λ (x : Standing g.row.R.Denot). IsAt x input later told) (sym is) (at_dropped old n input gone told c.drop_front-size.ensures.within c.drop_front-size.ensures.consumed m),
+      λ m. at_kept old n input gone handed c.drop_front-size.ensures.within c.drop_front-size.ensures.consumed (subst (λ (x : Standing g.row.R.Denot). IsAt x input later handed) is m),
+      λ m. subst (λ (x : Standing g.row.R.Denot). IsAt x input later handed) (sym is) (at_dropped old n input gone handed c.drop_front-size.ensures.within c.drop_front-size.ensures.consumed m),
     )

@@ -1,6 +1,6 @@
 use Rattle.std.proofs.Common.{◌≡◌, ℕ, ◌-◌, ◌∙◌, [], ap, refl, arith, length, drop, reverse, Some}
 use Rattle.rawk_value.specs.Values.{Bytes}
-use Rattle.rawk_tape.specs.Tapes.{Held}
+use Rattle.rawk_tape.specs.Tapes.{TapeState}
 use Rattle.rawk_store.specs.Layout.{Layout}
 use Rattle.rawk_store.specs.Stores.{now_of}
 use Rattle.rawk_machine.specs.Standing.{Standing, dropped}
@@ -38,10 +38,10 @@ returns-clause-dropped g c =
     let n = c.forget-size.result in
     let tape = c.forget-size.new.self in
     let none = no_groups l i.sets.items (reverse i.here.items) (ap (λ (m : Standing g.row.R.Denot). m.unset) c.self.view_is ∙ c.requires) in
-    let standing = λ (t : Held g.row.R.Denot) (x : Layout). standing_of i.code i.settings i.steps i.sets.items i.point t x i.executed (reverse i.here.items) [] (Some 0) i.last in
+    let standing = λ (t : TapeState g.row.R.Denot) (x : Layout). standing_of i.code i.settings i.steps i.sets.items i.point t x i.executed (reverse i.here.items) [] (Some 0) i.last in
     let less : tape.consumed ≡ i.tape.consumed - n = omega (arith, c.forget-size.ensures.consumed) in
     let same : c.consumed-consumed.result - n ≡ i.store.registers.now.consumed - n = ap (λ k. k - n) (c.consumed-consumed.ensures.value ∙ v.consumed) in
-    let new : Held g.row.R.Denot = record { source = i.tape.source; bytes = drop n i.tape.bytes; consumed = i.tape.consumed - n } in
+    let new : TapeState g.row.R.Denot = record { source = i.tape.source; bytes = drop n i.tape.bytes; consumed = i.tape.consumed - n } in
     let at = λ (k : ℕ). record l { registers = record l.registers { consumed = k } } in
     ap (λ (s : g.row.R.Denot). standing (record { source = s; bytes = tape.bytes; consumed = tape.consumed }) (at (c.consumed-consumed.result - n))) c.forget-size.ensures.source
     ∙ ap (λ (b : Bytes). standing (record { source = i.tape.source; bytes = b; consumed = tape.consumed }) (at (c.consumed-consumed.result - n))) c.forget-size.ensures.bytes

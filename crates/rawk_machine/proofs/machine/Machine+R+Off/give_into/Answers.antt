@@ -43,7 +43,7 @@ returns-clause-rest g c =
     ∙ ap change c.self.view_is
 
 pub returns-clause-stands : goal.returns-clause-stands
-returns-clause-stands g c = λ input gone told at.
+returns-clause-stands g c = λ input gone handed at.
     let i = c.self.inside in
     let l = now_of i.store in
     let none = no_groups l i.sets.items (reverse i.here.items) (ap (λ (m : Standing g.row.R.Denot). m.unset) c.self.view_is ∙ c.requires) in
@@ -52,5 +52,5 @@ returns-clause-stands g c = λ input gone told at.
     ∙ standing_as i.code i.settings i.steps i.sets.items i.point i.tape l i.executed (reverse i.here.items) (Some 0) i.last change i.tape (record l { output = [] }) none refl
     ∙ ap change c.self.view_is in
     let bytes : c.give.new.buffer.items ≡ c.args.self.now.state.output = c.give.ensures.given ∙ ap (λ (m : Standing g.row.R.Denot). m.state.output) c.self.view_is in
-    subst (λ (x : Bytes). IsAt (standing_of i.code i.settings i.steps i.sets.items i.point i.tape (record l { output = c.give.new.self.now }) i.executed (reverse i.here.items) [] (Some 0) i.last) input gone (told ++ x)) (sym bytes)
-    (subst (λ (m : Standing g.row.R.Denot). IsAt m input gone (told ++ c.args.self.now.state.output)) (sym same) (at_given c.args.self.now input gone told at))
+    subst (λ (x : Bytes). IsAt (standing_of i.code i.settings i.steps i.sets.items i.point i.tape (record l { output = c.give.new.self.now }) i.executed (reverse i.here.items) [] (Some 0) i.last) input gone (handed ++ x)) (sym bytes)
+    (subst (λ (m : Standing g.row.R.Denot). IsAt m input gone (handed ++ c.args.self.now.state.output)) (sym same) (at_given c.args.self.now input gone handed at))

@@ -5,8 +5,8 @@ use Rattle.rawk_store.specs.declared.store.Group.{Group}
 use Rattle.rawk_store.specs.declared.keeper.Kept.{Kept}
 use Rattle.rawk_store.specs.declared.registers.Registers.{Registers}
 use Rattle.rawk_store.specs.Stores.{now_of}
-use Rattle.rawk_machine.specs.declared.last.Last.{Last}
-use Rattle.rawk_machine.specs.declared.last.Last.TheVariants.{On}
+use Rattle.rawk_machine.specs.declared.last_move.LastMove.{LastMove}
+use Rattle.rawk_machine.specs.declared.last_move.LastMove.TheVariants.{On}
 use Rattle.rawk_travel.specs.Moving.{ending_of}
 use Rattle.std.specs.Option.{option_map}
 use Rattle.rawk_machine.specs.Standing.{Standing, Moment, Past, IsAt, StandsAt, MovesOn, ground_of, moment_of}
@@ -30,14 +30,14 @@ pub returns-in-Some-clause-still : goal.returns-in-Some-clause-still
 returns-in-Some-clause-still g c = λ gone. come_some g.R.Source.may_give gone g.met.R.Source.gives_some
 
 pub returns-in_ok-journaled-in-None-clause-stands : goal.returns-in_ok-journaled-in-None-clause-stands
-returns-in_ok-journaled-in-None-clause-stands g c = λ input gone told may at.
+returns-in_ok-journaled-in-None-clause-stands g c = λ input gone handed may at.
     let i = c.self.inside in
     let v = c.self.invariant in
     let l = now_of i.store in
     let sets = i.sets.items in
     let clear = none_at (i.point + 1) sets (ends_below i.point (length (reverse i.here.items)) sets (ends_with l i.point (length i.tape.bytes) sets (reverse i.here.items) (g.K.Keeper.kept i.keeper) v.chain)) in
-    at_step g.R.Source.may_give i.code i.settings i.steps sets i.point c.journaled.new.tape l (now_of c.journaled.new.store) input gone told c.in-None.is (v.below c.in-None.is).0 clear
-    c.in_ok-journaled-in-None.ensures.did may.kept may.whole may.may (subst (λ (m : Standing g.row.R.Denot). IsAt m input gone told) (sym c.self.view_is) at)
+    at_step g.R.Source.may_give i.code i.settings i.steps sets i.point c.journaled.new.tape l (now_of c.journaled.new.store) input gone handed c.in-None.is (v.below c.in-None.is).0 clear
+    c.in_ok-journaled-in-None.ensures.did may.kept may.whole may.may (subst (λ (m : Standing g.row.R.Denot). IsAt m input gone handed) (sym c.self.view_is) at)
 
 pub returns-in_ok-journaled-in-None-clause-moves : goal.returns-in_ok-journaled-in-None-clause-moves
 returns-in_ok-journaled-in-None-clause-moves g c = λ none.
@@ -50,10 +50,10 @@ returns-in_ok-journaled-in-None-clause-moves g c = λ none.
     let m = moved l e.kept.0 n i.point (length i.tape.bytes) (length c.journaled.new.tape.bytes) i.sets.items i.here.items (g.K.Keeper.kept i.keeper) (g.K.Keeper.kept c.journaled.new.keeper) (g.K.Keeper.limit i.keeper)
     v.sound e.kept.1 placed c.journaled.ensures.longer e.kept.2 v.chain in
     let old : Standing g.row.R.Denot = standing_of i.code i.settings i.steps i.sets.items i.point i.tape l i.executed (reverse i.here.items) (g.K.Keeper.kept i.keeper) (g.K.Keeper.limit i.keeper) i.last in
-    let new = λ (gs : List Group) (la : Last). standing_of i.code i.settings i.steps i.sets.items (i.point + 1) c.journaled.new.tape n c.journaled.new.executed (reverse gs) (g.K.Keeper.kept c.journaled.new.keeper) (g.K.Keeper.limit c.journaled.new.keeper) la in
+    let new = λ (gs : List Group) (la : LastMove). standing_of i.code i.settings i.steps i.sets.items (i.point + 1) c.journaled.new.tape n c.journaled.new.executed (reverse gs) (g.K.Keeper.kept c.journaled.new.keeper) (g.K.Keeper.limit c.journaled.new.keeper) la in
     let on : MovesOn old (new [] On) = record { point = refl; unset = refl; saved = m.saved; history = m.front; kept = m.count; before = λ any. m.before any } in
     subst (λ (x : Standing g.row.R.Denot). MovesOn x (new c.journaled.new.here.items c.turn_on.new.self)) c.self.view_is
-    (subst (λ (la : Last). MovesOn old (new c.journaled.new.here.items la)) (sym c.turn_on.ensures) (subst (λ (gs : List Group). MovesOn old (new gs On)) (sym e.here) on))
+    (subst (λ (la : LastMove). MovesOn old (new c.journaled.new.here.items la)) (sym c.turn_on.ensures) (subst (λ (gs : List Group). MovesOn old (new gs On)) (sym e.here) on))
 
 pub returns-in_ok-journaled-in-None-clause-stood : goal.returns-in_ok-journaled-in-None-clause-stood
 returns-in_ok-journaled-in-None-clause-stood g c = λ input may stood.
@@ -176,7 +176,7 @@ returns-in_err-journaled-in-None-clause-err g c =
     })
 
 pub returns-in_err-journaled-in-None-clause-stands : goal.returns-in_err-journaled-in-None-clause-stands
-returns-in_err-journaled-in-None-clause-stands g c = λ input gone told may at.
+returns-in_err-journaled-in-None-clause-stands g c = λ input gone handed may at.
     let i = c.self.inside in
     let same = moment-grown (now_of i.store) (now_of c.journaled.new.store) c.in_err-journaled-in-None.ensures.grown c.self.invariant.sound in
-    subst (λ (m : Moment). StandsAt (record { code = i.code; settings = i.settings; steps = i.steps; input = input }) i.sets.items i.point m gone told) (sym same) (subst (λ (m : Standing g.row.R.Denot). IsAt m input gone told) (sym c.self.view_is) at)
+    subst (λ (m : Moment). StandsAt (record { code = i.code; settings = i.settings; steps = i.steps; input = input }) i.sets.items i.point m gone handed) (sym same) (subst (λ (m : Standing g.row.R.Denot). IsAt m input gone handed) (sym c.self.view_is) at)

@@ -4,7 +4,7 @@ use Rattle.rawk_store.specs.declared.store.Group.{Group}
 use Rattle.rawk_store.specs.Back.{back}
 use Rattle.rawk_store.specs.BackLaws.{length-back}
 use Rattle.rawk_store.specs.Stores.{now_of}
-use Rattle.rawk_machine.specs.declared.last.Last.{Last}
+use Rattle.rawk_machine.specs.declared.last_move.LastMove.{LastMove}
 use Rattle.rawk_machine.specs.Standing.{Standing, Seen}
 use Rattle.rawk_machine.specs.Kept.{pasts, globals_forth, before_of}
 use Rattle.rawk_machine.proofs.Befores.{length_before}
@@ -25,7 +25,7 @@ returns-in-Back g c = λ s is.
     let item = c.in-Back.item in
     let mid = back l.globals item.step.globals.entries.items in
     let inside : c.args.number < length l.globals = omega (arith, c.if-len-number.false, c.len.ensures) in
-    let seen = same_Some _ _ (sym (ap (λ (la : Last). before_of la l.globals l.current (pasts l i.sets.items i.point (reverse i.here.items) (g.K.Keeper.kept i.keeper))) c.in-Back.is) ∙ ap (λ (m : Standing g.row.R.Denot). m.before) c.self.view_is ∙ is) in
+    let seen = same_Some _ _ (sym (ap (λ (la : LastMove). before_of la l.globals l.current (pasts l i.sets.items i.point (reverse i.here.items) (g.K.Keeper.kept i.keeper))) c.in-Back.is) ∙ ap (λ (m : Standing g.row.R.Denot). m.before) c.self.view_is ∙ is) in
     let at = c.led_to-in-Back.ensures l.globals inside (sym c.value-now.ensures) in
     let led = c.led_through.ensures mid (omega (arith, inside, length-back l.globals item.step.globals.entries.items)) at in
     sym led ∙ ap (λ (gs : List Group). slice_get (globals_forth mid gs) c.args.number) c.deref.ensures.value ∙ ap (λ (x : Seen). slice_get x.globals c.args.number) seen

@@ -1,5 +1,5 @@
 use Rattle.std.proofs.Common.{List, [], reverse, ap, sym, subst}
-use Rattle.rawk_tape.specs.Tapes.{Held}
+use Rattle.rawk_tape.specs.Tapes.{TapeState}
 use Rattle.rawk_store.specs.declared.store.Group.{Group}
 use Rattle.rawk_store.specs.declared.keeper.Kept.{Kept}
 use Rattle.rawk_code.specs.Actions.{SetAt}
@@ -14,8 +14,8 @@ use Rattle.rawk_machine.proofs.machine.Machine.new.Goals as goal
 
 pub returns-clause-may : goal.returns-clause-may
 returns-clause-may g c = λ input may.
-    subst (λ (s : g.row.R.Denot). g.R.Source.may_give s input) (ap (λ (t : Held g.row.R.Denot). t.source) c.new-tape.ensures)
-    (come_first g.R.Source.may_give c.new-tape.result c.step.new.tape input may.kept (ap (λ (t : Held g.row.R.Denot). t.bytes) c.new-tape.ensures) c.step.ensures.may may.may may.whole)
+    subst (λ (s : g.row.R.Denot). g.R.Source.may_give s input) (ap (λ (t : TapeState g.row.R.Denot). t.source) c.new-tape.ensures)
+    (come_first g.R.Source.may_give c.new-tape.result c.step.new.tape input may.kept (ap (λ (t : TapeState g.row.R.Denot). t.bytes) c.new-tape.ensures) c.step.ensures.may may.may may.whole)
 
 pub returns-clause-still : goal.returns-clause-still
 returns-clause-still g c = λ gone. come_some g.R.Source.may_give gone g.met.R.Source.gives_some

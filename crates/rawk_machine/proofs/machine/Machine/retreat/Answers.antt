@@ -1,11 +1,11 @@
 use Rattle.std.proofs.Common.{◌≡◌, ℕ, ◌-◌, List, ◌∷◌, length, reverse, sym, ap, ◌∙◌, subst, arith, Option, None}
-use Rattle.rawk_tape.specs.Tapes.{Held}
+use Rattle.rawk_tape.specs.Tapes.{TapeState}
 use Rattle.rawk_store.specs.declared.store.Group.{Group}
 use Rattle.rawk_store.specs.declared.keeper.Kept.{Kept}
 use Rattle.rawk_store.specs.Layout.{Layout}
 use Rattle.rawk_store.specs.Stores.{now_of}
 use Rattle.rawk_code.specs.Actions.{SetAt}
-use Rattle.rawk_machine.specs.declared.last.Last.TheVariants.{Back}
+use Rattle.rawk_machine.specs.declared.last_move.LastMove.TheVariants.{Back}
 use Rattle.rawk_machine.specs.Standing.{Standing, Stood, gone_back}
 use Rattle.rawk_machine.specs.Kept.{below, back_in, newest_first, pasts, globals_forth, record_forth, Chain, Few}
 use Rattle.rawk_machine.specs.Stood.{standing_of}
@@ -50,14 +50,14 @@ invariant_of-self-2 g c =
     let is = c.go_back.ensures.now in
     let none : c.go_back.new.store.registers.now.ending ≡ None = ap (λ (x : Layout). x.registers.ending) is ∙ h.4.goes in
     let at = ap (λ (x : Layout). x.registers.here) is in
-    let bytes : size ≡ length c.consume.new.self.bytes = sym (ap (λ (t : Held g.row.R.Denot). length t.bytes) c.consume.ensures.after) in
+    let bytes : size ≡ length c.consume.new.self.bytes = sym (ap (λ (t : TapeState g.row.R.Denot). length t.bytes) c.consume.ensures.after) in
     let chain : Chain (now_of c.go_back.new.store) (i.point - 1) size (below i.point i.sets.items) (newest_first item) items = subst (λ (x : Layout). Chain x (i.point - 1) size (below i.point i.sets.items) (newest_first item) items) (sym is) h.5 in
     let chain2 : Chain (now_of c.go_back.new.store) (i.point - 1) size c.keep_below.new.sets.items (newest_first item) items = subst (λ (xs : List SetAt). Chain (now_of c.go_back.new.store) (i.point - 1) size xs (newest_first item) items) (sym c.keep_below.ensures) chain in
     let chain3 : Chain (now_of c.go_back.new.store) (i.point - 1) size c.keep_below.new.sets.items (reverse c.go_back.new.here.items) items = subst (λ (gs : List Group). Chain (now_of c.go_back.new.store) (i.point - 1) size c.keep_below.new.sets.items (reverse gs) items) (sym c.go_back.ensures.here) chain2 in
     record {
       rest = c.go_back.ensures.rest;
       sound = c.go_back.ensures.sound;
-      consumed = ap (λ (t : Held g.row.R.Denot). t.consumed) c.consume.ensures.after;
+      consumed = ap (λ (t : TapeState g.row.R.Denot). t.consumed) c.consume.ensures.after;
       below = λ e. (at ∙ h.4.here, omega (arith, h.2, v.within));
       within = omega (arith, v.within);
       quiet = subst ends_quietly (sym none) tt;
@@ -81,10 +81,10 @@ returns-clause-back g c =
     let m = back_in l here item in
     let n = now_of c.go_back.new.store in
     let is = c.go_back.ensures.now in
-    let standing = λ (sets : List SetAt) (t : Held g.row.R.Denot) (x : Layout) (gs : List Group) (top : Option ℕ). standing_of i.code i.settings i.steps sets (i.point - 1) t x i.executed (reverse gs) items top (Back newer) in
+    let standing = λ (sets : List SetAt) (t : TapeState g.row.R.Denot) (x : Layout) (gs : List Group) (top : Option ℕ). standing_of i.code i.settings i.steps sets (i.point - 1) t x i.executed (reverse gs) items top (Back newer) in
     let old = λ (ks : List Kept). gone_back (pasts l i.sets.items i.point here ks) (standing_of i.code i.settings i.steps i.sets.items i.point i.tape l i.executed here ks limit i.last) in
     ap (λ (xs : List SetAt). standing xs c.consume.new.self n c.go_back.new.here.items (g.K.Keeper.limit c.take.new.self)) c.keep_below.ensures
-    ∙ ap (λ (t : Held g.row.R.Denot). standing (below i.point i.sets.items) t n c.go_back.new.here.items (g.K.Keeper.limit c.take.new.self)) c.consume.ensures.after
+    ∙ ap (λ (t : TapeState g.row.R.Denot). standing (below i.point i.sets.items) t n c.go_back.new.here.items (g.K.Keeper.limit c.take.new.self)) c.consume.ensures.after
     ∙ ap (λ (x : Layout). standing (below i.point i.sets.items) (record i.tape { consumed = x.registers.consumed }) x c.go_back.new.here.items (g.K.Keeper.limit c.take.new.self)) is
     ∙ ap (λ (gs : List Group). standing (below i.point i.sets.items) (record i.tape { consumed = m.registers.consumed }) m gs (g.K.Keeper.limit c.take.new.self)) c.go_back.ensures.here
     ∙ ap (λ (top : Option ℕ). standing (below i.point i.sets.items) (record i.tape { consumed = m.registers.consumed }) m item.sets.items top) c.in-Some.ensures.limit

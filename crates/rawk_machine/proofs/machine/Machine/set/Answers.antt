@@ -10,7 +10,7 @@ use Rattle.rawk_store.specs.Saving.{saved_in}
 use Rattle.rawk_store.specs.GroupBack.{put_back}
 use Rattle.rawk_store.specs.Stores.{now_of}
 use Rattle.rawk_code.specs.Actions.{SetAt}
-use Rattle.rawk_machine.specs.declared.last.Last.TheVariants.{Nothing}
+use Rattle.rawk_machine.specs.declared.last_move.LastMove.TheVariants.{Nothing}
 use Rattle.rawk_machine.specs.Standing.{Standing, Stood, set_made}
 use Rattle.rawk_machine.specs.Kept.{IsPlaced, Chain}
 use Rattle.rawk_machine.specs.Stood.{standing_of, IsBelow}

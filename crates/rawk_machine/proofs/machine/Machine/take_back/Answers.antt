@@ -1,11 +1,11 @@
 use Rattle.std.proofs.Common.{◌≡◌, ℕ, ◌-◌, List, [], ◌∷◌, length, take, reverse, sym, ap, ◌∙◌, subst, arith, None}
 use Rattle.std.proofs.lemmas.List.{reverse-append}
-use Rattle.rawk_tape.specs.Tapes.{Held}
+use Rattle.rawk_tape.specs.Tapes.{TapeState}
 use Rattle.rawk_store.specs.declared.store.Group.{Group}
 use Rattle.rawk_store.specs.Layout.{Layout}
 use Rattle.rawk_store.specs.Stores.{now_of}
 use Rattle.rawk_code.specs.Actions.{SetAt}
-use Rattle.rawk_machine.specs.declared.last.Last.TheVariants.{Nothing}
+use Rattle.rawk_machine.specs.declared.last_move.LastMove.TheVariants.{Nothing}
 use Rattle.rawk_machine.specs.Standing.{Standing, Stood, taken_back}
 use Rattle.rawk_machine.specs.Kept.{but_last, unsets, Chain}
 use Rattle.rawk_machine.specs.Stood.{standing_of}
@@ -53,13 +53,13 @@ invariant_of-self-2 g c =
     let none : c.undo.new.self.registers.now.ending ≡ None = ap (λ (m : Layout). m.registers.ending) is ∙ fits.1.goes in
     let at = ap (λ (m : Layout). m.registers.here) is in
     let under = v.room x rest last in
-    let bytes : size ≡ length c.consume.new.self.bytes = sym (ap (λ (t : Held g.row.R.Denot). length t.bytes) c.consume.ensures.after) in
+    let bytes : size ≡ length c.consume.new.self.bytes = sym (ap (λ (t : TapeState g.row.R.Denot). length t.bytes) c.consume.ensures.after) in
     let chain : Chain (now_of c.undo.new.self) i.point size (but_last i.sets.items) rest kept = subst (λ (m : Layout). Chain m i.point size (but_last i.sets.items) rest kept) (sym is) (chain_unset l i.point size i.sets.items x rest kept whole) in
     let chain2 : Chain (now_of c.undo.new.self) i.point size c.pop-last.new.self.items rest kept = subst (λ (xs : List SetAt). Chain (now_of c.undo.new.self) i.point size xs rest kept) (sym (c.pop-last.ensures.rest ∙ ap (λ (k : ℕ). take (k - 1) i.sets.items) i.sets.ok.0)) chain in
     record {
       rest = c.undo.ensures.rest;
       sound = c.undo.ensures.sound;
-      consumed = ap (λ (t : Held g.row.R.Denot). t.consumed) c.consume.ensures.after;
+      consumed = ap (λ (t : TapeState g.row.R.Denot). t.consumed) c.consume.ensures.after;
       below = λ e. (at ∙ fits.1.here, under);
       within = v.within;
       quiet = subst ends_quietly (sym none) tt;
@@ -83,10 +83,10 @@ returns-clause-back g c =
     let last : reverse i.here.items ≡ x ∷ rest = ap (λ (gs : List Group). reverse gs) c.in-Some.ensures.items ∙ reverse-append c.pop.new.self.items (x ∷ []) in
     let whole = subst (λ (gs : List Group). Chain l i.point size i.sets.items gs kept) last v.chain in
     let is = c.undo.ensures.now in
-    let standing = λ (sets : List SetAt) (t : Held g.row.R.Denot) (m : Layout). standing_of i.code i.settings i.steps sets i.point t m i.executed rest kept limit Nothing in
+    let standing = λ (sets : List SetAt) (t : TapeState g.row.R.Denot) (m : Layout). standing_of i.code i.settings i.steps sets i.point t m i.executed rest kept limit Nothing in
     let old = λ (gs : List Group). taken_back (unsets l i.sets.items gs) (standing_of i.code i.settings i.steps i.sets.items i.point i.tape l i.executed gs kept limit i.last) in
     ap (λ (xs : List SetAt). standing xs c.consume.new.self (now_of c.undo.new.self)) (c.pop-last.ensures.rest ∙ ap (λ (k : ℕ). take (k - 1) i.sets.items) i.sets.ok.0)
-    ∙ ap (λ (t : Held g.row.R.Denot). standing (but_last i.sets.items) t (now_of c.undo.new.self)) c.consume.ensures.after
+    ∙ ap (λ (t : TapeState g.row.R.Denot). standing (but_last i.sets.items) t (now_of c.undo.new.self)) c.consume.ensures.after
     ∙ ap (λ (m : Layout). standing (but_last i.sets.items) (record i.tape { consumed = m.registers.consumed }) m) is
     ∙ taken_is i.code i.settings i.steps i.sets.items i.point size i.tape l i.executed x rest kept limit i.last whole
     ∙ ap old (sym last)

@@ -1,0 +1,12 @@
+use Rattle.std.proofs.Common.{sym, subst}
+use Rattle.rawk_code.specs.Correct.{CodeOf}
+use Rattle.rawk.proofs.Runs.{run_is}
+use Rattle.rawk.proofs.running.run_prepared.Goals as goal
+
+pub run_machine-report-requires-clause-compiled : goal.run_machine-report-requires-clause-compiled
+run_machine-report-requires-clause-compiled g c = subst (λ code. CodeOf c.args.prepared.program code) (sym c.in_ok-machine.ensures.code) c.requires.compiled
+
+pub returns-clause-ran : goal.returns-clause-ran
+returns-clause-ran g c =
+    run_is g.R.Source.may_give (g.R.Source.may_give c.args.source) g.W.Sink.may_hold c.args.prepared.program c.args.settings.now c.args.steps c.in_ok-machine.machine c.args.sink.now c.run_machine-report.new.sink c.run_machine-report.result
+    c.in_ok-machine.ensures.settings c.in_ok-machine.ensures.sets c.in_ok-machine.ensures.steps c.in_ok-machine.ensures.may c.run_machine-report.ensures.runs

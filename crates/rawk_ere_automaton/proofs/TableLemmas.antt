@@ -1,0 +1,289 @@
+-- A walk by the table is a walk of state sets.
+use Rattle.std.proofs.Common.{◌≡◌, ℕ, zero, suc, ◌+◌, ◌-◌, ◌*◌, ◌/◌, ◌%◌, ◌<◌, ◌≤◌, ◌⊎◌, inl, inr, Bool, true, false, List, [], length, drop, get_or, Option, Some, None, refl, sym, ◌∙◌, subst, arith, true≢false, ap}
+use Rattle.std.specs.Prelude.{◌↔◌, IsTrue, Contains, slice_index}
+use Rattle.std.proofs.lemmas.Option.{slice_get_within}
+use Rattle.std.proofs.lemmas.Bool.{cases_lt}
+use Rattle.std.proofs.lemmas.List.{get_or-drop}
+use Rattle.std.proofs.lemmas.List.Elements.{Contains-append_cases}
+use Rattle.rawk_ere_tree.specs.declared.code.Instruction.{Instruction}
+use Rattle.rawk_ere_tree.specs.Ends.{IsLast}
+use Rattle.rawk_ere_tree.specs.Code.{Hops, Step, Path, wide_code}
+use Rattle.rawk_ere_tree.specs.StateSets.{Adds}
+use Rattle.rawk_ere_automaton.specs.Sets.{Closes, AreReached, IsFarthestBefore, IsFarthest}
+use Rattle.rawk_ere_automaton.specs.Search.{EndsFrom, Widens, BeginsNone, MayStart, NoneMay}
+use Rattle.rawk_ere_tree.specs.Begins.{begins_with}
+use Rattle.rawk_ere_automaton.specs.declared.table.Table.{Table}
+use Rattle.rawk_ere_automaton.specs.Table.{members, Begins, LeadsBy, EndsLast, AreFilled, AreStarts, IsTable}
+use Rattle.rawk_ere_tree.proofs.SetLemmas.{Contains-none}
+use Rattle.rawk_ere_automaton.proofs.WalkLemmas.{hops_where, closes_where, path_of_hops, path_more, path_last, path_join, path_up, path_passes, wants_none, step_up, reached_first, reached_more, none_before, noted_is, farthest_stop, farthest_end}
+
+not_true : IsTrue false → ⊥
+not_true h = true≢false (sym h)
+
+module _ (code : List Instruction) (s : List ℕ) where
+  -- a step in the open text is one in the closed text
+  open_step : (q i r j : ℕ) → Step code false s q i r j → Step code true s q i r j
+  open_step q i r j st = (
+    st.0,
+    st.1,
+    elim st.2 [
+      | inl h ↦ inl (hops_where (i ≡ 0) (i ≡ 0) (IsLast false s i) (IsLast true s i) (λ f. f) (λ l. absurd (not_true l.0)) q st.0 r h.0, h.1)
+      | inr h ↦ inr h
+    ],
+  )
+
+  open_path : (n q i f j : ℕ) → Path code false s n q i f j → Path code true s n q i f j
+  open_path zero q i f j p = p
+  open_path (suc n) q i f j p = (p.0, p.1, open_step q i p.0 p.1 p.2, open_path n p.0 p.1 f j p.3)
+
+  -- a way that ends before the end of the text does not see that it is closed
+  close_step : (q i r j : ℕ) → i < length s → Step code true s q i r j → Step code false s q i r j
+  close_step q i r j lt st = (
+    st.0,
+    st.1,
+    elim st.2 [
+      | inl h ↦ inl (hops_where (i ≡ 0) (i ≡ 0) (IsLast true s i) (IsLast false s i) (λ f. f) (λ l. absurd (omega (arith, l.1))) q st.0 r h.0, h.1)
+      | inr h ↦ inr h
+    ],
+  )
+
+  close_path : (n q i f j : ℕ) → j < length s → Path code true s n q i f j → Path code false s n q i f j
+  close_path zero q i f j lt p = p
+  close_path (suc n) q i f j lt p =
+      let up = path_up code true s n p.0 p.1 f j p.3 in
+      let step = step_up code true s q i p.0 p.1 p.2 in
+      (p.0, p.1, close_step q i p.0 p.1 (omega (arith, step.0)) p.2, close_path n p.0 p.1 f j lt p.3)
+
+  -- before the end of the text
+  pub reached_within : (i at : ℕ) (states : List ℕ) → at < length s → AreReached code false s i at states → AreReached code true s i at states
+  reached_within i at states lt r = record {
+    sound = λ q h. let p = r.sound q h in (p.0, open_path p.0 0 i q at p.1);
+    all = λ q n le p. r.all q n le (close_path n 0 i q at lt p);
+  }
+
+  last_all : (i at : ℕ) (set copy new : List ℕ) → i ≤ at → at ≡ length s → AreReached code false s i at set → Adds (length code + 1) [] copy (Contains set)
+      → Closes (length code + 1) code (at ≡ 0) (IsLast true s at) copy new → (q n : ℕ) → q ≤ length code → Path code true s n 0 i q at → Contains new q
+  last_all i at set copy new lt e r a c q zero le p = c.keeps q (a.has q (r.all q zero le p) (omega arith))
+  last_all i at set copy new lt e r a c q (suc n) le p =
+      let t = path_last code true s n 0 i q at p in
+      let lr = slice_get_within code t.0 t.3.0 t.3.1 in
+      elim t.3.2 [
+        | inl h ↦
+            let at_r = subst (λ x. Path code true s n 0 i t.0 x) h.1 t.2 in
+            let has_r = last_all i at set copy new lt e r a c t.0 n (omega (arith, lr)) at_r in
+            c.closed t.0 q has_r (t.3.0, t.3.1, subst (λ x. Hops (x ≡ 0) (IsLast true s x) t.0 t.3.0 q) h.1 h.0) (omega arith)
+        | inr h ↦
+            let before = close_path n 0 i t.0 t.1 (omega (arith, h.4)) t.2 in
+            let there = path_more code false s n 0 i t.0 t.1 q at before (t.3.0, t.3.1, inr h) in
+            c.keeps q (a.has q (r.all q (suc n) le there) (omega arith))
+      ]
+
+  -- at the end of the text
+  pub reached_last : (i at : ℕ) (set copy new : List ℕ) → i ≤ at → at ≡ length s → AreReached code false s i at set → Adds (length code + 1) [] copy (Contains set)
+      → Closes (length code + 1) code (at ≡ 0) (IsLast true s at) copy new → AreReached code true s i at new
+  reached_last i at set copy new lt e r a c = record {
+    sound = λ q h.
+        let o = c.only q h in
+        let in_set = elim (Contains-append_cases [] a.more o.0 (subst (λ l. Contains l o.0) a.is o.1)) as (λ _. Contains set o.0) [
+          | inl u ↦ absurd (Contains-none o.0 u)
+          | inr v ↦ a.only o.0 v
+        ] in
+        let before = r.sound o.0 in_set in
+        path_join code true s before.0 o.2.0 0 i o.0 at q at (open_path before.0 0 i o.0 at before.1) (path_of_hops code true s o.2.0 o.0 q at o.2.1);
+    all = last_all i at set copy new lt e r a c;
+  }
+
+  open_last : (i : ℕ) → IsTrue false ↔ IsLast false s i
+  open_last i = (λ h. absurd (not_true h), λ h. h.0)
+
+  -- the first row
+  pub begins_reached : (First : Type 0) (i : ℕ) (set : List ℕ) → First ↔ (i ≡ 0) → Begins code First set → AreReached code false s i i set
+  begins_reached First i set f b =
+      reached_first code false s (length code + 1) i [] b.one set refl refl b.adds (closes_where (length code + 1) code First (i ≡ 0) (IsTrue false) (IsLast false s i) b.one set f (open_last i) b.closes)
+
+  -- the next row
+  pub leads_reached : (i at b : ℕ) (old new : List ℕ) → i ≤ at → at < length s → b ≡ get_or s at 0 → AreReached code false s i at old → LeadsBy code b old new → AreReached code false s i (at + 1) new
+  leads_reached i at b old new le lt e r l =
+      reached_more code false s (length code + 1) i at b old l.mid new refl le lt e r l.reads
+      (closes_where (length code + 1) code (IsTrue false) (at + 1 ≡ 0) (IsTrue false) (IsLast false s (at + 1)) l.mid new
+      (λ h. absurd (not_true h), λ h. absurd (omega (arith, h))) (open_last (at + 1)) l.closes)
+
+  pub ends_reached : (i at : ℕ) (set : List ℕ) (ends : Bool) (l : EndsLast code set ends) → i ≤ at → 0 < at → at ≡ length s → AreReached code false s i at set → AreReached code true s i at l.new
+  ends_reached i at set ends l le pos e r =
+      reached_last i at set l.copy l.new le e r l.copies
+      (closes_where (length code + 1) code (IsTrue false) (at ≡ 0) (IsTrue true) (IsLast true s at) l.copy l.new
+      (λ h. absurd (not_true h), λ h. absurd (omega (arith, h))) (λ h. (h, e), λ h. h.0) l.closes)
+
+  -- what a walk by the table keeps
+  pub record Running (sets : List (ℕ × List ℕ)) (i at row : ℕ) (longest : Option ℕ) : Type 0 where
+    pub within : row < length sets
+    pub reached : AreReached code false s i at (members sets row)
+    pub before : IsFarthestBefore code true s i at longest
+
+  pub running_end : (sets : List (ℕ × List ℕ)) (i at row : ℕ) (longest result : Option ℕ) (ends : Bool) → EndsLast code (members sets row) ends → i ≤ at → 0 < at → at ≡ length s → Running sets i at row longest
+      → (IsTrue ends × (result ≡ Some at)) ⊎ ((IsTrue ends → ⊥) × (result ≡ longest)) → IsFarthest code true s i result
+  running_end sets i at row longest result ends l le pos e r c =
+      let reached = ends_reached i at (members sets row) ends l le pos e r.reached in
+      let noted = noted_is code true s i at l.new longest result reached (elim c [ inl h ↦ inl (l.is.0 h.0, h.1) | inr h ↦ inr (λ x. h.0 (l.is.1 x), h.1) ]) r.before in
+      farthest_end code true s i (at + 1) result (omega arith) (omega arith) noted
+
+  pub running_start : (sets : List (ℕ × List ℕ)) (start later i row : ℕ) → AreStarts code sets start later → ((i ≡ 0) × (row ≡ start)) ⊎ ((i ≡ 0 → ⊥) × (row ≡ later)) → Running sets i i row None
+  running_start sets start later i row a (inl h) = record {
+    within = omega (arith, a.start_within, h.1);
+    reached = subst (λ x. AreReached code false s i i (members sets x)) (sym h.1) (begins_reached (IsTrue true) i (members sets start) (λ _. h.0, λ _. refl) a.start_begins);
+    before = none_before code true s i;
+  }
+  running_start sets start later i row a (inr h) = record {
+    within = omega (arith, a.later_within, h.1);
+    reached = subst (λ x. AreReached code false s i i (members sets x)) (sym h.1) (begins_reached (IsTrue false) i (members sets later) (λ x. absurd (not_true x), λ x. absurd (h.0 x)) a.later_begins);
+    before = none_before code true s i;
+  }
+
+  pub running_stop : (sets : List (ℕ × List ℕ)) (i at row : ℕ) (longest : Option ℕ) → i ≤ at → at < length s → length (members sets row) ≡ 0 → Running sets i at row longest → IsFarthest code true s i longest
+  running_stop sets i at row longest le lt z r = farthest_stop code true s i at (members sets row) longest le z (reached_within i at (members sets row) lt r.reached) r.before
+
+  pub running_next : (sets : List (ℕ × List ℕ)) (next : List ℕ) (i at row b row' : ℕ) (longest result : Option ℕ) (ends : Bool) → AreFilled code sets next → length next ≡ 256 * length sets
+      → i ≤ at → at < length s → b ≡ get_or s at 0 → b < 256 → row' ≡ get_or next (row * 256 + b) 0 → IsTrue ends ↔ Contains (members sets row) (length code)
+      → (IsTrue ends × (result ≡ Some at)) ⊎ ((IsTrue ends → ⊥) × (result ≡ longest)) → Running sets i at row longest → Running sets i (at + 1) row' result
+  running_next sets next i at row b row' longest result ends f all le lt eb lb e is c r =
+      let k = row * 256 + b in
+      let lk : k < length next = omega (arith, r.within, all) in
+      let d : k / 256 ≡ row = omega arith in
+      let m : k % 256 ≡ b = omega arith in
+      let there = subst (λ x. LeadsBy code b (members sets row) (members sets x)) (sym e) (subst (λ x. LeadsBy code x (members sets row) (members sets (slice_index next k))) m (subst (λ x. LeadsBy code (k % 256) (members sets x) (members sets (slice_index next k))) d (f.leads k lk))) in
+      let here = elim c as (λ _. (Contains (members sets row) (length code) × (result ≡ Some at)) ⊎ ((Contains (members sets row) (length code) → ⊥) × (result ≡ longest))) [
+        | inl h ↦ inl (is.0 h.0, h.1)
+        | inr h ↦ inr (λ x. h.0 (is.1 x), h.1)
+      ] in
+      record {
+        within = omega (arith, f.target k lk, e);
+        reached = leads_reached i at b (members sets row) (members sets row') le lt eb r.reached there;
+        before = noted_is code true s i at (members sets row) longest result (reached_within i at (members sets row) lt r.reached) here r.before;
+      }
+
+  -- the row that a byte leads to
+  pub row_next : (sets : List (ℕ × List ℕ)) (next : List ℕ) (i at row b row' : ℕ) → AreFilled code sets next → length next ≡ 256 * length sets → i ≤ at → at < length s → b ≡ get_or s at 0 → b < 256 → row' ≡ get_or next (row * 256 + b) 0
+      → row < length sets → AreReached code false s i at (members sets row) → (row' < length sets) × AreReached code false s i (at + 1) (members sets row')
+  row_next sets next i at row b row' f all le lt eb lb e within r =
+      let k = row * 256 + b in
+      let lk : k < length next = omega (arith, within, all) in
+      let d : k / 256 ≡ row = omega arith in
+      let m : k % 256 ≡ b = omega arith in
+      let there = subst (λ x. LeadsBy code b (members sets row) (members sets x)) (sym e) (subst (λ x. LeadsBy code x (members sets row) (members sets (slice_index next k))) m (subst (λ x. LeadsBy code (k % 256) (members sets x) (members sets (slice_index next k))) d (f.leads k lk))) in
+      (omega (arith, f.target k lk, e), leads_reached i at b (members sets row) (members sets row') le lt eb r there)
+
+  -- what a walk by the table keeps in a text that may go on
+  pub record OpenRunning (sets : List (ℕ × List ℕ)) (i at row : ℕ) (longest : Option ℕ) : Type 0 where
+    pub within : row < length sets
+    pub reached : AreReached code false s i at (members sets row)
+    pub before : IsFarthestBefore code false s i at longest
+
+  pub open_running_start : (sets : List (ℕ × List ℕ)) (start later i row : ℕ) → AreStarts code sets start later → ((i ≡ 0) × (row ≡ start)) ⊎ ((i ≡ 0 → ⊥) × (row ≡ later)) → OpenRunning sets i i row None
+  open_running_start sets start later i row a h = let r = running_start sets start later i row a h in record { within = r.within; reached = r.reached; before = none_before code false s i }
+
+  open_noted : (i at : ℕ) (set : List ℕ) (longest result : Option ℕ) (ends : Bool) → IsTrue ends ↔ Contains set (length code) → (IsTrue ends × (result ≡ Some at)) ⊎ ((IsTrue ends → ⊥) × (result ≡ longest))
+      → AreReached code false s i at set → IsFarthestBefore code false s i at longest → IsFarthestBefore code false s i (at + 1) result
+  open_noted i at set longest result ends is c r f =
+      noted_is code false s i at set longest result r (elim c as (λ _. (Contains set (length code) × (result ≡ Some at)) ⊎ ((Contains set (length code) → ⊥) × (result ≡ longest))) [ inl h ↦ inl (is.0 h.0, h.1) | inr h ↦ inr (λ x. h.0 (is.1 x), h.1) ]) f
+
+  pub open_running_next : (sets : List (ℕ × List ℕ)) (next : List ℕ) (i at row b row' : ℕ) (longest result : Option ℕ) (ends : Bool) → AreFilled code sets next → length next ≡ 256 * length sets
+      → i ≤ at → at < length s → b ≡ get_or s at 0 → b < 256 → row' ≡ get_or next (row * 256 + b) 0 → IsTrue ends ↔ Contains (members sets row) (length code)
+      → (IsTrue ends × (result ≡ Some at)) ⊎ ((IsTrue ends → ⊥) × (result ≡ longest)) → OpenRunning sets i at row longest → OpenRunning sets i (at + 1) row' result
+  open_running_next sets next i at row b row' longest result ends f all le lt eb lb e is c r =
+      let n = row_next sets next i at row b row' f all le lt eb lb e r.within r.reached in
+      record { within = n.0; reached = n.1; before = open_noted i at (members sets row) longest result ends is c r.reached r.before }
+
+  pub open_running_end : (sets : List (ℕ × List ℕ)) (i at row : ℕ) (longest result : Option ℕ) (ends : Bool) → i ≤ length s → at ≡ length s → IsTrue ends ↔ Contains (members sets row) (length code)
+      → (IsTrue ends × (result ≡ Some at)) ⊎ ((IsTrue ends → ⊥) × (result ≡ longest)) → OpenRunning sets i at row longest → IsFarthest code false s i result
+  open_running_end sets i at row longest result ends le e is c r =
+      farthest_end code false s i (at + 1) result le (omega (arith, e)) (open_noted i at (members sets row) longest result ends is c r.reached r.before)
+
+  -- no way that reads a byte may begin with the byte at the place
+  pub may_not : (t : Table) (is : IsTable code t) (at b : ℕ) → 0 < at → at < length s → b ≡ get_or s at 0 → b < 256 → get_or t.next.items (t.later * 256 + b) 0 ≡ t.dead → MayStart code s at → ⊥
+  may_not t is at b pos lt eb lb nd m =
+      let r0 = running_start is.sets t.start t.later at t.later is.starts (inr (λ z. omega (arith, z), refl)) in
+      let r1 = row_next is.sets t.next.items at at t.later b t.dead is.filled is.all (omega arith) lt eb lb (sym nd) r0.within r0.reached in
+      let z = is.none r1.0 in
+      elim m as (λ _. ⊥) [
+        | inl w ↦ not_true ((wants_none code false s at (at + 1) (members is.sets t.dead) (omega arith) (omega arith) z r1.1).1 w)
+        | inr h ↦
+            let later = h.1 in
+            let p = path_passes code false s h.2.0 0 at (length code) h.0 (at + 1) (omega arith) h.2.1 (omega arith) (omega (arith, later)) in
+            let x = r1.1.all p.0 p.1 p.2 p.3 in omega (arith, x.1, z)
+      ]
+
+  -- nor where each byte leads to the row without states
+  pub none_may_dead : (t : Table) (is : IsTable code t) (from first upto : ℕ) → 0 < from → upto ≤ length s → ((k : ℕ) → get_or s k 0 < 256) → ((k : ℕ) → first ≤ k → k < upto → get_or t.next.items (t.later * 256 + get_or s k 0) 0 ≡ t.dead)
+      → NoneMay code s from first → NoneMay code s from upto
+  none_may_dead t is from first upto pos end fits dead n = λ i low lt m. elim (cases_lt i first) [
+    | inl before ↦ n i low before m
+    | inr ge ↦ may_not t is i (get_or s i 0) (omega (arith, pos, low)) (omega (arith, lt, end)) refl (fits i) (dead i ge lt) m
+  ]
+
+  pub none_may_seek : (t : Table) (is : IsTable code t) (from n : ℕ) (rest : List ℕ) → 0 < from → from + n ≤ length s → rest ≡ drop from s → ((k : ℕ) → get_or s k 0 < 256) → ((k : ℕ) → k < n → begins_with t.begins (get_or rest k 0) ≡ false)
+      → NoneMay code s from (from + n)
+  none_may_seek t is from n rest pos le er fits h = λ i low lt m.
+      let e : from + (i - from) ≡ i = omega arith in
+      let b = get_or s i 0 in
+      let byte : get_or rest (i - from) 0 ≡ b = ap (λ l. get_or l (i - from) 0) er ∙ get_or-drop from s (i - from) 0 ∙ ap (λ x. get_or s x 0) e in
+      let not : begins_with t.begins b ≡ false = subst (λ x. begins_with t.begins x ≡ false) byte (h (i - from) (omega arith)) in
+      let known = is.begin_with b (fits i) not in
+      may_not t is i b (omega arith) (omega arith) refl (fits i) known.1 m
+
+  -- an end at the row is one of a way
+  pub running_way : (sets : List (ℕ × List ℕ)) (i at row : ℕ) (longest : Option ℕ) → at < length s → Contains (members sets row) (length code) → Running sets i at row longest → (n : ℕ) × Path code true s n 0 i (length code) at
+  running_way sets i at row longest lt h r = (reached_within i at (members sets row) lt r.reached).sound (length code) h
+
+  pub running_way_last : (sets : List (ℕ × List ℕ)) (i at row : ℕ) (longest : Option ℕ) (ends : Bool) (l : EndsLast code (members sets row) ends) → i ≤ at → 0 < at → at ≡ length s → IsTrue ends → Running sets i at row longest
+      → (n : ℕ) × Path code true s n 0 i (length code) at
+  running_way_last sets i at row longest ends l le pos e h r = (ends_reached i at (members sets row) ends l le pos e r.reached).sound (length code) (l.is.0 h)
+
+  -- where nothing is left, nothing ends
+  none_last : (set : List ℕ) (ends : Bool) → length set ≡ 0 → EndsLast code set ends → IsTrue ends → ⊥
+  none_last set ends z l h =
+      let o = l.closes.only (length code) (l.is.0 h) in
+      elim (Contains-append_cases [] l.copies.more o.0 (subst (λ l. Contains l o.0) l.copies.is o.1)) as (λ _. ⊥) [
+        | inl u ↦ Contains-none o.0 u
+        | inr v ↦ (let x = l.copies.only o.0 v in omega (arith, x.1))
+      ]
+
+  -- no way begins with the byte at the place
+  pub begins_not : (t : Table) (is : IsTable code t) (at b : ℕ) → 0 < at → at < length s → b ≡ get_or s at 0 → b < 256 → get_or t.ends.items t.later false ≡ false → get_or t.next.items (t.later * 256 + b) 0 ≡ t.dead
+      → (j : ℕ) → (n : ℕ) × Path code true s n 0 at (length code) j → ⊥
+  begins_not t is at b pos lt eb lb ne nd j w =
+      let r0 = running_start is.sets t.start t.later at t.later is.starts (inr (λ z. omega (arith, z), refl)) in
+      let r1 = running_next is.sets t.next.items at at t.later b t.dead None None (get_or t.ends.items t.later false) is.filled is.all (omega arith) lt eb lb (sym nd) (is.ends_are t.later r0.within) (inr (λ x. true≢false (sym x ∙ ne), refl)) r0 in
+      let z = is.none r1.within in
+      let f : IsFarthest code true s at None = elim (cases_lt (at + 1) (length s)) [
+        | inl more ↦ running_stop is.sets at (at + 1) t.dead None (omega arith) more z r1
+        | inr last ↦
+            running_end is.sets at (at + 1) t.dead None None (get_or t.last_ends.items t.dead false) (is.last t.dead r1.within) (omega arith) (omega arith) (omega arith) r1 (inr (none_last (members is.sets t.dead) (get_or t.last_ends.items t.dead false) z (is.last t.dead r1.within), refl))
+      ] in
+      f j w.0 w.1
+
+  -- nor with those that are passed over
+  pub begins_none_seek : (t : Table) (is : IsTable code t) (from n : ℕ) (rest : List ℕ) → 0 < from → from + n ≤ length s → rest ≡ drop from s → ((k : ℕ) → get_or s k 0 < 256) → ((k : ℕ) → k < n → begins_with t.begins (get_or rest k 0) ≡ false)
+      → BeginsNone code s from (from + n)
+  begins_none_seek t is from n rest pos le er fits h = λ i j low lt w.
+      let e : from + (i - from) ≡ i = omega arith in
+      let b = get_or s i 0 in
+      let byte : get_or rest (i - from) 0 ≡ b = ap (λ l. get_or l (i - from) 0) er ∙ get_or-drop from s (i - from) 0 ∙ ap (λ x. get_or s x 0) e in
+      let not : begins_with t.begins b ≡ false = subst (λ x. begins_with t.begins x ≡ false) byte (h (i - from) (omega arith)) in
+      let known = is.begin_with b (fits i) not in
+      begins_not t is i b (omega arith) (omega arith) refl (fits i) known.0 known.1 j w
+
+  -- nor where each byte leads to the row without states
+  pub begins_none_dead : (t : Table) (is : IsTable code t) (from first upto : ℕ) → 0 < from → upto ≤ length s → ((k : ℕ) → get_or s k 0 < 256) → get_or t.ends.items t.later false ≡ false
+      → ((k : ℕ) → first ≤ k → k < upto → get_or t.next.items (t.later * 256 + get_or s k 0) 0 ≡ t.dead) → BeginsNone code s from first → BeginsNone code s from upto
+  begins_none_dead t is from first upto pos end fits ne dead n = λ i j low lt w. elim (cases_lt i first) [
+    | inl before ↦ n i j low before w
+    | inr ge ↦ begins_not t is i (get_or s i 0) (omega (arith, pos, low)) (omega (arith, lt, end)) refl (fits i) ne (dead i ge lt) j w
+  ]
+
+-- ways of the wide code
+module _ (code : List Instruction) (s : List ℕ) (w : Widens code s) where
+  pub wide_found : (p j : ℕ) → p ≤ length s → (n : ℕ) × Path (wide_code code) true s n 0 p (length (wide_code code)) j → EndsFrom code s p (length s) (Some j)
+  wide_found p j le h = w.narrow p j h.0 le h.1
+
+  pub wide_none : (p : ℕ) → IsFarthest (wide_code code) true s p None → EndsFrom code s p (length s) None
+  wide_none p f = λ b. let h = w.wide p b.0 b.1 b.2 b.3 b.4 in f b.1 h.0 h.1

@@ -1,0 +1,7 @@
+use Rattle.std.proofs.Common.{◌≡◌, ℕ, false, ◌<◌, length}
+use Rattle.std.specs.Prelude.{◌↔◌, IsTrue, Contains, slice_index_or}
+use Rattle.rawk_ere_automaton.specs.Table.{members}
+use Rattle.rawk_ere_automaton.proofs.table.find_ends.Given as goal
+
+abbrev pub invariant-loop-index : goal.invariant-loop-index
+invariant-loop-index l = (length l.found.items ≡ l.index) × ((r : ℕ) → r < l.index → IsTrue (slice_index_or l.found.items r false) ↔ Contains (members l.sets r) (length l.code))

@@ -1,0 +1,24 @@
+use Rattle.std.proofs.Common.{◌≡◌, length, sym, ap, subst, ◌∙◌}
+use Rattle.rawk_ere_tree.specs.Begins.{AreBegins}
+use Rattle.rawk_ere_automaton.specs.Table.{AreFilled, IsTable}
+use Rattle.rawk_ere_automaton.proofs.BuildLemmas.{some_is}
+use Rattle.rawk_ere_automaton.proofs.table.finish.Goals as goal
+
+pub returns-in-Some : goal.returns-in-Some
+returns-in-Some c =
+    let same : c.in-Some.next.items ≡ c.args.rows.now = c.in_ok-packed.ensures c.in-Some.next c.in-Some.is in
+    some_is (IsTable c.args.code.now) _ record {
+      sets = c.args.sets.now;
+      filled = subst (λ l. AreFilled c.args.code.now c.args.sets.now l) (sym same) c.requires.filled;
+      all = ap length same ∙ c.requires.all;
+      starts = c.requires.starts;
+      ends_all = c.in_ok-ends.ensures.all;
+      ends_are = c.in_ok-ends.ensures.each;
+      last_all = c.in_ok-last_ends.ensures.all;
+      last = c.in_ok-last_ends.ensures.each;
+      wants_all = c.in_ok-wants.ensures.all;
+      wants_are = c.in_ok-wants.ensures.each;
+      none = c.find_dead-dead.ensures;
+      begin_with = subst (λ n. AreBegins n c.in_ok-ends.ends.items c.args.later c.find_dead-dead.result c.find_begins-begins.result) c.deref.ensures.value
+          (subst (λ e. AreBegins c.deref.result.now e c.args.later c.find_dead-dead.result c.find_begins-begins.result) c.deref-in-Some.ensures.value c.find_begins-begins.ensures);
+    }

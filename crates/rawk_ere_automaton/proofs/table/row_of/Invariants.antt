@@ -1,0 +1,4 @@
+use Rattle.rawk_ere_automaton.proofs.table.row_of.Given as goal
+
+abbrev pub invariant-loop-index : goal.invariant-loop-index
+invariant-loop-index l = Unit {0}

@@ -1,6 +1,0 @@
-use Rattle.std.proofs.Common.{◌≡◌, ◌++◌, map, take}
-use Rattle.rawk_ere_code.specs.declared.code.Instruction.TheVariants.{Split}
-use Rattle.rawk_ere_code.proofs.emit.split.Given as goal
-
-abbrev pub invariant-loop-index : goal.invariant-loop-index
-invariant-loop-index l = l.code ≡ l.fn.code ++ map Split (take l.index l.splits)

@@ -1,0 +1,13 @@
+pub mod Tree
+pub mod TreeCode
+pub mod Node
+pub mod Rows
+pub mod ByteSets
+pub mod Ends
+pub mod Cuts
+pub mod Open
+pub mod Longer
+pub mod Code
+pub mod Kept
+pub mod StateSets
+pub mod Begins

@@ -1,9 +1,0 @@
-use Rattle.std.proofs.Common.{◌≤◌, ◌-◌, length}
-use Rattle.rawk_ere_walk.specs.Search.{NoneMay}
-use Rattle.rawk_ere_walk.proofs.search.open_by_table.Given as goal
-
-abbrev pub invariant-loop-begin : goal.invariant-loop-begin
-invariant-loop-begin l = record { low : l.from ≤ l.begin; high : l.begin ≤ length l.text; none : NoneMay l.code l.text l.from l.begin }
-
-abbrev pub decreases-loop-begin : goal.decreases-loop-begin
-decreases-loop-begin l = length l.text - l.begin

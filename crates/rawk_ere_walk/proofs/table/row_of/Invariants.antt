@@ -1,4 +1,0 @@
-use Rattle.rawk_ere_walk.proofs.table.row_of.Given as goal
-
-abbrev pub invariant-loop-index : goal.invariant-loop-index
-invariant-loop-index l = Unit {0}

@@ -1,0 +1,6 @@
+pub mod Nearest
+pub mod Linked
+pub mod ArrayKey
+pub mod Hash
+pub mod KeysLaid
+pub mod Found

@@ -1,0 +1,290 @@
+//! A list of keys of arrays, in which one is found by its bytes.
+
+ghost use Rattle.std.specs.Prelude.{◌≡◌, ◌<◌, ◌≤◌, ◌++◌, ◌∷◌, [], IsTrue, ◌↔◌, MatchOption, OnErr, OnOk, Some, length, slice_get, slice_range};
+ghost use Rattle.std.proofs.Common.{get_or};
+ghost use Rattle.rawk_keys.specs.declared.keys.KeyRange.{KeyRange};
+ghost use Rattle.rawk_keys.specs.ArrayKey.{IsAbsent, IsLastOf, ArrayKey, array_key};
+ghost use Rattle.rawk_keys.specs.KeysLaid.{AreWithin, AreLaid, keys_of};
+
+use crate::chains::Chains;
+use crate::hash::hash;
+use std::alloc::{AllocError, Global};
+use std::marker::Model;
+
+/// Where a key stands in the text of all keys: from `start` up to `end`.
+#[derive(Clone, Copy)]
+pub struct KeyRange {
+    pub start: usize,
+    pub end: usize,
+}
+
+/// KeyLemmas of arrays, each with its array's number, in the order in which they were added.
+///
+/// The keys' bytes stand in one text. One set of chains leads from a hash to the keys that have it, another from an array to its keys.
+#[derive(Drop)]
+pub struct Keys {
+    text: Vec<u8>,
+    spans: Vec<KeyRange>,
+    by_hash: Chains,
+    by_array: Chains,
+}
+
+impl Model for Keys {
+    ghost use Rattle.std.specs.Prelude.{List};
+    ghost use Rattle.rawk_keys.specs.ArrayKey.{ArrayKey};
+
+    ghost Value = { List ArrayKey };
+
+    ghost use Rattle.rawk_keys.specs.KeysLaid.{AreLaid, keys_of};
+
+    ghost view = { λ n. keys_of n.text.items n.by_array n.spans.items };
+
+    ghost invariant = { λ n. AreLaid n.text.items n.spans.items n.by_hash n.by_array };
+}
+
+impl Keys {
+    /// No keys. It takes no memory.
+    pub fn new(alloc: Global) -> Self
+        ensures { result ≡ [] }
+    {
+        Keys {
+            text: Vec::new(alloc),
+            spans: Vec::new(alloc),
+            by_hash: Chains::new(alloc),
+            by_array: Chains::new(alloc),
+        }
+    }
+
+    /// How many keys there are.
+    pub fn len(&self) -> usize
+        ensures { result ≡ length self.now }
+    {
+        self.spans.len()
+    }
+
+    /// The key of an entry.
+    pub fn key(&self, number: usize) -> &[u8]
+        requires { number < length self.now }
+        ensures { (entry : ArrayKey) → slice_get self.now number ≡ Some entry → result.now ≡ entry.key }
+    {
+        key_bytes(&self.text, &self.spans, &self.by_array, number)
+    }
+
+    /// The array of an entry.
+    pub fn array(&self, number: usize) -> usize
+        requires { number < length self.now }
+        ensures { (entry : ArrayKey) → slice_get self.now number ≡ Some entry → result ≡ entry.array }
+    {
+        array_of(&self.text, &self.spans, &self.by_array, number)
+    }
+
+    /// The number of an entry, if it is there.
+    pub fn find(&self, array: usize, key: &[u8]) -> Option<usize>
+        ensures { let entry = array_key array key.now in MatchOption result (IsAbsent entry self.now) (λ i. slice_get self.now i ≡ Some entry) }
+    {
+        find_in(
+            &self.text,
+            &self.spans,
+            &self.by_hash,
+            &self.by_array,
+            array,
+            key,
+        )
+    }
+
+    /// The last entry of an array.
+    pub fn latest(&self, array: usize) -> Option<usize>
+        ensures { IsLastOf array self.now (length self.now) result }
+    {
+        latest_of(&self.text, &self.spans, &self.by_array, array)
+    }
+
+    /// The nearest earlier entry of the same array as this one.
+    pub fn earlier(&self, number: usize) -> Option<usize>
+        requires { number < length self.now }
+        ensures { (entry : ArrayKey) → slice_get self.now number ≡ Some entry → IsLastOf entry.array self.now number result }
+    {
+        earlier_of(&self.text, &self.spans, &self.by_array, number)
+    }
+
+    /// Adds an entry. It fails where memory is refused, and then nothing has changed.
+    pub fn add(&mut self, alloc: Global, array: usize, key: &[u8]) -> Result<(), AllocError>
+        ensures did { OnOk result (self.new ≡ self.old ++ array_key array key.now ∷ []) }
+        ensures err { OnErr result (self.new ≡ self.old) }
+    {
+        add_key(
+            alloc,
+            &mut self.text,
+            &mut self.spans,
+            &mut self.by_hash,
+            &mut self.by_array,
+            array,
+            key,
+        )
+    }
+}
+
+/// Adds an entry. Where a label is refused, the key's bytes stand in the text for no entry.
+fn add_key(
+    alloc: Global,
+    text: &mut Vec<u8>,
+    spans: &mut Vec<KeyRange>,
+    by_hash: &mut Chains,
+    by_array: &mut Chains,
+    array: usize,
+    key: &[u8],
+) -> Result<(), AllocError>
+    requires { AreLaid text.old.items spans.old.items by_hash.old by_array.old }
+    ensures did { OnOk result (keys_of text.new.items by_array.new spans.new.items ≡ keys_of text.old.items by_array.old spans.old.items ++ array_key array key.now ∷ []) }
+    ensures err { OnErr result (keys_of text.new.items by_array.new spans.new.items ≡ keys_of text.old.items by_array.old spans.old.items) }
+    ensures array_key { AreLaid text.new.items spans.new.items by_hash.new by_array.new }
+{
+    let start = text.len();
+    spans.reserve(1)?;
+    text.extend_from_slice(key)?;
+    let end = text.len();
+    add_labels(alloc, by_hash, by_array, hash(array, key), array)?;
+    spans.push(KeyRange { start, end })?;
+    Ok(())
+}
+
+/// Adds the labels of an entry to both lists, or to none.
+fn add_labels(
+    alloc: Global,
+    by_hash: &mut Chains,
+    by_array: &mut Chains,
+    hash: usize,
+    array: usize,
+) -> Result<(), AllocError>
+    ensures hashes { OnOk result (by_hash.new ≡ by_hash.old ++ hash ∷ []) }
+    ensures arrays { OnOk result (by_array.new ≡ by_array.old ++ array ∷ []) }
+    ensures same_hashes { OnErr result (by_hash.new ≡ by_hash.old) }
+    ensures same_arrays { OnErr result (by_array.new ≡ by_array.old) }
+{
+    add_label(alloc, by_hash, hash, by_hash.len())?;
+    match add_label(alloc, by_array, array, array) {
+        Ok(()) => Ok(()),
+        Err(refused) => {
+            by_hash.drop_newest();
+            Err(refused)
+        }
+    }
+}
+
+/// Adds a label, with more chains than `wanted` where memory for them is there.
+fn add_label(
+    alloc: Global,
+    chains: &mut Chains,
+    label: usize,
+    wanted: usize,
+) -> Result<(), AllocError>
+    ensures did { OnOk result (chains.new ≡ chains.old ++ label ∷ []) }
+    ensures err { OnErr result (chains.new ≡ chains.old) }
+{
+    if wanted >= chains.chain_count() {
+        let _spread = chains.spread(alloc, wanted.saturating_add(1));
+    }
+    chains.push(alloc, label)
+}
+
+/// The bytes of a span.
+fn key_at<'a>(text: &'a [u8], spans: &[KeyRange], number: usize) -> &'a [u8]
+    requires within { AreWithin text.now spans.now }
+    requires there { number < length spans.now }
+    ensures { (d : KeyRange) → let s = get_or spans.now number d in result.now ≡ slice_range text.now s.start s.end }
+{
+    let span = spans[number];
+    part(text, span.start, span.end)
+}
+
+fn part(text: &[u8], start: usize, end: usize) -> &[u8]
+    requires ordered { start ≤ end }
+    requires within { end ≤ length text.now }
+    ensures { result.now ≡ slice_range text.now start end }
+{
+    &text[start..end]
+}
+
+/// The key of an entry.
+fn key_bytes<'a>(text: &'a [u8], spans: &[KeyRange], by_array: &Chains, number: usize) -> &'a [u8]
+    requires within { AreWithin text.now spans.now }
+    requires sizes { length by_array.now ≡ length spans.now }
+    requires there { number < length (keys_of text.now by_array.now spans.now) }
+    ensures { (entry : ArrayKey) → slice_get (keys_of text.now by_array.now spans.now) number ≡ Some entry → result.now ≡ entry.key }
+{
+    key_at(text, spans, number)
+}
+
+/// The array of an entry. The keys are read by the clauses alone.
+fn array_of(text: &[u8], spans: &[KeyRange], by_array: &Chains, number: usize) -> usize
+    requires sizes { length by_array.now ≡ length spans.now }
+    requires there { number < length (keys_of text.now by_array.now spans.now) }
+    ensures { (entry : ArrayKey) → slice_get (keys_of text.now by_array.now spans.now) number ≡ Some entry → result ≡ entry.array }
+{
+    by_array.label(number)
+}
+
+fn same_bytes(left: &[u8], right: &[u8]) -> bool
+    ensures { IsTrue result ↔ (left.now ≡ right.now) }
+{
+    left == right
+}
+
+/// Whether this is the entry.
+fn is_key(
+    text: &[u8],
+    spans: &[KeyRange],
+    by_array: &Chains,
+    number: usize,
+    array: usize,
+    key: &[u8],
+) -> bool
+    requires within { AreWithin text.now spans.now }
+    requires sizes { length by_array.now ≡ length spans.now }
+    requires there { number < length spans.now }
+    ensures { IsTrue result ↔ (slice_get (keys_of text.now by_array.now spans.now) number ≡ Some (array_key array key.now)) }
+{
+    if by_array.label(number) == array {
+        return same_bytes(key_at(text, spans, number), key);
+    }
+    false
+}
+
+/// The number of an entry.
+fn find_in(
+    text: &[u8],
+    spans: &[KeyRange],
+    by_hash: &Chains,
+    by_array: &Chains,
+    array: usize,
+    key: &[u8],
+) -> Option<usize>
+    requires { AreLaid text.now spans.now by_hash.now by_array.now }
+    ensures { let entry = array_key array key.now in let keys = keys_of text.now by_array.now spans.now in MatchOption result (IsAbsent entry keys) (λ i. slice_get keys i ≡ Some entry) }
+{
+    let mut at = by_hash.latest(hash(array, key));
+    while let Some(number) = at {
+        if is_key(text, spans, by_array, number, array, key) {
+            return Some(number);
+        }
+        at = by_hash.earlier(number);
+    }
+    None
+}
+
+/// The last entry of an array.
+fn latest_of(text: &[u8], spans: &[KeyRange], by_array: &Chains, array: usize) -> Option<usize>
+    requires { length by_array.now ≡ length spans.now }
+    ensures { let keys = keys_of text.now by_array.now spans.now in IsLastOf array keys (length keys) result }
+{
+    by_array.latest(array)
+}
+
+/// The nearest earlier entry of the same array. The keys are read by the clauses alone.
+fn earlier_of(text: &[u8], spans: &[KeyRange], by_array: &Chains, number: usize) -> Option<usize>
+    requires sizes { length by_array.now ≡ length spans.now }
+    requires there { number < length (keys_of text.now by_array.now spans.now) }
+    ensures { let keys = keys_of text.now by_array.now spans.now in (entry : ArrayKey) → slice_get keys number ≡ Some entry → IsLastOf entry.array keys number result }
+{
+    by_array.earlier(number)
+}

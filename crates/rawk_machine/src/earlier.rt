@@ -1,0 +1,111 @@
+//! What stood in the parts before the last move.
+
+ghost use Rattle.std.specs.Prelude.{◌≡◌, ◌∷◌, ◌<◌, ◌-◌, List, Some, length, slice_get, option_copied, option_map};
+ghost use Rattle.rawk_value.specs.declared.value.Value.{Value};
+ghost use Rattle.rawk_record.specs.FieldRefs.{ref_value};
+ghost use Rattle.rawk_record.specs.Shown.{Shown, record_back};
+ghost use Rattle.rawk_store.specs.Back.{back};
+ghost use Rattle.rawk_machine.specs.Kept.{globals_forth, record_forth};
+ghost use Rattle.rawk_machine.specs.Standing.{Seen};
+
+use crate::last_move::LastMove;
+use crate::machine::Machine;
+use rawk_store::{FieldRef, Group, Keeper, Record, led_to};
+use rawk_tape::Source;
+use rawk_value::Value;
+
+/// A global's value where groups lead, from its value now; for a number of a global.
+fn led_through<'a>(groups: &'a [Group], now: Option<&'a Value>, number: usize) -> Option<&'a Value>
+    ensures { (xs : List Value) → number < length xs → slice_get xs number ≡ option_copied now.entry → slice_get (globals_forth xs groups.now) number ≡ option_copied result }
+{
+    let mut value = now;
+    for group in groups {
+        value = led_to(&group.globals, value, number);
+    }
+    value
+}
+
+/// The record where groups lead, if it is another one than now.
+fn record_through(groups: &[Group]) -> Option<&Record>
+    ensures { (s : Shown) → record_forth s groups.now ≡ record_back s (option_copied result) }
+{
+    let mut record = None;
+    for group in groups {
+        if let Some(earlier) = &group.current {
+            record = Some(earlier);
+        }
+    }
+    record
+}
+
+impl<R: Source + Drop, K: Keeper> Machine<R, K> {
+    /// A global's value as it was before the last move, if it is known: after an `advance` under a keeper that keeps, or a `retreat`, until something
+    /// is set or taken back. `None` for a number that no global has. It takes no memory, and looks at the places that the move changed.
+    pub fn earlier_global(&self, number: usize) -> Option<&Value>
+        ensures { (s : Seen) → self.now.before ≡ Some s → option_copied result ≡ slice_get s.globals number }
+    {
+        let now = self.store.globals.value(number);
+        if self.store.globals.len() <= number {
+            return now;
+        }
+        match &self.last {
+            LastMove::Nothing => now,
+            LastMove::On => match self.keeper.newest() {
+                Some(item) => led_to(&item.step.globals, now, number),
+                None => now,
+            },
+            LastMove::Back(item) => {
+                led_through(&item.sets, led_to(&item.step.globals, now, number), number)
+            }
+        }
+    }
+
+    /// The record as it was before the last move, if it is known and another one than now.
+    fn earlier_record(&self) -> Option<&Record>
+        ensures text { (s : Seen) → self.now.before ≡ Some s → s.whole ≡ (record_back (record { text = self.now.state.whole; fields = self.now.state.fields }) (option_copied result)).text }
+        ensures fields { (s : Seen) → self.now.before ≡ Some s → s.fields ≡ (record_back (record { text = self.now.state.whole; fields = self.now.state.fields }) (option_copied result)).fields }
+    {
+        match &self.last {
+            LastMove::Nothing => None,
+            LastMove::On => match self.keeper.newest() {
+                Some(item) => item.step.current.as_ref(),
+                None => None,
+            },
+            LastMove::Back(item) => match record_through(&item.sets) {
+                Some(record) => Some(record),
+                None => item.step.current.as_ref(),
+            },
+        }
+    }
+
+    /// `$0` as it was before the last move, if it is known (see `earlier_global`).
+    pub fn earlier_text(&self) -> &[u8]
+        ensures { (s : Seen) → self.now.before ≡ Some s → result.now ≡ s.whole }
+    {
+        match self.earlier_record() {
+            Some(record) => record.text(),
+            None => self.store.current.text(),
+        }
+    }
+
+    /// NF as it was before the last move, if it is known (see `earlier_global`).
+    pub fn earlier_field_count(&self) -> usize
+        ensures { (s : Seen) → self.now.before ≡ Some s → result ≡ length s.fields }
+    {
+        match self.earlier_record() {
+            Some(record) => record.field_count(),
+            None => self.store.current.field_count(),
+        }
+    }
+
+    /// A field, counted from 1, as it was before the last move, if it is known (see `earlier_global`); `None` past the last.
+    pub fn earlier_field(&self, number: usize) -> Option<FieldRef<'_>>
+        requires { 0 < number }
+        ensures { (s : Seen) → self.now.before ≡ Some s → option_map ref_value result ≡ slice_get s.fields (number - 1) }
+    {
+        match self.earlier_record() {
+            Some(record) => record.field(number),
+            None => self.store.current.field(number),
+        }
+    }
+}

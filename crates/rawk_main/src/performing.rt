@@ -1,0 +1,188 @@
+//! The program from its words to its status.
+
+use rawk::{Cause, Invocation, Report, S, StdSink, StdSource, Text, debug_from, run, settings_of};
+use rawk_limits::PROGRAM_BYTES;
+use std::alloc::{AllocError, Global};
+use std::env::Env;
+use std::fs::OpenFile;
+use std::io::{BufWriter, ErrorKind, Input, Read, Write};
+use std::rt::Files;
+use std::{env, fs, io};
+
+/// The size of the buffer before the standard output, in bytes.
+const OUTPUT_BUFFER: usize = 65_536;
+
+/// The most bytes of a program that are read: one more than a program may have.
+const READ_BYTES: u64 = PROGRAM_BYTES as u64 + 1;
+
+/// The status of a refusal or a fault.
+const REFUSED: u8 = 2;
+
+/// The input: a file, or the standard input.
+#[derive(Drop)]
+enum InputReader<F, I> {
+    File(F),
+    Standard(I),
+}
+
+impl<F: Read, I: Read> Read for InputReader<F, I> {
+    fn read(&mut self, buf: &mut [u8]) -> io::Result<usize> {
+        match self {
+            InputReader::File(file) => file.read(buf),
+            InputReader::Standard(standard) => standard.read(buf),
+        }
+    }
+}
+
+/// Does what the words of the command line ask for, and answers the status of the process. Where the standard output is
+/// a terminal, or commands come from the standard input, each step's output or each answer appears before the next one; else it
+/// is held back up to 64 KiB.
+pub fn perform<R: Env + Files + AllocGlobal + Input + Print + Eprint>(
+    rt: &R,
+    is_terminal: bool,
+) -> u8 {
+    match invocation(rt) {
+        Ok(invocation) => {
+            let at_once = is_terminal || invocation.commands == Some(Text::StandardInput);
+            let room = if at_once { 0 } else { OUTPUT_BUFFER };
+            match run_invocation(rt, &invocation, room) {
+                Ok(status) => status,
+                Err(refusal) => refused(rt, &refusal),
+            }
+        }
+        Err(refusal) => refused(rt, &refusal),
+    }
+}
+
+/// Tells a refusal, or shows the help, and answers the status.
+fn refused<R: Print + Eprint>(rt: &R, refusal: &S) -> u8 {
+    match refusal {
+        S::Help(text) => match rt.print(text.as_str()) {
+            Ok(()) => 0,
+            Err(_) => write_failed(rt),
+        },
+        S::CommandLine(text) => {
+            let _ = rt.eprint(text.as_str());
+            REFUSED
+        }
+        _ => {
+            let _ = rt.eprintln(refusal);
+            REFUSED
+        }
+    }
+}
+
+/// Tells that the output could not be written, and answers the status.
+fn write_failed<R: Eprint>(rt: &R) -> u8 {
+    let _ = rt.eprintln("rawk: write failed");
+    REFUSED
+}
+
+/// What the words ask for.
+fn invocation<R: Env + AllocGlobal>(rt: &R) -> Result<Invocation, S> {
+    let alloc = rt.alloc();
+    match env::args(rt) {
+        Ok(args) => {
+            let words: Vec<String> = args.skip(1).collect(alloc)?;
+            settings_of(alloc, words.as_slice())
+        }
+        Err(error) if error.kind() == ErrorKind::OutOfMemory => Err(S::Memory(AllocError)),
+        Err(_) => Err(not_text(alloc)),
+    }
+}
+
+/// The refusal of words that are no text.
+fn not_text(alloc: Global) -> S {
+    match "error: an argument is not UTF-8 text\n".to_string(alloc) {
+        Ok(text) => S::CommandLine(text),
+        Err(error) => S::Memory(error),
+    }
+}
+
+/// Runs, or holds a session, and answers the status.
+fn run_invocation<R: Files + AllocGlobal + Input + Print + Eprint>(
+    rt: &R,
+    invocation: &Invocation,
+    room: usize,
+) -> Result<u8, S> {
+    let alloc = rt.alloc();
+    let program = bytes_of(rt, &invocation.program)?;
+    let commands = match &invocation.commands {
+        Some(text) => Some(input_of(rt, text)?),
+        None => None,
+    };
+    let input = input_of(rt, &invocation.input)?;
+    let Ok(mut buffer) = BufWriter::with_capacity(alloc, room, io::writer(rt)) else {
+        return Err(S::Memory(AllocError));
+    };
+    let report = match commands {
+        Some(commands) => debug_from(
+            alloc,
+            &invocation.settings,
+            program.as_slice(),
+            StdSource::new(input),
+            StdSource::new(commands),
+            &mut StdSink::new(&mut buffer),
+            invocation.steps,
+            invocation.history,
+        ),
+        None => run(
+            alloc,
+            &invocation.settings,
+            program.as_slice(),
+            StdSource::new(input),
+            &mut StdSink::new(&mut buffer),
+            invocation.steps,
+        ),
+    };
+    if buffer.flush().is_err() {
+        return Ok(write_failed(rt));
+    }
+    Ok(reported(rt, &report))
+}
+
+/// Tells how a run went, and answers the status.
+fn reported<R: Eprint>(rt: &R, report: &Report) -> u8 {
+    if report.cause != Cause::Ended {
+        let _ = rt.eprintln(report);
+    }
+    report.status
+}
+
+/// The bytes of a program.
+fn bytes_of<R: Files + AllocGlobal + Input>(rt: &R, text: &Text) -> Result<Vec<u8>, S> {
+    let mut bytes = Vec::new(rt.alloc());
+    let read = match text {
+        Text::Bytes(given) => {
+            bytes.extend_from_slice(given.as_slice())?;
+            return Ok(bytes);
+        }
+        Text::Path(path) => match fs::open(rt, path.as_str()) {
+            Ok(file) => file.take(READ_BYTES).read_to_end(&mut bytes),
+            Err(_) => return Err(S::CannotRead),
+        },
+        Text::StandardInput => rt.reader().take(READ_BYTES).read_to_end(&mut bytes),
+    };
+    match read {
+        Ok(_) => Ok(bytes),
+        Err(error) if error.kind() == ErrorKind::OutOfMemory => Err(S::Memory(AllocError)),
+        Err(_) => Err(S::CannotRead),
+    }
+}
+
+/// What the input is read from.
+fn input_of<R: Files + AllocGlobal + Input>(
+    rt: &R,
+    text: &Text,
+) -> Result<InputReader<R::File, R::Reader>, S> {
+    let Text::Path(path) = text else {
+        return Ok(InputReader::Standard(rt.reader()));
+    };
+    let Ok(file) = fs::open(rt, path.as_str()) else {
+        return Err(S::CannotRead);
+    };
+    match file.metadata() {
+        Ok(metadata) if !metadata.is_dir() => Ok(InputReader::File(file)),
+        _ => Err(S::CannotRead),
+    }
+}

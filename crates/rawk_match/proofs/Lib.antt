@@ -1,8 +1,0 @@
-pub mod SearchLemmas
-pub mod SetLemmas
-pub mod ShortLemmas
-pub mod TokenLemmas
-pub mod TreeLemmas
-pub mod ExpressionLemmas
-pub mod CutLemmas
-pub mod CutsLemmas

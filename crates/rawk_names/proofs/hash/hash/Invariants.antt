@@ -1,7 +1,0 @@
-use Rattle.std.proofs.Common.{◌≡◌, take}
-use Rattle.std.specs.List.{fold}
-use Rattle.rawk_names.specs.Hash.{mixed}
-use Rattle.rawk_names.proofs.hash.hash.Given as goal
-
-abbrev pub invariant-loop-byte : goal.invariant-loop-byte
-invariant-loop-byte l = l.hash ≡ fold mixed (mixed 14695981039346656037 l.array) (take l.byte-index l.key)

@@ -1,0 +1,160 @@
+//! The options and operands (POSIX awk, Options and Operands).
+ghost use Rattle.std.specs.Prelude.{◌≤◌, ◌≡◌, ◌≢◌, ◌⊎◌, ◌↔◌, Some, IfOk, IfSome, IsTrue, None, is_some, true, false};
+
+use crate::help::{SESSION_HELP, VERSION};
+use crate::invocation::{Invocation, MAX_HISTORY, MAX_STEPS, S, SESSION_STEPS, Text};
+use clap::builder::ValueRange;
+use clap::error::ErrorKind;
+use clap::{Arg, ArgAction, ArgMatches, Command, value_parser};
+use rawk_code::Settings;
+use std::alloc::{AllocError, Global};
+
+/// What the words after the program's name ask for.
+///
+/// The order of refusals: S3 for words that the options do not take, then S2 for operands that are too few, too many
+/// or `NAME=..` in the place of the file, and for the standard input as the commands and the input both. S5 where memory
+/// is refused. `--help` and `--version` answer `S::Help` with their text.
+pub fn settings_of(alloc: Global, words: &[String]) -> Result<Invocation, S> {
+    let mut given: Vec<&str> = Vec::new(alloc);
+    for word in words {
+        given.push(word.as_str())?;
+    }
+    match command(alloc)?.try_get_matches_from(given.as_slice()) {
+        Ok(matches) => invocation_of(alloc, &matches),
+        Err(error) => Err(refusal_of(alloc, &error)),
+    }
+}
+
+/// The refusal that an error of the reader of command lines stands for.
+fn refusal_of(alloc: Global, error: &clap::Error) -> S {
+    if error.kind() == ErrorKind::OutOfMemory {
+        return S::Memory(AllocError);
+    }
+    match format!(in alloc; "{error}") {
+        Ok(text) if is_asked_for(error.kind()) => S::Help(text),
+        Ok(text) => S::CommandLine(text),
+        Err(error) => S::Memory(error),
+    }
+}
+
+/// Whether the text is what the words asked for, and no refusal.
+fn is_asked_for(kind: ErrorKind) -> bool
+    ensures { IsTrue result ↔ (kind ≡ ErrorKind.DisplayHelp) ⊎ (kind ≡ ErrorKind.DisplayVersion) }
+{
+    matches!(kind, ErrorKind::DisplayHelp | ErrorKind::DisplayVersion)
+}
+
+/// The options and operands. The value of an option may begin with `-`.
+fn command<'a>(alloc: Global) -> Result<Command<'a>, AllocError> {
+    let debug = Arg::new(alloc, "debug")
+        .long("debug")
+        .value_name("COMMANDS")
+        .help("Debug PROGRAM by the commands of this file; - (the standard input) needs a FILE")
+        .allow_hyphen_values(true);
+    let steps = Arg::new(alloc, "steps")
+        .long("steps")
+        .value_name("N")
+        .help("End PROGRAM after N steps (default 9223372036854775807; with --debug 1000000)")
+        .value_parser(value_parser!(u64).range(0..=i64::MAX))
+        .allow_hyphen_values(true);
+    let history = Arg::new(alloc, "history")
+        .long("history")
+        .value_name("H")
+        .help("With --debug, keep the last H steps, 1 to 1000000, to go back over (default all)")
+        .value_parser(value_parser!(u64).range(1..=1_000_000))
+        .allow_hyphen_values(true);
+    let operands = Arg::new(alloc, "operands")
+        .value_name("OPERAND")
+        .help("PROGRAM, the text of a program, and FILE, its input (default the standard input)")
+        .num_args(ValueRange::new(0..))
+        .action(ArgAction::Append);
+    Command::new(alloc, "rawk")
+        .version(VERSION)
+        .no_binary_name(true)
+        .override_usage("rawk [OPTIONS] PROGRAM [FILE]")
+        .after_help(SESSION_HELP)
+        .arg(debug)?
+        .arg(steps)?
+        .arg(history)?
+        .arg(operands)
+}
+
+/// What the matches ask for.
+fn invocation_of(alloc: Global, matches: &ArgMatches<'_>) -> Result<Invocation, S> {
+    let (program, rest) = match matches.get_strs("operands").unwrap_or(&[]) {
+        [] => return Err(S::BadOperands),
+        [program, rest @ ..] => (Text::Bytes(program.as_bytes().to_vec(alloc)?), rest),
+    };
+    let input = match rest {
+        [] | ["-"] => Text::StandardInput,
+        [path] if !is_assignment(path) => Text::Path(path.to_string(alloc)?),
+        _ => return Err(S::BadOperands),
+    };
+    let commands = commands_of(alloc, matches.get_str("debug"), &input)?;
+    let steps = steps_of(matches.get_one::<u64>("steps"), commands.is_some());
+    Ok(Invocation {
+        settings: Settings::new(alloc),
+        program,
+        input,
+        commands,
+        steps,
+        history: history_of(matches.get_one::<u64>("history")),
+    })
+}
+
+/// The commands that the value of `--debug` names, beside this input: S2 where both were the standard input.
+fn commands_of(alloc: Global, value: Option<&str>, input: &Text) -> Result<Option<Text>, S>
+    ensures read_once { IfOk result (λ commands. commands ≡ Some Text.StandardInput → input.now ≢ Text.StandardInput) }
+    ensures session { IfOk result (λ commands. is_some commands ≡ is_some value.entry) }
+{
+    match (value, input) {
+        (None, _) => Ok(None),
+        (Some("-"), Text::StandardInput) => Err(S::BadOperands),
+        (Some("-"), _) => Ok(Some(Text::StandardInput)),
+        (Some(path), _) => Ok(Some(Text::Path(path.to_string(alloc)?))),
+    }
+}
+
+/// The number of steps: the value of `--steps`, else the greatest in a run, and a million in a session.
+fn steps_of(value: Option<u64>, is_session: bool) -> u64
+    ensures in_range { result ≤ 9223372036854775807 }
+    ensures given { IfSome value (λ n. n ≤ 9223372036854775807 → result ≡ n) }
+    ensures run { value ≡ None → is_session ≡ false → result ≡ 9223372036854775807 }
+    ensures session { value ≡ None → is_session ≡ true → result ≡ 1000000 }
+{
+    match value {
+        Some(steps) => steps.min(MAX_STEPS),
+        None if is_session => SESSION_STEPS,
+        None => MAX_STEPS,
+    }
+}
+
+/// The number of steps that a session keeps: the value of `--history`.
+fn history_of(value: Option<u64>) -> Option<u64>
+    ensures in_range { IfSome result (λ h. (1 ≤ h) × (h ≤ 1000000)) }
+    ensures none { value ≡ None → result ≡ None }
+    ensures given { IfSome value (λ h. 1 ≤ h → h ≤ 1000000 → result ≡ Some h) }
+{
+    match value {
+        Some(steps) => Some(steps.clamp(1, MAX_HISTORY)),
+        None => None,
+    }
+}
+
+/// Whether an operand has the form `NAME=..`.
+fn is_assignment(operand: &str) -> bool {
+    match operand.split_once('=') {
+        Some((name, _)) => is_name(name.as_bytes()),
+        None => false,
+    }
+}
+
+/// Whether the text is a name of the language.
+fn is_name(text: &[u8]) -> bool {
+    match text {
+        [first, ..] => {
+            !first.is_ascii_digit() && text.iter().all(|b| b.is_ascii_alphanumeric() || *b == b'_')
+        }
+        [] => false,
+    }
+}

@@ -1,5 +1,0 @@
-use Rattle.rawk_ring.proofs.Lasts.{IsFront-last}
-use Rattle.rawk_ring.proofs.RingKeeper.keep.Goals as goal
-
-pub returns-clause-front : goal.returns-clause-front
-returns-clause-front c = rw c.push_back-oldest.ensures.items (IsFront-last c.args.self.now.items.capacity c.args.self.now.items.items c.args.item)

@@ -1,0 +1,9 @@
+pub mod Matches
+pub mod Expressions
+pub mod Replacements
+pub mod Repeats
+pub mod EndsOf
+pub mod Spans
+pub mod Found
+pub mod CutsOf
+pub mod Laws

@@ -1,0 +1,33 @@
+use Rattle.std.proofs.Common.{rules, arith}
+use Rattle.std.proofs.lemmas.Grind.{common_steps}
+use Rattle.rawk_syntax.specs.Statement.{list, list_from}
+use Rattle.rawk_syntax.proofs.Turns.{one_more, no_more}
+use Rattle.rawk_syntax.proofs.programs.list.Goals as goal
+
+pub loop-turn-init : goal.loop-turn-init
+unfolding list
+loop-turn-init c = first_of (search rules, grind (arith, common_steps))
+
+pub returns-in_err-expression : goal.returns-in_err-expression
+unfolding list_from
+returns-in_err-expression c =
+    let e = one_more (λ n. list_from c.args.depth n c.loop-turn.found c.loop-turn.tokens) _ c.loop-turn._turn c.loop-turn-test.true c.loop-turn.invariant in
+    first_of (search rules, grind (arith, common_steps))
+
+pub returns-then-not-eat : goal.returns-then-not-eat
+unfolding list_from
+returns-then-not-eat c =
+    let e = one_more (λ n. list_from c.args.depth n c.loop-turn.found c.loop-turn.tokens) _ c.loop-turn._turn c.loop-turn-test.true c.loop-turn.invariant in
+    first_of (search rules, grind (arith, common_steps))
+
+pub loop-turn-preserved : goal.loop-turn-preserved
+unfolding list_from
+loop-turn-preserved c =
+    let e = one_more (λ n. list_from c.args.depth n c.loop-turn.found c.loop-turn.tokens) _ c.loop-turn._turn c.loop-turn-test.true c.loop-turn.invariant in
+    first_of (search rules, grind (arith, common_steps))
+
+pub returns : goal.returns
+unfolding list_from
+returns c =
+    let e = no_more (λ n. list_from c.args.depth n c.loop-turn.found c.loop-turn.tokens) _ c.loop-turn._turn c.loop-turn-test.false c.loop-turn.invariant in
+    first_of (search rules, grind (arith, common_steps))

@@ -1,0 +1,20 @@
+//! Where an instruction leads.
+
+use rawk_store::registers::Ending;
+
+/// Where an instruction leads.
+#[derive(Clone, Copy, Debug)]
+pub enum Transfer {
+    /// to the next instruction
+    Next,
+    /// past so many instructions behind the next
+    Skip(usize),
+    /// to a place
+    To(usize),
+    /// to the end of the run
+    Over(Ending),
+    /// to a point with this site, which is still to be entered
+    Point(Option<usize>),
+    /// to a record that is still to be read; past so many instructions where there is none
+    Read(usize),
+}

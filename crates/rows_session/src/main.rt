@@ -1,0 +1,165 @@
+//! Cases of what is asked for: lines of a session, words of a command line, and how a session shows places and values.
+//!
+//! `command`, a line: the command that it is, its refusal, or nothing. `words`, words: the program, the input, the session and the
+//! limits that they ask for, or the first line of their refusal. `help`, options: whether the help names each. `shows number`,
+//! `shows value`, `shows held` and `shows element`, and what is shown.
+#![tactic(auto)]
+
+use rawk_commands::{
+    Command, Constant, Place, Spot, push_element, push_held, push_number, push_place, push_shown,
+    push_value,
+};
+use rawk_options::{Invocation, S, Text, settings_of};
+use rows_cases::{number_of, value_of};
+use std::alloc::{AllocError, Global};
+use std::io;
+
+fn main(rt: HostRuntime) -> io::Result<()> {
+    rows_cases::judge(&rt, outcome)
+}
+
+/// What a case answers.
+fn outcome(alloc: Global, parts: &[&[u8]]) -> Result<Vec<u8>, AllocError> {
+    match parts {
+        [b"command", line] => command_of(alloc, line),
+        [b"words", words @ ..] => words_of(alloc, words),
+        [b"help", options @ ..] => help_of(alloc, options),
+        [b"shows number", number] => {
+            let mut out = Vec::new(alloc);
+            push_number(&mut out, number_of(number).unwrap_or(0) as u64)?;
+            Ok(out)
+        }
+        [b"shows value", value] => shown(alloc, value, false),
+        [b"shows held", value] => shown(alloc, value, true),
+        [b"shows element", name, key] => {
+            let mut out = Vec::new(alloc);
+            push_element(&mut out, name, key)?;
+            Ok(out)
+        }
+        _ => Vec::from_slice(alloc, b"not a case"),
+    }
+}
+
+/// A value as a session shows it; or what an array has, of `nothing` nothing.
+fn shown(alloc: Global, part: &[u8], is_held: bool) -> Result<Vec<u8>, AllocError> {
+    let value = value_of(alloc, part)?;
+    let mut out = Vec::new(alloc);
+    match &value {
+        Some(value) if !is_held => push_value(&mut out, value)?,
+        value => push_held(&mut out, value.as_ref())?,
+    }
+    Ok(out)
+}
+
+/// What a line asks for.
+fn command_of(alloc: Global, line: &[u8]) -> Result<Vec<u8>, AllocError> {
+    let mut out = Vec::new(alloc);
+    match Command::read(alloc, line) {
+        Ok(None) => {}
+        Ok(Some(command)) => push_command(alloc, &mut out, &command)?,
+        Err(refusal) => out.extend_from_slice(refusal.line().trim_end().as_bytes())?,
+    }
+    Ok(out)
+}
+
+/// Adds a command.
+fn push_command(alloc: Global, out: &mut Vec<u8>, command: &Command) -> Result<(), AllocError> {
+    match command {
+        Command::Break(Spot::Line(line)) => push(out, format!(in alloc; "break at line {line}")?),
+        Command::Break(Spot::Function(name)) => {
+            out.extend_from_slice(b"break at function ")?;
+            out.extend_from_slice(name.as_slice())
+        }
+        Command::Watch(place) => push_with(out, "watch ", place),
+        Command::Print(place) => push_with(out, "print ", place),
+        Command::Set(place, constant) => {
+            push_with(out, "set ", place)?;
+            out.extend_from_slice(b" to ")?;
+            match constant {
+                Constant::Number(number) => push(out, format!(in alloc; "{number}")?),
+                Constant::Text(text) => push_shown(out, text.as_slice()),
+            }
+        }
+        Command::Delete(number) => push(out, format!(in alloc; "delete {number}")?),
+        Command::Unwatch(number) => push(out, format!(in alloc; "unwatch {number}")?),
+        Command::Move(way, goal) => push(out, format!(in alloc; "move {way:?} to {goal:?}")?),
+        Command::Run => out.extend_from_slice(b"run"),
+        Command::ReverseSet => out.extend_from_slice(b"reverse-set"),
+        Command::Backtrace => out.extend_from_slice(b"backtrace"),
+        Command::Quit => out.extend_from_slice(b"quit"),
+    }
+}
+
+/// Adds a text.
+fn push(out: &mut Vec<u8>, text: String) -> Result<(), AllocError> {
+    out.extend_from_slice(text.as_bytes())
+}
+
+/// Adds a word and a place.
+fn push_with(out: &mut Vec<u8>, word: &str, place: &Place) -> Result<(), AllocError> {
+    out.extend_from_slice(word.as_bytes())?;
+    push_place(out, place)
+}
+
+/// The texts of words.
+fn texts(alloc: Global, words: &[&[u8]]) -> Result<Vec<String>, AllocError> {
+    let mut texts = Vec::new(alloc);
+    for word in words {
+        texts.push(str::from_utf8(word).unwrap_or("?").to_string(alloc)?)?;
+    }
+    Ok(texts)
+}
+
+/// What words ask for, or the first line of their refusal.
+fn words_of(alloc: Global, words: &[&[u8]]) -> Result<Vec<u8>, AllocError> {
+    let words = texts(alloc, words)?;
+    let text = match settings_of(alloc, words.as_slice()) {
+        Ok(asked) => invocation_text(alloc, &asked)?,
+        Err(refusal) => {
+            let text = format!(in alloc; "{refusal}")?;
+            text.as_str().lines().next().unwrap_or("").to_string(alloc)?
+        }
+    };
+    Ok(text.into_bytes())
+}
+
+/// The name of a place of bytes, or the bytes.
+fn name_of(text: &Text) -> &str {
+    match text {
+        Text::Bytes(bytes) => str::from_utf8(bytes.as_slice()).unwrap_or("?"),
+        Text::Path(path) => path.as_str(),
+        Text::StandardInput => "-",
+    }
+}
+
+/// An invocation in one line.
+fn invocation_text(alloc: Global, asked: &Invocation) -> Result<String, AllocError> {
+    let program = name_of(&asked.program);
+    let input = name_of(&asked.input);
+    let steps = asked.steps;
+    let mut text = format!(in alloc; "program {program}, input {input}")?;
+    if let Some(commands) = &asked.commands {
+        let commands = name_of(commands);
+        text.push_str(format!(in alloc; ", commands {commands}")?.as_str())?;
+    }
+    text.push_str(format!(in alloc; ", {steps} steps")?.as_str())?;
+    if let Some(history) = asked.history {
+        text.push_str(format!(in alloc; ", history {history}")?.as_str())?;
+    }
+    Ok(text)
+}
+
+/// Whether the help names each option.
+fn help_of(alloc: Global, options: &[&[u8]]) -> Result<Vec<u8>, AllocError> {
+    let help = texts(alloc, &[b"--help"])?;
+    let Err(S::Help(text)) = settings_of(alloc, help.as_slice()) else {
+        return Vec::from_slice(alloc, b"no help");
+    };
+    for option in &texts(alloc, options)? {
+        if !text.as_str().contains(option.as_str()) {
+            let missing = format!(in alloc; "{option} is not named")?;
+            return Ok(missing.into_bytes());
+        }
+    }
+    Vec::from_slice(alloc, b"each is named")
+}
