@@ -1,6 +1,5 @@
 -- What is reported of a session, of any text, first values, source, commands and sink.
 use Rattle.std.specs.Prelude.{◌≡◌, ℕ, ◌≤◌, ◌++◌, true, false, List, [], Option}
-use Rattle.std.specs.Option.{ForSome}
 use Rattle.rawk_value.specs.Values.{Bytes}
 use Rattle.rawk_tape.specs.Records.{Input}
 use Rattle.rawk_syntax.specs.declared.tree.Program.{Program}
@@ -17,10 +16,6 @@ use Rattle.rawk.specs.declared.report.Report.{Report}
 use Rattle.rawk.specs.declared.report.Cause.TheVariants as cause
 use Rattle.rawk.specs.Reports.{stopped_by, refused_by}
 use Rattle.rawk.specs.Preparing.{IsRefusedText}
-
--- how many steps a session may keep, where there is a limit
-abbrev pub IsHistory : Option ℕ → Type 0
-IsHistory history = ForSome history (λ h. (1 ≤ h) × (h ≤ 1000000))
 
 -- a machine before its first command: at point 0, with no sets
 abbrev pub first_position : Program → List FirstValue → ℕ → Option ℕ → Position

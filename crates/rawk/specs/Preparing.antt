@@ -1,5 +1,6 @@
 -- A program that is ready to run, or what is reported where none is.
 use Rattle.std.specs.Prelude.{◌≡◌, ◌≤◌, true, false, List, length}
+use Rattle.rawk_limits.specs.declared.TheConstants.{PROGRAM_BYTES}
 use Rattle.rawk_value.specs.Values.{Bytes}
 use Rattle.rawk_value.specs.declared.fault.Fault.TheVariants as fault
 use Rattle.rawk_syntax.specs.declared.draft.Item.{Item}
@@ -23,7 +24,7 @@ pub record IsReady (text : Bytes) (settings : List FirstValue) (p : Program) (co
 
 -- a text is refused; one that has a tree by the grammar, within the limits, is refused for want of memory alone
 abbrev pub IsRefusedText : Bytes → Refusal → Type 0
-IsRefusedText text refusal = (items : List Item) → length text ≤ 1048576 → IsText text items → refusal.kind ≡ OutOfMemory
+IsRefusedText text refusal = (items : List Item) → length text ≤ PROGRAM_BYTES → IsText text items → refusal.kind ≡ OutOfMemory
 
 -- what is reported where nothing runs
 pub data IsRefused (text : Bytes) (settings : List FirstValue) : Report → Type 0 where

@@ -9,7 +9,8 @@ ghost use Rattle.rawk_machine.specs.Standing.{MayCome};
 ghost use Rattle.rawk_inferior.specs.Staged.{position_of};
 ghost use Rattle.rawk.specs.Reports.{write_failures};
 ghost use Rattle.rawk.specs.Dialogs.{IsHeld, report_over};
-ghost use Rattle.rawk.specs.Debugs.{Debugs, IsHistory, asks_all, first_position, first_stand, stand_at};
+ghost use Rattle.rawk_limits.specs.History.{IsHistory};
+ghost use Rattle.rawk.specs.Debugs.{Debugs, asks_all, first_position, first_stand, stand_at};
 
 use crate::dialog::{Over, hold};
 use crate::preparing::{Prepared, prepare};

@@ -21,7 +21,7 @@ use Rattle.rawk_code.specs.declared.code.Operand.{Operand}
 use Rattle.rawk_code.specs.declared.code.Instr.{Instr}
 use Rattle.rawk_code.specs.declared.code.Instr.TheVariants as instr
 use Rattle.rawk_code.specs.Trace.{reads}
-use Rattle.rawk_code.specs.Code.{simple_field, simple_of, operand_of, unless_simple, pushed, joined, assign_code, expr_code, place_code, link_code, link_codes, front_of, simples_behind, Piece, nowhere, always, in_turn, when_code, stmt_code, stmt_codes, guard_code, rule_code, records_code, main_code, begin_code, end_at_of, program_code, HasAt}
+use Rattle.rawk_code.specs.Code.{simple_field, simple_of, operand_of, unless_simple, pushed, joined, assign_code, store_code, expr_code, effect_code, place_code, link_code, link_codes, front_of, simples_behind, Piece, nowhere, always, in_turn, when_code, stmt_code, stmt_codes, guard_code, rule_code, records_code, main_code, begin_code, end_at_of, program_code, HasAt}
 use Rattle.rawk_code.specs.Valid.{rank_of, rank, Descends, IsValid}
 use Rattle.rawk_code.proofs.Runs.{has_front, has_back, has_all}
 
@@ -105,6 +105,19 @@ module _ (code : List Instr) where
     links_fine end_of-Link = tt
     links_fine (more_of-Link l rest) = (link_fine l, links_fine rest)
 
+  store_fine : (t : Place) (instruction : ℕ → Operand → Instr) (o : Option Simple) (c : List Instr) → ((x : ℕ) (from : Operand) (pc : ℕ) → BackAt pc (instruction x from)) → Fine c → Fine (store_code t instruction o c)
+  store_fine (place.Global x) instruction o c h f = fine_last (unless_simple o c) (instruction x (operand_of o)) (h x (operand_of o)) (unless_fine o c f)
+  store_fine place.FieldCount instruction o c h f = fine_last c instr.Pop (λ pc. tt) f
+  store_fine (place.Field' p e) instruction o c h f = fine_last c instr.Pop (λ pc. tt) f
+
+  effect_fine : (e : Expr) → Fine (effect_code e)
+  effect_fine (expr.Number n) = fine_last _ instr.Pop (λ pc. tt) (expr_fine (expr.Number n))
+  effect_fine (expr.Text text) = fine_last _ instr.Pop (λ pc. tt) (expr_fine (expr.Text text))
+  effect_fine (expr.Read p) = fine_last _ instr.Pop (λ pc. tt) (expr_fine (expr.Read p))
+  effect_fine (expr.Chain' p first shape more) = fine_last _ instr.Pop (λ pc. tt) (expr_fine (expr.Chain' p first shape more))
+  effect_fine (expr.Assign' t p e) = store_fine t instr.Store (simple_of e) (expr_code e) (λ x from pc. tt) (expr_fine e)
+  effect_fine (expr.Update' op t p e) = store_fine t (instr.StoreUpdate op) (simple_of e) (expr_code e) (λ x from pc. tt) (expr_fine e)
+
   list_fine : (es : List Expr) → AllFine (map expr_code es)
   list_fine [] = tt
   list_fine (e ∷ es) = (expr_fine e, list_fine es)
@@ -155,7 +168,7 @@ module _ (code : List Instr) where
 
   mutual
     stmt_fine : (s : Stmt) → FinePiece (stmt_code s)
-    stmt_fine (stmt.Do site e) = always_fine _ (fine_cons (instr.Point (Some site)) _ (λ pc. tt) (fine_last (expr_code e) instr.Pop (λ pc. tt) (expr_fine e)))
+    stmt_fine (stmt.Do site e) = always_fine _ (fine_cons (instr.Point (Some site)) _ (λ pc. tt) (effect_fine e))
     stmt_fine (stmt.Print site es) =
         always_fine _ (fine_cons (instr.Point (Some site)) _ (λ pc. tt) (fine_last (joined (map expr_code (front_of es.items))) (instr.Print (length (front_of es.items)) (simples_behind es.items)) (λ pc. tt) (joined_fine _ (list_fine (front_of es.items)))))
     stmt_fine (stmt.Block' shape all) = in_turn_fine (stmt_codes all) (stmts_fine all)
@@ -276,6 +289,8 @@ module _ (code : List Instr) where
   descends again pc (Some (instr.Combine op from)) h back = onward pc (instr.Combine op from) h refl (pc + 1) (omega arith)
   descends again pc (Some (instr.Assign x from)) h back = onward pc (instr.Assign x from) h refl (pc + 1) (omega arith)
   descends again pc (Some (instr.Update op x from)) h back = onward pc (instr.Update op x from) h refl (pc + 1) (omega arith)
+  descends again pc (Some (instr.Store x from)) h back = onward pc (instr.Store x from) h refl (pc + 1) (omega arith)
+  descends again pc (Some (instr.StoreUpdate op x from)) h back = onward pc (instr.StoreUpdate op x from) h refl (pc + 1) (omega arith)
   descends again pc (Some (instr.Print m simples)) h back = onward pc (instr.Print m simples) h refl (pc + 1) (omega arith)
   descends again pc (Some instr.BeginMain) h back = onward pc instr.BeginMain h refl (pc + 1) (omega arith)
   descends again pc (Some instr.BeginEnd) h back = onward pc instr.BeginEnd h refl (pc + 1) (omega arith)

@@ -27,7 +27,8 @@ use Rattle.rawk_commands.specs.declared.verb.Verb.TheVariants as verb
 use Rattle.rawk_commands.specs.Reading.{reading, asked_on, asked_by, or_bad_argument, command_of, spot_of, count_of, place_front, constant_of, setting, keyed, field_front}
 use Rattle.rawk_commands.specs.Texts.{IsPlace, shown_byte, shown_element, shown_place, shown_text}
 use Rattle.rawk_commands.specs.Lines.{line_of, word_of, written_constant, written_spot, IsCommand, IsConstant, IsSpot}
-use Rattle.rawk_commands.specs.Words.{verb_of, trimmed, without_front, is_blank, is_letter, is_name, is_word}
+use Rattle.rawk_lexer.specs.Name.{begins_name, has_name_form, is_in_name}
+use Rattle.rawk_commands.specs.Words.{verb_of, trimmed, without_front, is_blank}
 use Rattle.rawk_commands.proofs.Shown.{constant_shown}
 use Rattle.rawk_commands.proofs.ShownNumbers.{and_first, and_second, prefix_all, Writes, writes, number_written}
 use Rattle.rawk_commands.proofs.ShownPlaces.{letter_is_word, place_named, text_shown, number_shown, place_shown}
@@ -99,7 +100,7 @@ ends_all p solid b [] h = record { front = []; last = b; solid = solid b (and_fi
 ends_all p solid b (c ∷ bs) h =
     ends_behind (b ∷ []) (c ∷ bs) (ends_all p solid c bs (and_second (p b) (list_all p (c ∷ bs)) h))
 
-word_solid : (b : ℕ) → is_word b ≡ true → is_blank b ≡ false
+word_solid : (b : ℕ) → is_in_name b ≡ true → is_blank b ≡ false
 word_solid b h = grind (arith, nat_tests)
 
 digit_solid : (b : ℕ) → is_ascii_digit b ≡ true → is_blank b ≡ false
@@ -107,19 +108,19 @@ digit_solid b h = grind (arith, nat_tests)
 
 -- ---- names and numbers
 
-name_begins : (name : Bytes) → is_name name ≡ true → Begins name
+name_begins : (name : Bytes) → has_name_form name ≡ true → Begins name
 name_begins [] h = cc
 name_begins (b ∷ bs) h =
-    let letter = and_first (is_letter b) (list_all is_word bs) h in
+    let letter = and_first (begins_name b) (list_all is_in_name bs) h in
     record { first = b; rest = bs; solid = word_solid b (letter_is_word b letter); joined = refl }
 
-name_ends : (name : Bytes) → is_name name ≡ true → Ends name
+name_ends : (name : Bytes) → has_name_form name ≡ true → Ends name
 name_ends [] h = cc
 name_ends (b ∷ bs) h =
-    let letter = and_first (is_letter b) (list_all is_word bs) h in
-    let others = and_second (is_letter b) (list_all is_word bs) h in
-    let all : list_all is_word (b ∷ bs) ≡ true = rw (letter_is_word b letter, others) refl in
-    ends_all is_word word_solid b bs all
+    let letter = and_first (begins_name b) (list_all is_in_name bs) h in
+    let others = and_second (begins_name b) (list_all is_in_name bs) h in
+    let all : list_all is_in_name (b ∷ bs) ≡ true = rw (letter_is_word b letter, others) refl in
+    ends_all is_in_name word_solid b bs all
 
 digits_begin : (n : ℕ) (ds : Bytes) → Writes n ds → Begins ds
 digits_begin n [] w = let z = w.some in absurd (omega arith)
@@ -141,12 +142,12 @@ line_read line [] w h = let z = w.some in absurd (omega arith)
 line_read line (d ∷ ds) w h =
     chosen (is_ascii_digit d) _ _ (and_first (is_ascii_digit d) (list_all is_ascii_digit ds) w.digits) ∙ ap (option_map Line) (number_written (2 ^ 63) line (d ∷ ds) w h)
 
-letter_no_digit : (b : ℕ) → is_letter b ≡ true → is_ascii_digit b ≡ false
+letter_no_digit : (b : ℕ) → begins_name b ≡ true → is_ascii_digit b ≡ false
 letter_no_digit b h = grind (arith, nat_tests)
 
-function_read : (name : Bytes) → is_name name ≡ true → spot_of name ≡ Some (Function name)
+function_read : (name : Bytes) → has_name_form name ≡ true → spot_of name ≡ Some (Function name)
 function_read [] h = cc
-function_read (b ∷ bs) h = rw (letter_no_digit b (and_first (is_letter b) (list_all is_word bs) h), h) refl
+function_read (b ∷ bs) h = rw (letter_no_digit b (and_first (begins_name b) (list_all is_in_name bs) h), h) refl
 
 spot_read : (spot : Spot) → IsSpot spot → spot_of (written_spot spot) ≡ Some spot
 spot_read (Line line) h = line_read line (decimal line) (writes line (omega arith)) h

@@ -27,7 +27,8 @@ use Rattle.rawk_commands.specs.declared.verb.Verb.TheVariants as verb
 use Rattle.rawk_commands.specs.Lines.{IsCommand, IsConstant, IsSpot}
 use Rattle.rawk_commands.specs.Reading.{is_text, alone, asked_by, asked_on, assigned, command_of, constant_front, constant_of, count_of, ended, field_front, key_closed, key_of, keyed, named, number_below, number_front, number_of, number_size, or_bad_argument, place_front, place_of, reading, setting, spot_of, string_front, whole}
 use Rattle.rawk_commands.specs.Texts.{IsPlace}
-use Rattle.rawk_commands.specs.Words.{is_blank, is_letter, is_name, is_word, without_front, trimmed, verb_of}
+use Rattle.rawk_lexer.specs.Name.{begins_name, has_name_form, is_in_name}
+use Rattle.rawk_commands.specs.Words.{is_blank, without_front, trimmed, verb_of}
 use Rattle.rawk_commands.proofs.ShownNumbers.{and_first, and_second, writes}
 use Rattle.rawk_commands.proofs.ShownPlaces.{letter_is_word}
 
@@ -215,15 +216,15 @@ key_bytes (Text text) h = h
 
 -- ---- places
 
-key_found : (name : Bytes) (key : Constant) (rest : Bytes) → is_name name ≡ true → IsConstant key → AreBytes rest → IfSome (key_closed name key rest) PlaceFound
+key_found : (name : Bytes) (key : Constant) (rest : Bytes) → has_name_form name ≡ true → IsConstant key → AreBytes rest → IfSome (key_closed name key rest) PlaceFound
 key_found name key [] n k h = tt
 key_found name key (b ∷ bs) n k h = cased PlaceFound (b == 93) _ None ((n, key_bytes key k), h.1) tt
 
-keyed_found : (name : Bytes) (o : Option (Constant × Bytes)) → is_name name ≡ true → IfSome o ConstantFound → IfSome (keyed name o) PlaceFound
+keyed_found : (name : Bytes) (o : Option (Constant × Bytes)) → has_name_form name ≡ true → IfSome o ConstantFound → IfSome (keyed name o) PlaceFound
 keyed_found name None n h = tt
 keyed_found name (Some f) n h = key_found name f.0 f.1 n h.0 h.1
 
-named_found : (name text : Bytes) → is_name name ≡ true → AreBytes text → IfSome (named name text) PlaceFound
+named_found : (name text : Bytes) → has_name_form name ≡ true → AreBytes text → IfSome (named name text) PlaceFound
 named_found name [] n h = (n, tt)
 named_found name (b ∷ bs) n h = cased PlaceFound (b == 91) _ _ (keyed_found name (constant_front bs) n (constant_found bs h.1)) (n, h)
 
@@ -239,10 +240,10 @@ all_taken p (x ∷ xs) = go (p x) refl (all_taken p xs)
     go false e r = refl
 
 -- the name that a text begins with
-name_taken : (b : ℕ) (bs : Bytes) → is_letter b ≡ true → is_name (take (prefix_len is_word (b ∷ bs)) (b ∷ bs)) ≡ true
+name_taken : (b : ℕ) (bs : Bytes) → begins_name b ≡ true → has_name_form (take (prefix_len is_in_name (b ∷ bs)) (b ∷ bs)) ≡ true
 name_taken b bs h =
-    let size : prefix_len is_word (b ∷ bs) ≡ suc (prefix_len is_word bs) = rw (letter_is_word b h) (omega arith) in
-    ap (λ k. is_name (take k (b ∷ bs))) size ∙ rw (h, all_taken is_word bs) refl
+    let size : prefix_len is_in_name (b ∷ bs) ≡ suc (prefix_len is_in_name bs) = rw (letter_is_word b h) (omega arith) in
+    ap (λ k. has_name_form (take k (b ∷ bs))) size ∙ rw (h, all_taken is_in_name bs) refl
 
 field_found : (text : Bytes) → AreBytes text → IfSome (field_front text) PlaceFound
 field_found text h =
@@ -255,14 +256,14 @@ field_found text h =
 place_found : (text : Bytes) → AreBytes text → IfSome (place_front text) PlaceFound
 place_found [] h = tt
 place_found (b ∷ bs) h =
-    let n = prefix_len is_word (b ∷ bs) in
+    let n = prefix_len is_in_name (b ∷ bs) in
     cased PlaceFound (b == 36) _ _ (field_found bs h.1)
-    (letter (is_letter b) refl)
+    (letter (begins_name b) refl)
   where
-    letter : (t : Bool) → is_letter b ≡ t
-        → IfSome (cond t (named (take (prefix_len is_word (b ∷ bs)) (b ∷ bs)) (drop (prefix_len is_word (b ∷ bs)) (b ∷ bs))) None) PlaceFound
+    letter : (t : Bool) → begins_name b ≡ t
+        → IfSome (cond t (named (take (prefix_len is_in_name (b ∷ bs)) (b ∷ bs)) (drop (prefix_len is_in_name (b ∷ bs)) (b ∷ bs))) None) PlaceFound
     letter false e = tt
-    letter true e = named_found _ _ (name_taken b bs e) (dropped (prefix_len is_word (b ∷ bs)) (b ∷ bs) h)
+    letter true e = named_found _ _ (name_taken b bs e) (dropped (prefix_len is_in_name (b ∷ bs)) (b ∷ bs) h)
 
 -- ---- arguments
 
@@ -290,9 +291,9 @@ count_found text = number_small (2 ^ 63) text
 spot_found : (text : Bytes) → IfSome (spot_of text) IsSpot
 spot_found [] = tt
 spot_found (b ∷ bs) =
-    cased IsSpot (is_ascii_digit b) _ _ (mapped IsSpot (λ n. Line n) (count_of (b ∷ bs)) (count_found (b ∷ bs))) (function (is_name (b ∷ bs)) refl)
+    cased IsSpot (is_ascii_digit b) _ _ (mapped IsSpot (λ n. Line n) (count_of (b ∷ bs)) (count_found (b ∷ bs))) (function (has_name_form (b ∷ bs)) refl)
   where
-    function : (t : Bool) → is_name (b ∷ bs) ≡ t → IfSome (cond t (Some (Function (b ∷ bs))) None) IsSpot
+    function : (t : Bool) → has_name_form (b ∷ bs) ≡ t → IfSome (cond t (Some (Function (b ∷ bs))) None) IsSpot
     function true e = e
     function false e = tt
 

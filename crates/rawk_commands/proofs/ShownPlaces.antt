@@ -15,7 +15,7 @@ use Rattle.rawk_commands.specs.declared.command.Place.{Place}
 use Rattle.rawk_commands.specs.declared.command.Place.TheVariants.{Name, Element, Field}
 use Rattle.rawk_commands.specs.Reading.{number_below, number_of, number_size, number_front, constant_of, field_front, named, keyed, place_front, place_of, whole}
 use Rattle.rawk_commands.specs.Texts.{shown_text, shown_element, shown_place, IsPlace}
-use Rattle.rawk_commands.specs.Words.{is_letter, is_name, is_word}
+use Rattle.rawk_lexer.specs.Name.{begins_name, has_name_form, is_in_name}
 use Rattle.rawk_commands.proofs.Shown.{constant_shown}
 use Rattle.rawk_commands.proofs.ShownNumbers.{and_first, and_second, prefix_all, Writes, writes, number_written}
 
@@ -30,23 +30,23 @@ field_of_digits n ds w h =
 
 -- ---- names
 
-pub not_dollar : (b : ℕ) → is_letter b ≡ true → (b == 36) ≡ false
+pub not_dollar : (b : ℕ) → begins_name b ≡ true → (b == 36) ≡ false
 not_dollar b h = grind (arith, nat_tests)
 
-pub letter_is_word : (b : ℕ) → is_letter b ≡ true → is_word b ≡ true
+pub letter_is_word : (b : ℕ) → begins_name b ≡ true → is_in_name b ≡ true
 letter_is_word b h = grind (arith, nat_tests)
 
 -- a name, behind which no more of it comes
-pub place_named : (name after : Bytes) → is_name name ≡ true → prefix_len is_word after ≡ 0 → place_front (name ++ after) ≡ named name after
+pub place_named : (name after : Bytes) → has_name_form name ≡ true → prefix_len is_in_name after ≡ 0 → place_front (name ++ after) ≡ named name after
 place_named [] after h e = cc
 place_named (b ∷ bs) after h e =
-    let letter : is_letter b ≡ true = and_first (is_letter b) (list_all is_word bs) h in
-    let others : list_all is_word bs ≡ true = and_second (is_letter b) (list_all is_word bs) h in
-    let all : list_all is_word (b ∷ bs) ≡ true = rw (letter_is_word b letter, others) refl in
-    let size : prefix_len is_word (b ∷ (bs ++ after)) ≡ length (b ∷ bs) = prefix_all is_word (b ∷ bs) after all e in
-    let front : take (prefix_len is_word (b ∷ (bs ++ after))) (b ∷ (bs ++ after)) ≡ b ∷ bs =
+    let letter : begins_name b ≡ true = and_first (begins_name b) (list_all is_in_name bs) h in
+    let others : list_all is_in_name bs ≡ true = and_second (begins_name b) (list_all is_in_name bs) h in
+    let all : list_all is_in_name (b ∷ bs) ≡ true = rw (letter_is_word b letter, others) refl in
+    let size : prefix_len is_in_name (b ∷ (bs ++ after)) ≡ length (b ∷ bs) = prefix_all is_in_name (b ∷ bs) after all e in
+    let front : take (prefix_len is_in_name (b ∷ (bs ++ after))) (b ∷ (bs ++ after)) ≡ b ∷ bs =
     ap (λ k. take k (b ∷ (bs ++ after))) size ∙ take-append_seam (b ∷ bs) after in
-    let rest : drop (prefix_len is_word (b ∷ (bs ++ after))) (b ∷ (bs ++ after)) ≡ after =
+    let rest : drop (prefix_len is_in_name (b ∷ (bs ++ after))) (b ∷ (bs ++ after)) ≡ after =
     ap (λ k. drop k (b ∷ (bs ++ after))) size ∙ drop-append_seam (b ∷ bs) after in
     rw (not_dollar b letter, letter, front, rest) refl
 

@@ -14,7 +14,7 @@ use Rattle.rawk_commands.specs.declared.command.Spot.TheVariants.{Line, Function
 use Rattle.rawk_commands.specs.declared.command.Way.{Way}
 use Rattle.rawk_commands.specs.declared.command.Way.TheVariants.{Forward, Back}
 use Rattle.rawk_commands.specs.Texts.{IsPlace, shown_place, shown_text}
-use Rattle.rawk_commands.specs.Words.{is_name}
+use Rattle.rawk_lexer.specs.Name.{has_name_form}
 
 -- a constant that there can be: a number within 64 bits with a sign, or bytes
 abbrev pub IsConstant : Constant → Type 0
@@ -24,7 +24,7 @@ IsConstant (Text text) = All (λ b. b < 256) text
 -- a spot that there can be
 abbrev pub IsSpot : Spot → Type 0
 IsSpot (Line line) = line < 2 ^ 63
-IsSpot (Function name) = IsTrue (is_name name)
+IsSpot (Function name) = IsTrue (has_name_form name)
 
 -- a command that there can be
 abbrev pub IsCommand : Command → Type 0

@@ -23,7 +23,8 @@ use Rattle.rawk_commands.specs.declared.command.Spot.{Spot}
 use Rattle.rawk_commands.specs.declared.command.Spot.TheVariants.{Line, Function}
 use Rattle.rawk_commands.specs.declared.verb.Verb.{Verb}
 use Rattle.rawk_commands.specs.declared.verb.Verb.TheVariants as verb
-use Rattle.rawk_commands.specs.Words.{is_blank, is_letter, is_name, is_word, without_front, trimmed, verb_of}
+use Rattle.rawk_lexer.specs.Name.{begins_name, has_name_form, is_in_name}
+use Rattle.rawk_commands.specs.Words.{is_blank, without_front, trimmed, verb_of}
 
 -- What is found at the front of a text, with the text after it.
 abbrev pub Front : Type 0 → Type 0
@@ -123,8 +124,8 @@ named name (b ∷ bs) = if b == 91 then keyed name (constant_front bs) else Some
 abbrev pub place_front : Bytes → Front Place
 place_front [] = None
 place_front (b ∷ bs) =
-    let n = prefix_len is_word (b ∷ bs) in
-    if b == 36 then field_front bs else (if is_letter b then named (take n (b ∷ bs)) (drop n (b ∷ bs)) else None)
+    let n = prefix_len is_in_name (b ∷ bs) in
+    if b == 36 then field_front bs else (if begins_name b then named (take n (b ∷ bs)) (drop n (b ∷ bs)) else None)
 
 -- PLACE
 abbrev pub place_of : Bytes → Option Place
@@ -135,7 +136,7 @@ abbrev pub spot_of : Bytes → Option Spot
 spot_of [] = None
 spot_of (b ∷ bs) =
     if is_ascii_digit b then option_map Line (count_of (b ∷ bs))
-    else (if is_name (b ∷ bs) then Some (Function (b ∷ bs)) else None)
+    else (if has_name_form (b ∷ bs) then Some (Function (b ∷ bs)) else None)
 
 -- ---- commands
 

@@ -8,7 +8,7 @@ use Rattle.rawk_value.specs.declared.value.Value.TheVariants.{Uninitialized, Num
 use Rattle.rawk_value.specs.Values.{Bytes, decimal, int_text}
 use Rattle.rawk_commands.specs.declared.command.Place.{Place}
 use Rattle.rawk_commands.specs.declared.command.Place.TheVariants.{Name, Element, Field}
-use Rattle.rawk_commands.specs.Words.{is_name}
+use Rattle.rawk_lexer.specs.Name.{has_name_form}
 
 -- three octal digits
 abbrev pub octal : ℕ → Bytes
@@ -54,6 +54,6 @@ shown_place (Field number) = 36 ∷ decimal number
 
 -- a place that there can be: its name is one, its key is bytes, its field has a number up to 1,000,000
 abbrev pub IsPlace : Place → Type 0
-IsPlace (Name name) = IsTrue (is_name name)
-IsPlace (Element name key) = IsTrue (is_name name) × All (λ b. b < 256) key
+IsPlace (Name name) = IsTrue (has_name_form name)
+IsPlace (Element name key) = IsTrue (has_name_form name) × All (λ b. b < 256) key
 IsPlace (Field number) = number ≤ LAST_FIELD

@@ -13,19 +13,6 @@ use Rattle.rawk_commands.specs.declared.verb.Verb.TheVariants.{Break, Watch, Del
 abbrev pub is_blank : ℕ → Bool
 is_blank b = b == 32 || b == 9
 
--- a name begins with a letter or `_`
-abbrev pub is_letter : ℕ → Bool
-is_letter b = is_ascii_alphabetic b || b == 95
-
--- and goes on with letters, digits and `_`
-abbrev pub is_word : ℕ → Bool
-is_word b = is_ascii_alphanumeric b || b == 95
-
--- NAME and FUNCTION
-abbrev pub is_name : Bytes → Bool
-is_name [] = false
-is_name (b ∷ bs) = is_letter b && list_all is_word bs
-
 -- a text without the blanks at its front
 abbrev pub without_front : Bytes → Bytes
 without_front [] = []

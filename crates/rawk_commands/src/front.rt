@@ -2,48 +2,18 @@
 
 ghost use Rattle.std.specs.Prelude.{◌≡◌, ◌+◌, ◌^◌, ◌<◌, ◌≤◌, length};
 ghost use Rattle.std.specs.Char.{is_ascii_digit};
-ghost use Rattle.std.specs.List.{list_all, prefix_len};
+ghost use Rattle.std.specs.List.{prefix_len};
 ghost use Rattle.std.specs.Option.{option_map};
 ghost use Rattle.rawk_commands.specs.Asked.{constant_written, place_written};
 ghost use Rattle.rawk_commands.specs.Reading as spec;
-ghost use Rattle.rawk_commands.specs.Words as word;
+ghost use Rattle.rawk_lexer.specs.Name as word;
 
 use crate::asked::{Literal, PlaceName};
-use rawk_lexer::{Cursor, Kind, unquoted};
+use rawk_lexer::{Cursor, Kind, begins_name, is_in_name, unquoted};
 use rawk_limits::LAST_FIELD;
 
 /// Numbers without a sign are below it.
 const LIMIT: u64 = 1 << 63;
-
-/// Whether a name may begin with a byte.
-fn is_letter(b: u8) -> bool
-    ensures { result ≡ word.is_letter b }
-{
-    b.is_ascii_alphabetic() || b == b'_'
-}
-
-/// Whether a name may go on with a byte.
-fn is_word(b: u8) -> bool
-    ensures { result ≡ word.is_word b }
-{
-    b.is_ascii_alphanumeric() || b == b'_'
-}
-
-fn are_words(text: &[u8]) -> bool
-    ensures { result ≡ list_all word.is_word text.now }
-{
-    text.iter().all(|b| is_word(*b))
-}
-
-/// Whether a text is a name.
-pub fn is_name(text: &[u8]) -> bool
-    ensures { result ≡ word.is_name text.now }
-{
-    match text {
-        [first, rest @ ..] => is_letter(*first) && are_words(rest),
-        [] => false,
-    }
-}
 
 /// How many digits a text begins with.
 fn digits_len(text: &[u8]) -> usize
@@ -59,11 +29,11 @@ fn digits_len(text: &[u8]) -> usize
 
 /// How many bytes of a name a text begins with.
 fn word_len(text: &[u8]) -> usize
-    ensures value { result ≡ prefix_len word.is_word text.now }
+    ensures value { result ≡ prefix_len word.is_in_name text.now }
     ensures within { result ≤ length text.now }
 {
     let mut len = 0;
-    while len < text.len() && is_word(text[len]) {
+    while len < text.len() && is_in_name(text[len]) {
         len += 1;
     }
     len
@@ -192,7 +162,7 @@ pub fn place_front(text: &[u8]) -> Option<(PlaceName<'_>, &[u8])>
     if *first == b'$' {
         return field_front(rest);
     }
-    if !is_letter(*first) {
+    if !begins_name(*first) {
         return None;
     }
     let (name, rest) = text.split_at(word_len(text));

@@ -9,8 +9,9 @@ ghost use Rattle.rawk_commands.specs.Words as word;
 
 use crate::asked::{Asked, Literal, PlaceName, command_copied};
 use crate::command::{C, Command, Spot};
-use crate::front::{constant_front, count_of, is_name, place_front};
+use crate::front::{constant_front, count_of, place_front};
 use crate::verb::{Verb, verb_of};
+use rawk_lexer::has_name_form;
 use std::alloc::Global;
 
 fn is_blank(b: u8) -> bool
@@ -85,7 +86,7 @@ fn stop_asked(text: &[u8]) -> Option<Asked<'_>>
         let line = count_of(text)?;
         return Some(Asked::Ready(Command::Break(Spot::Line(line))));
     }
-    if is_name(text) {
+    if has_name_form(text) {
         Some(Asked::Break(text))
     } else {
         None

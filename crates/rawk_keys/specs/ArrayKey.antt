@@ -1,4 +1,4 @@
--- KeyLemmas with their arrays, in a list.
+-- Keys with their arrays, in a list.
 use Rattle.std.specs.Prelude.{◌≡◌, ◌≢◌, ◌<◌, ℕ, List, slice_get, Option, None, Some}
 
 abbrev pub Bytes : Type 0

@@ -18,7 +18,7 @@ pub struct KeyRange {
     pub end: usize,
 }
 
-/// KeyLemmas of arrays, each with its array's number, in the order in which they were added.
+/// Keys of arrays, each with its array's number, in the order in which they were added.
 ///
 /// The keys' bytes stand in one text. One set of chains leads from a hash to the keys that have it, another from an array to its keys.
 #[derive(Drop)]

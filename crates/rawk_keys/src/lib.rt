@@ -1,4 +1,4 @@
-//! KeyLemmas of arrays, each found by its bytes.
+//! Keys of arrays, each found by its bytes.
 #![tactic(auto)]
 
 pub mod chains;

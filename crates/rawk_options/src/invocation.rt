@@ -1,6 +1,6 @@
 //! What a command line asks for, or why it is refused.
 ghost use Rattle.std.specs.Prelude.{◌≤◌, ◌≡◌, ◌≢◌, Some};
-ghost use Rattle.std.specs.Option.{ForSome};
+ghost use Rattle.rawk_limits.specs.History.{IsHistory};
 ghost use Rattle.rawk_options.specs.declared.invocation.Text.{Text};
 
 use rawk_code::Settings;
@@ -12,9 +12,6 @@ pub const MAX_STEPS: u64 = 9_223_372_036_854_775_807;
 
 /// The number of steps of a session that names none.
 pub const SESSION_STEPS: u64 = 1_000_000;
-
-/// The greatest number of steps that a session can be asked to keep.
-pub const MAX_HISTORY: u64 = 1_000_000;
 
 /// Why the words, or the files that they name, give no run. Each displays as the line for the standard error, without
 /// `S3` and the help, whose text ends in a newline of its own.
@@ -58,6 +55,6 @@ pub struct Invocation {
     /// how many of the last steps a session keeps, to go back over: all where there is no number; no matter to a run
     pub history: Option<u64>,
     ghost steps_in_range: { steps ≤ 9223372036854775807 },
-    ghost history_in_range: { ForSome history (λ h. (1 ≤ h) × (h ≤ 1000000)) },
+    ghost history_in_range: { IsHistory history },
     ghost read_once: { commands ≡ Some Text.StandardInput → input ≢ Text.StandardInput },
 }

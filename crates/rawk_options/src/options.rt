@@ -1,12 +1,16 @@
 //! The options and operands (POSIX awk, Options and Operands).
 ghost use Rattle.std.specs.Prelude.{◌≤◌, ◌≡◌, ◌≢◌, ◌⊎◌, ◌↔◌, Some, IfOk, IfSome, IsTrue, None, is_some, true, false};
+ghost use Rattle.rawk_limits.specs.History.{IsHistory};
+ghost use Rattle.rawk_limits.specs.declared.TheConstants as limits;
 
 use crate::help::{SESSION_HELP, VERSION};
-use crate::invocation::{Invocation, MAX_HISTORY, MAX_STEPS, S, SESSION_STEPS, Text};
+use crate::invocation::{Invocation, MAX_STEPS, S, SESSION_STEPS, Text};
 use clap::builder::ValueRange;
 use clap::error::ErrorKind;
 use clap::{Arg, ArgAction, ArgMatches, Command, value_parser};
 use rawk_code::Settings;
+use rawk_lexer::has_name_form;
+use rawk_limits::HISTORY;
 use std::alloc::{AllocError, Global};
 
 /// What the words after the program's name ask for.
@@ -61,7 +65,7 @@ fn command<'a>(alloc: Global) -> Result<Command<'a>, AllocError> {
         .long("history")
         .value_name("H")
         .help("With --debug, keep the last H steps, 1 to 1000000, to go back over (default all)")
-        .value_parser(value_parser!(u64).range(1..=1_000_000))
+        .value_parser(value_parser!(u64).range(1..=HISTORY as i64))
         .allow_hyphen_values(true);
     let operands = Arg::new(alloc, "operands")
         .value_name("OPERAND")
@@ -131,12 +135,12 @@ fn steps_of(value: Option<u64>, is_session: bool) -> u64
 
 /// The number of steps that a session keeps: the value of `--history`.
 fn history_of(value: Option<u64>) -> Option<u64>
-    ensures in_range { IfSome result (λ h. (1 ≤ h) × (h ≤ 1000000)) }
+    ensures in_range { IsHistory result }
     ensures none { value ≡ None → result ≡ None }
-    ensures given { IfSome value (λ h. 1 ≤ h → h ≤ 1000000 → result ≡ Some h) }
+    ensures given { IfSome value (λ h. 1 ≤ h → h ≤ limits.HISTORY → result ≡ Some h) }
 {
     match value {
-        Some(steps) => Some(steps.clamp(1, MAX_HISTORY)),
+        Some(steps) => Some(steps.clamp(1, HISTORY)),
         None => None,
     }
 }
@@ -144,17 +148,7 @@ fn history_of(value: Option<u64>) -> Option<u64>
 /// Whether an operand has the form `NAME=..`.
 fn is_assignment(operand: &str) -> bool {
     match operand.split_once('=') {
-        Some((name, _)) => is_name(name.as_bytes()),
+        Some((name, _)) => has_name_form(name.as_bytes()),
         None => false,
-    }
-}
-
-/// Whether the text is a name of the language.
-fn is_name(text: &[u8]) -> bool {
-    match text {
-        [first, ..] => {
-            !first.is_ascii_digit() && text.iter().all(|b| b.is_ascii_alphanumeric() || *b == b'_')
-        }
-        [] => false,
     }
 }

@@ -1,0 +1,164 @@
+-- How plain phrases begin, and that they leave less text.
+use Rattle.std.proofs.Common.{◌≡◌, ◌≢◌, ℕ, suc, ◌<◌, ◌≤◌, Bool, true, false, cond, ◌==◌, ◌⊎◌, inl, inr, List, length, drop, Some, None, refl, sym, ap, ◌∙◌, arith}
+use Rattle.std.proofs.lemmas.List.{length-drop}
+use Rattle.rawk_lexer.specs.declared.token.Kind.{Kind}
+use Rattle.rawk_lexer.specs.declared.token.Kind.TheVariants as k
+use Rattle.rawk_lexer.specs.Lex.{kind, next, left, skip, ere_len, past_ere}
+use Rattle.rawk_lexer.specs.Moves.{next_shrinks, skip_shrinks}
+use Rattle.rawk_expression.specs.declared.tree.Operator.{Operator}
+use Rattle.rawk_expression.specs.declared.tree.Sign.{Sign}
+use Rattle.rawk_expression.specs.declared.tree.Change.{Change}
+use Rattle.rawk_expression.specs.declared.tree.Assignment.{Assignment}
+use Rattle.rawk_expression.specs.declared.tree.Function.{Function}
+use Rattle.rawk_expression.specs.Parser.{Input}
+use Rattle.rawk_expression.specs.Tables as table
+use Rattle.rawk_expression.specs.Tokens.{Spells, SpellsEre, Newlines, none, more}
+use Rattle.rawk_expression.specs.Grammar.{Joins, symbol, beside, Phrase}
+use Rattle.rawk_expression.specs.Plain.{Plain, number, text, ere, group, of_place, call, builtin, named, element, field, no_argument, some_arguments, one, several, print_list, print_group, alone, operated, signed, raised, changed_after, changed_before, assign, contains, listed_in, joint, choice, bare_length, getline, getline_to}
+use Rattle.rawk_expression.specs.Follow.{apart, starts, symbol_not}
+
+-- ---- less text is left
+
+pub newlines_shrink : (i j : Input) → Newlines i j → left j ≤ left i
+newlines_shrink i j none = omega arith
+newlines_shrink i l (more {j = j} s t) =
+    let a = next_shrinks i (λ e. (let no : k.Newline ≡ k.EndOfText = sym s.is_kind ∙ e in cc)) in
+    let b = newlines_shrink j l t in
+    let c : left (next i) ≡ left j = ap left s.is_next in
+    omega arith
+
+pub ere_shrink : (w : List ℕ) (i j : Input) → SpellsEre w i j → left j ≤ left i
+unfolding left past_ere
+ere_shrink w i j s =
+    let a = skip_shrinks (drop (ere_len i) (skip i)) in
+    let b = length-drop (ere_len i) (skip i) in
+    let c : length (skip (drop (ere_len i) (skip i))) ≡ length (skip j) = ap (λ m. length (skip m)) s.is_next in
+    omega arith
+
+pub spells_shrink : (c : Kind) (w : List ℕ) (i j : Input) → c ≢ k.EndOfText → Spells c w i j → left j < left i
+spells_shrink c w i j ne s =
+    let a = next_shrinks i (λ e. ne (sym s.is_kind ∙ e)) in
+    let b : left (next i) ≡ left j = ap left s.is_next in
+    omega arith
+
+pub function_not_end : (c : Kind) (f : Function) → table.function c ≡ Some f → c ≢ k.EndOfText
+function_not_end c f h e = let no : table.function c ≡ None = ap table.function e in cc
+
+pub sign_not_end : (c : Kind) (s : Sign) → table.sign c ≡ Some s → c ≢ k.EndOfText
+sign_not_end c s h e = let no : table.sign c ≡ None = ap table.sign e in cc
+
+pub change_not_end : (c : Kind) (s : Change) → table.change c ≡ Some s → c ≢ k.EndOfText
+change_not_end c s h e = let no : table.change c ≡ None = ap table.change e in cc
+
+pub assignment_not_end : (c : Kind) (s : Assignment) → table.assignment c ≡ Some s → c ≢ k.EndOfText
+assignment_not_end c s h e = let no : table.assignment c ≡ None = ap table.assignment e in cc
+
+pub mark_not_end : (n : ℕ) → table.mark n ≢ k.EndOfText
+mark_not_end n = go (n == 1)
+  where
+    go : (b : Bool) → cond b k.And k.Or ≢ k.EndOfText
+    go true = λ q. cc
+    go false = λ q. cc
+
+pub joins_shrink : (p : Bool) (n : ℕ) (o : Operator) (i j : Input) → Joins p n o i j → left j ≤ left i
+joins_shrink p n o i l (symbol {c = c} sp jo calm) = let a = spells_shrink c _ i l (symbol_not c k.EndOfText o jo refl) sp in omega arith
+joins_shrink p n o i l (beside sp b) = omega arith
+
+pub shrinks : {d : ℕ} {f : Phrase} {i j : Input} → Plain d f i j → left j ≤ left i
+shrinks {i = i} {j = j} (number s e) = let a = spells_shrink k.Number _ i j (λ q. cc) s in omega arith
+shrinks {i = i} {j = j} (text s) = let a = spells_shrink k.Text _ i j (λ q. cc) s in omega arith
+shrinks {i = i} {j = j} (ere s) = ere_shrink _ i j s
+shrinks (group {i = i} {j = j} {l = l} {m = m} s g t) = let a = spells_shrink k.LeftParen _ i j (λ q. cc) s in let b = shrinks g in let c = spells_shrink k.RightParen _ l m (λ q. cc) t in omega arith
+shrinks (of_place g) = shrinks g
+shrinks (call {i = i} {j = j} s g) = let a = spells_shrink k.FunctionName _ i j (λ q. cc) s in let b = shrinks g in omega arith
+shrinks (builtin {c = c} {f = f} {i = i} {j = j} s e g t) = let a = spells_shrink c _ i j (function_not_end c f e) s in let b = shrinks g in omega arith
+shrinks {i = i} {j = j} (named s) = let a = spells_shrink k.Name _ i j (λ q. cc) s in omega arith
+shrinks (element {i = i} {j = j} {l = l} {m = m} {n = n} s t g u) = let a = spells_shrink k.Name _ i j (λ q. cc) s in let b = spells_shrink k.LeftBracket _ j l (λ q. cc) t in let c = shrinks g in let e = spells_shrink k.RightBracket _ m n (λ q. cc) u in omega arith
+shrinks (field {i = i} {j = j} s g) = let a = spells_shrink k.Dollar _ i j (λ q. cc) s in let b = shrinks g in omega arith
+shrinks (no_argument {i = i} {j = j} {l = l} s t) = let a = spells_shrink k.LeftParen _ i j (λ q. cc) s in let b = spells_shrink k.RightParen _ j l (λ q. cc) t in omega arith
+shrinks (some_arguments {i = i} {j = j} {l = l} {m = m} s g t) = let a = spells_shrink k.LeftParen _ i j (λ q. cc) s in let b = shrinks g in let c = spells_shrink k.RightParen _ l m (λ q. cc) t in omega arith
+shrinks (one g) = shrinks g
+shrinks (several {j = j} {l = l} {m = m} g s t h) = let a = shrinks g in let b = spells_shrink k.Comma _ j l (λ q. cc) s in let c = newlines_shrink l m t in let e = shrinks h in omega arith
+shrinks (print_list g) = shrinks g
+shrinks (print_group {i = i} {j = j} {l = l} {m = m} {n = n} {o = o} {q = q} s g c t h u) =
+    let a = spells_shrink k.LeftParen _ i j (λ z. cc) s in let b = shrinks g in let e = spells_shrink k.Comma _ l m (λ z. cc) c in
+    let f = newlines_shrink m n t in let r = shrinks h in let v = spells_shrink k.RightParen _ o q (λ z. cc) u in omega arith
+shrinks (alone g) = shrinks g
+shrinks (operated {n = n} {p = p} {o = o} {j = j} {l = l} g s h) = let a = shrinks g in let b = joins_shrink p (suc n) o j l s in let c = shrinks h in omega arith
+shrinks (signed {c = c} {s = s} {i = i} {j = j} t e g) = let a = spells_shrink c _ i j (sign_not_end c s e) t in let b = shrinks g in omega arith
+shrinks (raised {j = j} {l = l} g s h) = let a = shrinks g in let b = spells_shrink k.Caret _ j l (λ q. cc) s in let c = shrinks h in omega arith
+shrinks (changed_after {c = c} {how = how} {j = j} {l = l} g s e) = let a = shrinks g in let b = spells_shrink c _ j l (change_not_end c how e) s in omega arith
+shrinks (changed_before {c = c} {how = how} {i = i} {j = j} s e g) = let a = spells_shrink c _ i j (change_not_end c how e) s in let b = shrinks g in omega arith
+shrinks (assign {c = c} {how = how} {j = j} {l = l} g s e h) = let a = shrinks g in let b = spells_shrink c _ j l (assignment_not_end c how e) s in let r = shrinks h in omega arith
+shrinks (contains {j = j} {l = l} {m = m} g s t) = let a = shrinks g in let b = spells_shrink k.In _ j l (λ q. cc) s in let c = spells_shrink k.Name _ l m (λ q. cc) t in omega arith
+shrinks (listed_in {i = i} {j = j} {l = l} {m = m} {n = n} {o = o} {q = q} {r = r} {s = z} s g c t h u v w) =
+    let a = spells_shrink k.LeftParen _ i j (λ z. cc) s in let b = shrinks g in let e = spells_shrink k.Comma _ l m (λ z. cc) c in
+    let f = newlines_shrink m n t in let y = shrinks h in let a1 = spells_shrink k.RightParen _ o q (λ z. cc) u in
+    let a2 = spells_shrink k.In _ q r (λ z. cc) v in let a3 = spells_shrink k.Name _ r z (λ z. cc) w in omega arith
+shrinks (joint {n = n} {j = j} {l = l} {m = m} small g s t h) = let a = shrinks g in let b = spells_shrink (table.mark (suc n)) _ j l (mark_not_end (suc n)) s in let c = newlines_shrink l m t in let e = shrinks h in omega arith
+shrinks (choice {j = j} {l = l} {m = m} {n = n} g s h t r) = let a = shrinks g in let b = spells_shrink k.Question _ j l (λ q. cc) s in let c = shrinks h in let e = spells_shrink k.Colon _ m n (λ q. cc) t in let f = shrinks r in omega arith
+shrinks {i = i} {j = j} (bare_length s ne) = let a = spells_shrink k.Length _ i j (λ q. cc) s in omega arith
+shrinks {i = i} {j = j} (getline s) = let a = spells_shrink k.Getline _ i j (λ q. cc) s in omega arith
+shrinks (getline_to {i = i} {j = j} s g) = let a = spells_shrink k.Getline _ i j (λ q. cc) s in let b = shrinks g in omega arith
+
+-- ---- what a rule begins with
+
+abbrev pub begins : Kind → Bool
+begins k.Plus = true
+begins k.Minus = true
+begins k.Bang = true
+begins k.Increment = true
+begins k.Decrement = true
+begins k.Getline = true
+begins c = starts c
+
+pub function_begins : (c : Kind) (f : Function) → table.function c ≡ Some f → begins c ≡ true
+function_begins k.Length f h = refl
+function_begins _ f h = cc
+
+pub sign_begins : (c : Kind) (s : Sign) → table.sign c ≡ Some s → begins c ≡ true
+sign_begins k.Plus s h = refl
+sign_begins _ s h = cc
+
+pub change_begins : (c : Kind) (s : Change) → table.change c ≡ Some s → begins c ≡ true
+change_begins k.Increment s h = refl
+change_begins _ s h = cc
+
+pub ere_begins : (i : Input) → (kind i ≡ k.Slash) ⊎ (kind i ≡ k.SlashAssign) → begins (kind i) ≡ true
+ere_begins i (inl h) = ap begins h
+ere_begins i (inr h) = ap begins h
+
+pub fronts : {d : ℕ} {f : Phrase} {i j : Input} → Plain d f i j → begins (kind i) ≡ true
+fronts (number s e) = ap begins s.is_kind
+fronts (text s) = ap begins s.is_kind
+fronts {i = i} (ere s) = ere_begins i s.begins
+fronts (group s g t) = ap begins s.is_kind
+fronts (of_place g) = fronts g
+fronts (call s g) = ap begins s.is_kind
+fronts (builtin {c = c} {f = f} s e g t) = ap begins s.is_kind ∙ function_begins c f e
+fronts (named s) = ap begins s.is_kind
+fronts (element s t g u) = ap begins s.is_kind
+fronts (field s g) = ap begins s.is_kind
+fronts (no_argument s t) = ap begins s.is_kind
+fronts (some_arguments s g t) = ap begins s.is_kind
+fronts (one g) = fronts g
+fronts (several g s t h) = fronts g
+fronts (print_list g) = fronts g
+fronts (print_group s g c t h u) = ap begins s.is_kind
+fronts (alone g) = fronts g
+fronts (operated g s h) = fronts g
+fronts (signed {c = c} {s = s} t e g) = ap begins t.is_kind ∙ sign_begins c s e
+fronts (raised g s h) = fronts g
+fronts (changed_after g s e) = fronts g
+fronts (changed_before {c = c} {how = how} s e g) = ap begins s.is_kind ∙ change_begins c how e
+fronts (assign g s e h) = fronts g
+fronts (contains g s t) = fronts g
+fronts (listed_in s g c t h u v w) = ap begins s.is_kind
+fronts (joint small g s t h) = fronts g
+fronts (choice g s h t r) = fronts g
+fronts (bare_length s ne) = ap begins s.is_kind
+fronts (getline s) = ap begins s.is_kind
+fronts (getline_to s g) = ap begins s.is_kind
+
+pub not_newline : {d : ℕ} {f : Phrase} {i j : Input} → Plain d f i j → kind i ≢ k.Newline
+not_newline {i = i} g = apart begins (kind i) k.Newline (fronts g) refl

@@ -1,0 +1,159 @@
+//! What statements are made of beside expressions: places, and the list of a print.
+
+ghost use Rattle.std.specs.Prelude.{◌≡◌, true};
+ghost use Rattle.rawk_expression.specs.Parser.{Parses};
+ghost use Rattle.rawk_expression.specs.Expression as spec;
+ghost use Rattle.rawk_expression.specs.Nests.{Nests};
+ghost use Rattle.rawk_expression.specs.declared.operands.Enclosed.TheVariants.{Several};
+
+use crate::grammar::{Grammar, Wanted, expression};
+use crate::operands::{Enclosed, Start};
+use crate::parse_error::ParseError;
+use crate::refusal::RefusalKind;
+use crate::tokens::{eat, not_redirected, refuse, sees, skip_newlines};
+use crate::tree::{Expr, Place};
+use rawk_items::{Boxed, Items};
+use rawk_lexer::{Cursor, Kind};
+use std::alloc::Global;
+
+impl<F: Fn(Global, &mut Cursor<'_>, usize, Wanted) -> Result<Boxed<Expr>, ParseError>> Grammar<F> {
+    /// Expressions of a print with commas between them, behind those that were found.
+    fn printed_list(
+        &self,
+        tokens: &mut Cursor<'_>,
+        mut found: Items<Boxed<Expr>>,
+    ) -> Result<Items<Boxed<Expr>>, ParseError>
+        requires { Nests self.now.depth (F.pre self.now.expression) (F.post self.now.expression) }
+        ensures { Parses (spec.list (spec.whole self.now.depth (spec.expression self.now.depth) true) found tokens.old) result tokens.new }
+    {
+        for _turn in 0..tokens.left() {
+            found.push(self.whole(tokens, true)?)?;
+            if !eat(tokens, Kind::Comma) {
+                return Ok(found);
+            }
+            skip_newlines(tokens);
+        }
+        Err(refuse(tokens))
+    }
+
+    #[tactic(auto, unfolding(crate::specs::Expression::printed_rest))]
+    fn printed_rest(
+        &self,
+        tokens: &mut Cursor<'_>,
+        first: Boxed<Expr>,
+    ) -> Result<Items<Boxed<Expr>>, ParseError>
+        requires { Nests self.now.depth (F.pre self.now.expression) (F.post self.now.expression) }
+        ensures { Parses (spec.printed_rest self.now.depth (spec.expression self.now.depth) first tokens.old) result tokens.new }
+    {
+        let mut found = Items::new(self.alloc);
+        found.push(first)?;
+        if !eat(tokens, Kind::Comma) {
+            return Ok(found);
+        }
+        skip_newlines(tokens);
+        self.printed_list(tokens, found)
+    }
+
+    /// A list whose first expression has begun.
+    #[tactic(auto, unfolding(crate::specs::Expression::printed_from))]
+    fn printed_from(
+        &self,
+        tokens: &mut Cursor<'_>,
+        start: Start,
+    ) -> Result<Items<Boxed<Expr>>, ParseError>
+        requires { Nests self.now.depth (F.pre self.now.expression) (F.post self.now.expression) }
+        ensures { Parses (spec.printed_from self.now.depth (spec.expression self.now.depth) start tokens.old) result tokens.new }
+    {
+        let first = self.finished(tokens, true, start)?;
+        self.printed_rest(tokens, first)
+    }
+
+    /// Two expressions or more in parentheses are the list, or subscripts before `in`.
+    #[tactic(auto, unfolding(crate::specs::Expression::printed_several))]
+    fn printed_several(
+        &self,
+        tokens: &mut Cursor<'_>,
+        values: Items<Boxed<Expr>>,
+    ) -> Result<Items<Boxed<Expr>>, ParseError>
+        requires { Nests self.now.depth (F.pre self.now.expression) (F.post self.now.expression) }
+        ensures { Parses (spec.printed_several self.now.depth (spec.expression self.now.depth) values tokens.old) result tokens.new }
+    {
+        if sees(tokens, Kind::In) {
+            let start = self.opened(tokens, Enclosed::Several(values))?;
+            return self.printed_from(tokens, start);
+        }
+        not_redirected(tokens, true)?;
+        Ok(values)
+    }
+
+    fn printed_opened(
+        &self,
+        tokens: &mut Cursor<'_>,
+        enclosed: Enclosed,
+    ) -> Result<Items<Boxed<Expr>>, ParseError>
+        requires { Nests self.now.depth (F.pre self.now.expression) (F.post self.now.expression) }
+        ensures { Parses (spec.printed_opened self.now.depth (spec.expression self.now.depth) enclosed tokens.old) result tokens.new }
+    {
+        match enclosed {
+            Enclosed::One(e) => {
+                let group = Boxed::new(self.alloc, Expr::Group(e))?;
+                self.printed_from(tokens, Start::Base(group))
+            }
+            Enclosed::Several(values) => self.printed_several(tokens, values),
+        }
+    }
+
+    #[tactic(auto, unfolding(crate::specs::Expression::print_list))]
+    fn print_list(&self, tokens: &mut Cursor<'_>) -> Result<Items<Boxed<Expr>>, ParseError>
+        requires { Nests self.now.depth (F.pre self.now.expression) (F.post self.now.expression) }
+        ensures { Parses (spec.print_list self.now.depth (spec.expression self.now.depth) tokens.old) result tokens.new }
+    {
+        match tokens.peek() {
+            Kind::LeftParen => {
+                let enclosed = self.enclosed(tokens)?;
+                self.printed_opened(tokens, enclosed)
+            }
+            Kind::Greater => Err(ParseError::Here(RefusalKind::LeftOut, tokens.left())),
+            _ => {
+                let start = self.opening(tokens)?;
+                self.printed_from(tokens, start)
+            }
+        }
+    }
+}
+
+/// Reads a place, with fewer than `depth` constructs open at once; its refusals are those of `expression`.
+pub fn place(alloc: Global, tokens: &mut Cursor<'_>, depth: usize) -> Result<Place, ParseError>
+    ensures { Parses (spec.lone_place depth tokens.old) result tokens.new }
+{
+    if depth == 0 {
+        return Err(ParseError::Here(RefusalKind::TooDeep, tokens.left()));
+    }
+    Grammar {
+        alloc,
+        depth: depth - 1,
+        expression,
+    }
+    .place(tokens)
+}
+
+/// Reads the list of a print, one expression at least, with fewer than `depth` constructs open at once: expressions with commas
+/// between them, or two or more in parentheses, with nothing read behind those. Its refusals are those of `expression`; a `>` at
+/// its begin or end is `LeftOut`. A list in parentheses is read once.
+pub fn printed(
+    alloc: Global,
+    tokens: &mut Cursor<'_>,
+    depth: usize,
+) -> Result<Items<Boxed<Expr>>, ParseError>
+    ensures { Parses (spec.printed depth tokens.old) result tokens.new }
+{
+    if depth == 0 {
+        return Err(ParseError::Here(RefusalKind::TooDeep, tokens.left()));
+    }
+    Grammar {
+        alloc,
+        depth: depth - 1,
+        expression,
+    }
+    .print_list(tokens)
+}

@@ -1,0 +1,140 @@
+//! The begin of an operand of `&&` and `||`: an assignment, a list before `in`, or another.
+
+ghost use Rattle.std.specs.Prelude.{◌≡◌, IfOk};
+ghost use Rattle.rawk_expression.specs.Parser.{Parses};
+ghost use Rattle.rawk_expression.specs.Expression as spec;
+ghost use Rattle.rawk_expression.specs.Nests.{Nests};
+
+use crate::grammar::{Grammar, Wanted};
+use crate::parse_error::ParseError;
+use crate::tables::assignment;
+use crate::tokens::{bare_name, eat, expect, skip_newlines};
+use crate::tree::{Assignment, Expr, Name, Place};
+use rawk_items::{Boxed, Items};
+use rawk_lexer::{Cursor, Kind};
+use std::alloc::{AllocError, Global};
+
+/// What stood in parentheses.
+#[derive(Drop)]
+pub enum Enclosed {
+    One(Boxed<Expr>),
+    /// two or more
+    Several(Items<Boxed<Expr>>),
+}
+
+/// How an operand begins.
+#[derive(Drop)]
+pub enum Start {
+    /// nothing is read
+    Nothing,
+    /// a group, or a place with what changes it
+    Base(Boxed<Expr>),
+    /// a list, `in` and an array
+    Member(Boxed<Expr>),
+    /// a place and the sign of an assignment
+    Assigns(Assignment, Place),
+}
+
+/// An operand, and the arrays behind `in`.
+#[tactic(auto, unfolding(crate::specs::Expression::contained))]
+pub fn contained(
+    alloc: Global,
+    e: Boxed<Expr>,
+    arrays: Items<Name>,
+) -> Result<Boxed<Expr>, AllocError>
+    ensures { IfOk result (λ r. r ≡ spec.contained e arrays) }
+{
+    if arrays.len() == 0 {
+        return Ok(e);
+    }
+    Boxed::new(alloc, Expr::In(e, arrays))
+}
+
+/// The arrays of a chain of `in`.
+pub fn arrays(alloc: Global, tokens: &mut Cursor<'_>) -> Result<Items<Name>, ParseError>
+    ensures { Parses (spec.arrays tokens.old) result tokens.new }
+{
+    let mut found = Items::new(alloc);
+    for _turn in 0..tokens.left() {
+        if !eat(tokens, Kind::In) {
+            return Ok(found);
+        }
+        found.push(bare_name(alloc, tokens)?)?;
+    }
+    Ok(found)
+}
+
+impl<F: Fn(Global, &mut Cursor<'_>, usize, Wanted) -> Result<Boxed<Expr>, ParseError>> Grammar<F> {
+    #[tactic(auto, unfolding(crate::specs::Expression::several))]
+    fn several(&self, tokens: &mut Cursor<'_>, first: Boxed<Expr>) -> Result<Enclosed, ParseError>
+        requires { Nests self.now.depth (F.pre self.now.expression) (F.post self.now.expression) }
+        ensures { Parses (spec.several self.now.depth (spec.expression self.now.depth) first tokens.old) result tokens.new }
+    {
+        let mut found = Items::new(self.alloc);
+        found.push(first)?;
+        let all = self.list(tokens, found)?;
+        expect(tokens, Kind::RightParen)?;
+        Ok(Enclosed::Several(all))
+    }
+
+    /// In parentheses one expression or more.
+    #[tactic(auto, unfolding(crate::specs::Expression::enclosed))]
+    pub fn enclosed(&self, tokens: &mut Cursor<'_>) -> Result<Enclosed, ParseError>
+        requires { Nests self.now.depth (F.pre self.now.expression) (F.post self.now.expression) }
+        ensures { Parses (spec.enclosed self.now.depth (spec.expression self.now.depth) tokens.old) result tokens.new }
+    {
+        tokens.take();
+        let first = self.deeper(tokens, Wanted::Whole)?;
+        if eat(tokens, Kind::Comma) {
+            skip_newlines(tokens);
+            return self.several(tokens, first);
+        }
+        expect(tokens, Kind::RightParen)?;
+        Ok(Enclosed::One(first))
+    }
+
+    pub fn opened(&self, tokens: &mut Cursor<'_>, enclosed: Enclosed) -> Result<Start, ParseError>
+        ensures { Parses (spec.opened self.now.depth (spec.expression self.now.depth) enclosed tokens.old) result tokens.new }
+    {
+        match enclosed {
+            Enclosed::One(e) => Ok(Start::Base(Boxed::new(self.alloc, Expr::Group(e))?)),
+            Enclosed::Several(keys) => {
+                expect(tokens, Kind::In)?;
+                let array = bare_name(self.alloc, tokens)?;
+                Ok(Start::Member(Boxed::new(self.alloc, Expr::ListIn(keys, array))?))
+            }
+        }
+    }
+
+    /// A place that may be assigned, or changed by `++` or `--`.
+    #[tactic(auto, unfolding(crate::specs::Expression::settable))]
+    fn settable(&self, tokens: &mut Cursor<'_>, place: Place) -> Result<Start, ParseError>
+        ensures { Parses (spec.settable self.now.depth (spec.expression self.now.depth) place tokens.old) result tokens.new }
+    {
+        match assignment(tokens.peek()) {
+            None => Ok(Start::Base(self.changed(tokens, place)?)),
+            Some(assignment) => {
+                tokens.take();
+                Ok(Start::Assigns(assignment, place))
+            }
+        }
+    }
+
+    #[tactic(auto, unfolding(crate::specs::Expression::opening))]
+    pub fn opening(&self, tokens: &mut Cursor<'_>) -> Result<Start, ParseError>
+        requires { Nests self.now.depth (F.pre self.now.expression) (F.post self.now.expression) }
+        ensures { Parses (spec.opening self.now.depth (spec.expression self.now.depth) tokens.old) result tokens.new }
+    {
+        match tokens.peek() {
+            Kind::LeftParen => {
+                let enclosed = self.enclosed(tokens)?;
+                self.opened(tokens, enclosed)
+            }
+            Kind::Name | Kind::Dollar => {
+                let place = self.place(tokens)?;
+                self.settable(tokens, place)
+            }
+            _ => Ok(Start::Nothing),
+        }
+    }
+}

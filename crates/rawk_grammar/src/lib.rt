@@ -1,0 +1,11 @@
+//! The grammar of programs, from tokens to a tree; expressions are `rawk_expression`'s.
+#![tactic(auto)]
+
+pub mod context;
+mod heads;
+mod items;
+mod simple;
+mod statements;
+pub mod tree;
+
+pub use items::program;
