@@ -1,13 +1,13 @@
 #!/usr/bin/env bash
 # Times one array beside mawk and gawk on one machine in one run: user + system seconds, the best of three, and the bytes
 # that an element takes. `bump` looks an element up and increments it; mawk is timed with subscripts that are numbers (for
-# which it has tables of their own) and that are texts. Nothing here is a test: make check runs crates/bench_arrays on
+# which it has tables of their own) and that are texts. Nothing here is a test: make check runs crates/bench_parts on
 # a few lines.
 set -u
 cd "$(dirname "$0")/.." || exit 2
 export LC_ALL=C
-bench=$PWD/crates/bench_arrays/out/bench_arrays
-[ -x "$bench" ] || (cd crates/bench_arrays && rt run < stdin > /dev/null) || exit 2
+bench="$PWD/crates/bench_parts/out/bench_parts"
+[ -x "$bench" ] || (cd crates/bench_parts && rt run -- arrays < stdin > /dev/null) || exit 2
 folder=$(mktemp -d)
 trap 'rm -rf "$folder"' EXIT
 
@@ -22,7 +22,7 @@ spent() { # program and words, on the lines: the best user + system seconds of t
 
 ours() { # lines of the plan: seconds
   printf '%b' "$1" > "$folder/lines"
-  spent "$bench"
+  spent "$bench" arrays
 }
 
 less() { awk -v a="$1" -v b="$2" 'BEGIN { printf "%.3f", a - b }'; }
@@ -41,8 +41,8 @@ for size in 500000 1000000 2000000; do
 done
 if [ -x /usr/bin/time ]; then
   printf 'fill 1000000\n' > "$folder/lines"
-  full=$( { /usr/bin/time -f %M "$bench" < "$folder/lines" > /dev/null; } 2>&1)
+  full=$( { /usr/bin/time -f %M "$bench" arrays < "$folder/lines" > /dev/null; } 2>&1)
   printf 'fill 1\n' > "$folder/lines"
-  bare=$( { /usr/bin/time -f %M "$bench" < "$folder/lines" > /dev/null; } 2>&1)
+  bare=$( { /usr/bin/time -f %M "$bench" arrays < "$folder/lines" > /dev/null; } 2>&1)
   echo "an element with a key of 6 bytes: $(awk -v a="$full" -v b="$bare" 'BEGIN { printf "%.0f", (a - b) * 1024 / 1000000 }') bytes"
 fi

@@ -1,12 +1,12 @@
 #!/usr/bin/env bash
 # Times the search for extended regular expressions beside the other awks on one machine in one run: user + system
 # seconds, the best of three, on 50 MB of lines made here from a fixed seed. Nothing here is a test: make check runs
-# crates/bench_ere on a few lines.
+# crates/bench_parts on a few lines.
 set -u
 cd "$(dirname "$0")/.." || exit 2
 export LC_ALL=C
-bench=$PWD/crates/bench_ere/out/bench_ere
-[ -x "$bench" ] || (cd crates/bench_ere && rt run -- "$(cat args)" < stdin > /dev/null) || exit 2
+bench="$PWD/crates/bench_parts/out/bench_parts"
+[ -x "$bench" ] || (cd crates/bench_parts && rt run -- arrays < stdin > /dev/null) || exit 2
 folder=$(mktemp -d)
 trap 'rm -rf "$folder"' EXIT
 bench/make_lines.sh "${LINES_OF_INPUT:-1160000}" > "$folder/lines"
@@ -22,8 +22,8 @@ spent() { # program and words, on the lines: the best user + system seconds of t
 }
 
 for pattern in '[0-9]+' 'foo|bar|longer' '^[a-z]+:.*x$' '(a*)*b' '^[a-z]+ .*x$' 'zzz+y' '(a|ab)(c|bcd)(d*)' '[[:alpha:]]+[0-9]{2,4}'; do
-  ours=$("$bench" "$pattern" < "$folder/lines")
-  us=$(spent "$bench" "$pattern")
+  ours=$("$bench" expressions "$pattern" < "$folder/lines")
+  us=$(spent "$bench" expressions "$pattern")
   line="$pattern: $ours lines, $us s"
   fastest=""
   for awk in mawk gawk; do
@@ -44,7 +44,7 @@ done
 long=$(printf 'a%.0s' $(seq 100000))
 once() { # a text, a pattern: seconds for one search
   local TIMEFORMAT='%U %S'
-  { time "$bench" "$2" <<< "$1" > "$folder/answer"; } 2>&1 | awk '{ printf "%.3f", $1 + $2 }'
+  { time "$bench" expressions "$2" <<< "$1" > "$folder/answer"; } 2>&1 | awk '{ printf "%.3f", $1 + $2 }'
 }
 for pattern in '(a?){30}a{30}' '(a*)*b' 'a*b|c'; do
   echo "$pattern on 100000 bytes a: $(once "$long" "$pattern") s; on 200000: $(once "$long$long" "$pattern") s; with a c behind: $(once "${long}c" "$pattern") s and $(once "$long${long}c" "$pattern") s"

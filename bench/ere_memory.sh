@@ -1,11 +1,11 @@
 #!/usr/bin/env bash
 # Measures the memory that one expression holds once it is read, and the most while it is read, in bytes as the allocator counts
-# them, without the 64 KiB in which crates/bench_ere reads its input. It wants a C compiler. Nothing here is a test.
+# them, without the 64 KiB in which crates/bench_parts reads its input. It wants a C compiler. Nothing here is a test.
 set -u
 cd "$(dirname "$0")/.." || exit 2
 export LC_ALL=C
-bench=$PWD/crates/bench_ere/out/bench_ere
-[ -x "$bench" ] || (cd crates/bench_ere && rt run < stdin > /dev/null) || exit 2
+bench="$PWD/crates/bench_parts/out/bench_parts"
+[ -x "$bench" ] || (cd crates/bench_parts && rt run -- arrays < stdin > /dev/null) || exit 2
 folder=$(mktemp -d)
 trap 'rm -rf "$folder"' EXIT
 cc -shared -fPIC -O1 -o "$folder/held.so" bench/held.c -ldl || exit 2
@@ -21,7 +21,7 @@ different() { # so many bracket expressions, no two alike
 }
 
 tell() { # a name, a pattern
-  LD_PRELOAD=$folder/held.so "$bench" "$2" < /dev/null 2>&1 > /dev/null | awk -v name="$1" '{ printf "%s: holds %d, at most %d while it is read\n", name, $1 - 65536, $2 - 65536 }'
+  LD_PRELOAD=$folder/held.so "$bench" expressions "$2" < /dev/null 2>&1 > /dev/null | awk -v name="$1" '{ printf "%s: holds %d, at most %d while it is read\n", name, $1 - 65536, $2 - 65536 }'
 }
 tell '[[:alpha:]]+[0-9]{2,4}' '[[:alpha:]]+[0-9]{2,4}'
 tell '10,000 bytes side by side' "$(times 10000 a)"

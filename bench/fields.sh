@@ -1,12 +1,12 @@
 #!/usr/bin/env bash
 # Times the reading of records and the splitting of their fields beside the other awks on one machine in one run: user + system
 # seconds, the best of three, on 100 MB of lines of eight fields made here from a fixed seed. Nothing here is a test: make check runs
-# crates/bench_record on a few lines.
+# crates/bench_parts on a few lines.
 set -u
 cd "$(dirname "$0")/.." || exit 2
 export LC_ALL=C
-bench=$PWD/crates/bench_record/out/bench_record
-[ -x "$bench" ] || (cd crates/bench_record && rt run -- : < stdin > /dev/null) || exit 2
+bench="$PWD/crates/bench_parts/out/bench_parts"
+[ -x "$bench" ] || (cd crates/bench_parts && rt run -- arrays < stdin > /dev/null) || exit 2
 folder=$(mktemp -d)
 trap 'rm -rf "$folder"' EXIT
 bench/make_input.sh "${LINES_OF_INPUT:-1400000}" > "$folder/lines"
@@ -22,8 +22,8 @@ spent() { # program and words, on the lines: the best user + system seconds of t
 }
 
 for fs in ' ' 0 ' +' '0+|1' '[0-4]+ '; do
-  ours=$("$bench" "$fs" < "$folder/lines")
-  us=$(spent "$bench" "$fs")
+  ours=$("$bench" records "$fs" < "$folder/lines")
+  us=$(spent "$bench" records "$fs")
   line="FS '$fs': $ours, $us s"
   for awk in mawk gawk; do
     command -v "$awk" > /dev/null || continue

@@ -19,15 +19,23 @@ seconds() { # program, file: the best user + system seconds of three runs
   echo "$best"
 }
 
-for program in '{ s += $2 } END { print s }' '{ n += NF } END { print n, NR }' '{ print $3, $1 }'; do
-  echo "== $program"
+beside() { # program, file: our time beside the others
+  echo "== $1"
   base=""
   for awk in mawk gawk bin/rawk; do
     command -v "$awk" > /dev/null || continue
-    spent=$(seconds "$awk" "$program" "$folder/input")
+    spent=$(seconds "$awk" "$1" "$2")
     [ "$awk" = mawk ] && base=$spent
     ratio=""
     [ -n "$base" ] && ratio=$(awk -v a="$spent" -v b="$base" 'BEGIN { printf "  %.2f of mawk", a / b }')
     echo "$awk: $spent s$ratio"
   done
+}
+
+for program in '{ s += $2 } END { print s }' '{ n += NF } END { print n, NR }' '{ print $3, $1 }'; do
+  beside "$program" "$folder/input"
+done
+yes x | head -n 3000000 > "$folder/short"
+for program in '{ x = 1; y = 2; z = x; x = 3; y = 4; z = 5; x = 6; y = 7 }' '{ n += 1 } END { print n }'; do
+  beside "$program" "$folder/short"
 done

@@ -1,5 +1,5 @@
 #!/usr/bin/env python3
-"""Asks another awk the rows `match` of crates/rows_ere and `printf` of crates/rows_value, and prints where it answers something else.
+"""Asks another awk the rows `expression match` and `printf` of crates/rows_parts, and prints where it answers something else.
 
     tools/rows_beside_awk.py [AWK ..]      by default `gawk --posix`
 
@@ -10,7 +10,7 @@ import subprocess
 import sys
 
 AWK = sys.argv[1:] or ["gawk", "--posix"]
-CRATES = os.path.join(os.path.dirname(os.path.abspath(__file__)), "..", "crates")
+ROWS = os.path.join(os.path.dirname(os.path.abspath(__file__)), "..", "crates", "rows_parts", "stdin")
 LEAST = "-9223372036854775808"
 
 
@@ -37,13 +37,14 @@ def unescaped(text):
     return out
 
 
-def rows(crate, word):
-    """The rows of a crate that begin with a word: the line's number, the other parts, and the answer."""
-    with open(f"{CRATES}/{crate}/stdin", encoding="utf-8") as file:
+def rows(words):
+    """The rows that begin with these words: the line's number, the other parts, and the answer."""
+    with open(ROWS, encoding="utf-8") as file:
         for number, line in enumerate(file, 1):
             head, arrow, answer = line.rstrip("\n").rpartition(" =>")
-            if arrow and head.startswith(word + "\t"):
-                yield number, [unescaped(part) for part in head.split("\t")][1:], unescaped(answer[1:])
+            parts = head.split("\t")
+            if arrow and parts[: len(words)] == words:
+                yield number, [unescaped(part) for part in parts[len(words) :]], unescaped(answer[1:])
 
 
 def asked_of(program, **texts):
@@ -82,14 +83,15 @@ def printf(form, *values):
 
 def main():
     count = differ = 0
-    for crate, word, call in [("rows_ere", "match", match), ("rows_value", "printf", printf)]:
-        for number, parts, wanted in rows(crate, word):
+    for words, call in [(["expression", "match"], match), (["printf"], printf)]:
+        for number, parts, wanted in rows(words):
             count += 1
             came = call(*parts)
             if came != wanted:
                 differ += 1
-                print(f"{crate}/stdin:{number}: {parts}: wanted {wanted!r}, came {came!r}")
+                print(f"line {number}: {parts}: wanted {wanted!r}, came {came!r}")
     print(f"{count} rows, {differ} differ")
 
 
-main()
+if __name__ == "__main__":
+    main()

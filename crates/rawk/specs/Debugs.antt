@@ -3,7 +3,7 @@ use Rattle.std.specs.Prelude.{◌≡◌, ℕ, ◌≤◌, ◌++◌, true, false, 
 use Rattle.rawk_value.specs.Values.{Bytes}
 use Rattle.rawk_tape.specs.Records.{Input}
 use Rattle.rawk_syntax.specs.declared.tree.Program.{Program}
-use Rattle.rawk_syntax.specs.declared.refusal.Refusal.{Refusal}
+use Rattle.rawk_parsing.specs.declared.refusal.Refusal.{Refusal}
 use Rattle.rawk_syntax.specs.Texts.{IsProgram}
 use Rattle.rawk_value.specs.declared.fault.Fault.TheVariants as fault
 use Rattle.rawk_code.specs.Trace.{FirstValue}
@@ -30,7 +30,7 @@ first_stand p settings steps history = stand_at (first_position p settings steps
 
 -- what a report says of a session, with what the sink took
 pub data Debugs {S C V : Type 0} (may_give : S → Input → Type 0) (may_ask : C → Input → Type 0) (may_hold : V → Bytes → Type 0) (text : Bytes) (settings : List FirstValue) (source : S) (commands : C) (steps : ℕ) (history : Option ℕ) (sink now : V) : Report → Type 0 where
-  -- The text was refused, and nothing was written. A text that has a tree by the grammar, within the limits, is refused for want of memory alone.
+  -- The text was refused, and nothing was written. A text that plain rules read, within the limits, is refused for want of memory alone.
   text_refused : (refusal : Refusal) → IsRefusedText text refusal → now ≡ sink → Debugs may_give may_ask may_hold text settings source commands steps history sink now (refused_by refusal)
   -- a first value can't be assigned: nothing was written
   settings_refused : (p : Program) → IsProgram text p → settings_fit p settings ≡ false → now ≡ sink

@@ -1,7 +1,7 @@
 -- Reports where a run or a session was not let to its end, or not begun.
 use Rattle.std.specs.Prelude.{ℕ}
 use Rattle.rawk_value.specs.declared.fault.Fault.TheVariants.{WriteFailed}
-use Rattle.rawk_syntax.specs.declared.refusal.Refusal.{Refusal}
+use Rattle.rawk_parsing.specs.declared.refusal.Refusal.{Refusal}
 use Rattle.rawk.specs.declared.report.Report.{Report}
 use Rattle.rawk.specs.declared.report.Cause.{Cause}
 use Rattle.rawk.specs.declared.report.Cause.TheVariants as cause

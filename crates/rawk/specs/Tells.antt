@@ -3,7 +3,7 @@ use Rattle.std.specs.Prelude.{◌≡◌, ℕ, ◌++◌, true, false, List, []}
 use Rattle.rawk_value.specs.Values.{Bytes}
 use Rattle.rawk_tape.specs.Records.{Input}
 use Rattle.rawk_syntax.specs.declared.tree.Program.{Program}
-use Rattle.rawk_syntax.specs.declared.refusal.Refusal.{Refusal}
+use Rattle.rawk_parsing.specs.declared.refusal.Refusal.{Refusal}
 use Rattle.rawk_syntax.specs.Texts.{IsProgram}
 use Rattle.rawk_code.specs.Trace.{FirstValue, trace}
 use Rattle.rawk_code.specs.Settings.{settings_fit}
@@ -15,7 +15,7 @@ use Rattle.rawk.specs.Runs.{IsRunOf}
 
 -- what a report says of a run, with what the sink took
 pub data Tells {S V : Type 0} (may_give : S → Input → Type 0) (may_hold : V → Bytes → Type 0) (text : Bytes) (settings : List FirstValue) (source : S) (steps : ℕ) (sink now : V) : Report → Type 0 where
-  -- The text was refused, nothing ran and nothing was written. A text that has a tree by the grammar, within the limits, is refused for want of memory alone.
+  -- The text was refused, nothing ran and nothing was written. A text that plain rules read, within the limits, is refused for want of memory alone.
   text_refused : (refusal : Refusal) → IsRefusedText text refusal → now ≡ sink → Tells may_give may_hold text settings source steps sink now (refused_by refusal)
   -- a first value can't be assigned: nothing ran and nothing was written
   settings_refused : (p : Program) → IsProgram text p → settings_fit p settings ≡ false → now ≡ sink

@@ -294,6 +294,14 @@ impl Arrays {
         group
     }
 
+    /// What is so of all arrays. It does nothing.
+    #[inline]
+    pub fn known(&self)
+        ensures { IsLaid self.now.now.index self.now.now.slots }
+    {
+        let _live = self.live;
+    }
+
     /// Ends the step, and forgets what it changed. It takes no memory.
     pub fn forget(&mut self)
         ensures now { self.new ≡ at_rest self.old.now }
@@ -311,7 +319,7 @@ impl Arrays {
         ensures rest { self.new.start ≡ self.new.now }
         ensures laid { IsLaid self.new.now.index self.new.now.slots }
     {
-        if self.emptied / 2 > self.cells.len() / 4 + FEW {
+        if self.emptied > FEW && self.emptied / 2 > self.cells.len() / 4 + FEW {
             self.emptied = 0;
             pack(alloc, &mut self.index, &mut self.cells, self.live);
         }

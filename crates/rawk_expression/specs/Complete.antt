@@ -1,42 +1,43 @@
 -- The parser reads each plain expression.
-use Rattle.std.proofs.Common.{◌≡◌, ◌≢◌, ℕ, zero, suc, ℤ, ◌<◌, ◌≤◌, Bool, true, false, not, cond, ◌==◌, ◌⊎◌, inl, inr, List, [], ◌∷◌, ◌++◌, Option, Some, None, Ok, Err, refl, sym, ap, subst, ◌∙◌, append_assoc, rules, arith}
+use Rattle.std.proofs.Common.{◌≡◌, ◌≢◌, ℕ, zero, suc, ℤ, ◌<◌, ◌≤◌, Bool, true, false, not, cond, ◌==◌, ◌⊎◌, inl, inr, List, [], ◌∷◌, ◌++◌, Option, Some, None, Ok, Err, refl, sym, ap, subst, ◌∙◌, append_assoc, append-nil, rules, arith}
 use Rattle.std.proofs.lemmas.Bool.{false_from_ne_true}
 use Rattle.rawk_lexer.specs.declared.token.Kind.{Kind}
 use Rattle.rawk_lexer.specs.declared.token.Kind.TheVariants as k
 use Rattle.rawk_lexer.specs.Lex.{kind, next, left, ere_len, ere_spelling, past_ere}
 use Rattle.rawk_lexer.specs.Escape.{unescaped_of, unquoted}
 use Rattle.rawk_lexer.specs.Moves.{some_left}
-use Rattle.rawk_expression.specs.declared.refusal.RefusalKind.TheVariants as refused
-use Rattle.rawk_expression.specs.declared.parse_error.ParseError.TheVariants.{Here}
+use Rattle.rawk_parsing.specs.declared.refusal.RefusalKind.TheVariants as refused
+use Rattle.rawk_parsing.specs.declared.parse_error.ParseError.TheVariants.{Here}
 use Rattle.rawk_expression.specs.declared.grammar.Wanted.TheVariants as want
 use Rattle.rawk_expression.specs.declared.operands.Enclosed.{Enclosed}
 use Rattle.rawk_expression.specs.declared.operands.Enclosed.TheVariants as inside
 use Rattle.rawk_expression.specs.declared.operands.Start.{Start}
 use Rattle.rawk_expression.specs.declared.operands.Start.TheVariants as start
 use Rattle.rawk_expression.specs.declared.junctions.Operand.{Operand}
-use Rattle.rawk_expression.specs.declared.tree.Operator.{Operator}
-use Rattle.rawk_expression.specs.declared.tree.Sign.{Sign}
-use Rattle.rawk_expression.specs.declared.tree.Change.{Change}
-use Rattle.rawk_expression.specs.declared.tree.Change.TheVariants as changes
-use Rattle.rawk_expression.specs.declared.tree.Assignment.{Assignment}
-use Rattle.rawk_expression.specs.declared.tree.Function.{Function}
-use Rattle.rawk_expression.specs.declared.tree.Function.TheVariants as fun
-use Rattle.rawk_expression.specs.declared.tree.Expr.{Expr}
-use Rattle.rawk_expression.specs.declared.tree.Expr.TheVariants as tree
-use Rattle.rawk_expression.specs.declared.tree.Place.{Place}
-use Rattle.rawk_expression.specs.declared.tree.Place.TheVariants as spot
-use Rattle.rawk_expression.specs.Constant.{constant}
-use Rattle.rawk_expression.specs.Parser.{Input, Outcome, Parser, and_then, ◌>>=◌, ◌>>◌, pure, refuse, too_deep, left_out, peek, take_token, eat, expect, sees, after, newlines, newlines_from, name_at, bare_name, not_redirected, same_kind}
-use Rattle.rawk_expression.specs.Parser as parser
-use Rattle.rawk_expression.specs.Tables as table
+use Rattle.rawk_parsing.specs.declared.tree.Operator.{Operator}
+use Rattle.rawk_parsing.specs.declared.tree.Sign.{Sign}
+use Rattle.rawk_parsing.specs.declared.tree.Change.{Change}
+use Rattle.rawk_parsing.specs.declared.tree.Change.TheVariants as changes
+use Rattle.rawk_parsing.specs.declared.tree.Assignment.{Assignment}
+use Rattle.rawk_parsing.specs.declared.tree.Function.{Function}
+use Rattle.rawk_parsing.specs.declared.tree.Function.TheVariants as fun
+use Rattle.rawk_parsing.specs.declared.tree.Expr.{Expr}
+use Rattle.rawk_parsing.specs.declared.tree.Expr.TheVariants as tree
+use Rattle.rawk_parsing.specs.declared.tree.Link.{Link}
+use Rattle.rawk_parsing.specs.declared.tree.Place.{Place}
+use Rattle.rawk_parsing.specs.declared.tree.Place.TheVariants as spot
+use Rattle.rawk_parsing.specs.Constant.{constant}
+use Rattle.rawk_parsing.specs.Parser.{Input, Outcome, Parser, and_then, ◌>>=◌, ◌>>◌, pure, refuse, too_deep, left_out, peek, take_token, eat, expect, sees, after, newlines, newlines_from, name_at, bare_name, not_redirected, same_kind}
+use Rattle.rawk_parsing.specs.Parser as parser
+use Rattle.rawk_parsing.specs.Tables as table
 use Rattle.rawk_expression.specs.Expression as x
-use Rattle.rawk_expression.specs.Tokens.{Spells, SpellsEre}
-use Rattle.rawk_expression.specs.Grammar.{Phrase, Whole, Primary, APlace, Arguments, Listed, PrintList}
-use Rattle.rawk_expression.specs.Steps.{done, and_then_ok, expect_ok, sees_kind}
-use Rattle.rawk_expression.specs.Plain.{Plain, number, text, ere, group, of_place, call, builtin, named, element, field, no_argument, some_arguments, one, several, print_list, print_group, alone, operated, signed, raised, changed_after, changed_before, assign, contains, listed_in, joint, choice, bare_length, getline, getline_to}
-use Rattle.rawk_expression.specs.Follow.{Calm, Seen, after_is, after_not, apart, bare_name_is, by_kind, change_assignment, eats, ends, ends_stops, eq_from, expect_is, join_seen, joins_small, leaves, newlines_exact, not_seen, place_starts, seen, starts, stops, stops_calm, stops_change, stops_silent, then_ok}
-use Rattle.rawk_expression.specs.Upward.{atom_level, chosen_none, finished_is, finished_level, finished_operand, finished_unary, junction_once, junction_up, level_once, level_ups, member_none, member_one, operand_level, operand_start, raised_none, redirected_none, start_of, unary_postfix}
-use Rattle.rawk_expression.specs.Fronts.{begins, fronts, newlines_shrink, not_newline, shrinks, spells_shrink}
+use Rattle.rawk_parsing.specs.Tokens.{Spells, SpellsEre}
+use Rattle.rawk_expression.specs.Grammar.{Joins, Phrase, Whole, Level, Links, Primary, APlace, Arguments, Listed, PrintList}
+use Rattle.rawk_parsing.specs.Steps.{done, and_then_ok, expect_ok, sees_kind}
+use Rattle.rawk_expression.specs.Plain.{Plain, number, text, ere, group, of_place, call, builtin, named, element, field, no_argument, some_arguments, one, several, print_list, print_group, operated, tight, chain, no_more, once, again, signed, raised, changed_after, changed_before, assign, contains, listed_in, joint, choice, bare_length, getline, getline_to}
+use Rattle.rawk_expression.specs.Follow.{Calm, Seen, after_is, after_not, apart, bare_name_is, by_kind, change_assignment, eats, ends, ends_stops, eq_from, expect_is, join_seen, leaves, newlines_exact, not_seen, place_starts, seen, starts, stops, stops_calm, stops_change, stops_silent, then_ok}
+use Rattle.rawk_expression.specs.Upward.{stop, atom_level, chosen_none, finished_is, finished_level, finished_operand, finished_unary, junction_once, junction_up, member_none, member_one, operand_level, operand_start, raised_none, redirected_none, start_of, unary_postfix}
+use Rattle.rawk_expression.specs.Fronts.{begins, fronts, joins_shrink, newlines_shrink, not_newline, shrinks, spells_shrink}
 
 -- ---- operands
 
@@ -323,18 +324,118 @@ whole_from : (d : ℕ) (p : Bool) (s : Start) (e : Expr) (i m j : Input) → x.o
 unfolding x.whole
 whole_from d p s e i m j h g = then_ok (x.opening d (x.expression d) i) (x.finished d (x.expression d) p) s m h ∙ g
 
-alone_is : (d : ℕ) (p : Bool) (e : Expr) (i j : Input) → Reads d e i j → ends (kind j) ≡ true → x.whole d (x.expression d) p i ≡ Ok (e, j)
-alone_is d p e i j r en =
-    let a = first_operand d p e i j r (ends_stops (kind j) en) (apart ends (kind j) k.In en refl) in
-    whole_from d p (start_of a.0.head) e i a.0.at j a.0.opens (finished_operand d (x.expression d) p (start_of a.0.head) (x.closed e) a.0.at j a.1 en)
+-- ---- chains of operators
 
-operated_is : (d n : ℕ) (p : Bool) (o : Operator) (e f : Expr) (i j l m : Input) → Opens d e i j → Seen p (suc n) o j l → suc n ≤ 5 → Reads d f l m → ends (kind m) ≡ true → x.whole d (x.expression d) p i ≡ Ok (x.chained e (x.link o f ∷ []), m)
-operated_is d n p o e f i j l m first see small b en =
-    let st = ends_stops (kind m) en in
-    let la = atom_level d (x.expression d) p first.head n e first.at j first.goes see.no_caret (λ q lo hi. see.other q (λ z. omega arith)) in
-    let all = level_once d (x.expression d) p first.head n o e f first.at j l m la see (right_level d p n f l m b st) (stops_silent p (kind m) st (suc n)) in
-    let top = level_ups d (x.expression d) p first.head (suc n) 5 _ first.at m all (λ q lo hi. stops_silent p (kind m) st q) small in
-    whole_from d p (start_of first.head) _ i first.at m first.opens (finished_level d (x.expression d) p first.head _ first.at m top en)
+-- what may stand behind operands that operators up to a level join
+pub record Quiet (p : Bool) (n : ℕ) (j : Input) : Type 0 where
+  pub calm : Calm j
+  pub no_caret : kind j ≢ k.Caret
+  pub silent : (m : ℕ) → 0 < m → m ≤ n → table.joins p m (kind j) ≡ None
+
+stops_quiet : (p : Bool) (n : ℕ) (j : Input) → stops (kind j) ≡ true → Quiet p n j
+stops_quiet p n j st = record { calm = stops_calm j st; no_caret = apart stops (kind j) k.Caret st refl; silent = λ m lo hi. stops_silent p (kind j) st m }
+
+less_quiet : (p : Bool) (n : ℕ) (j : Input) → Quiet p (suc n) j → Quiet p n j
+less_quiet p n j q = record { calm = q.calm; no_caret = q.no_caret; silent = λ m lo hi. q.silent m lo (omega arith) }
+
+-- an operator of the next level
+seen_quiet : (p : Bool) (n : ℕ) (o : Operator) (j l : Input) → Seen p (suc n) o j l → Quiet p n j
+seen_quiet p n o j l see = record { calm = see.calm; no_caret = see.no_caret; silent = λ m lo hi. see.other m (λ z. omega arith) }
+
+-- how operands are read from the left, the first of which has begun
+pub record OpensLevel (d : ℕ) (p : Bool) (n : ℕ) (e : Expr) (i j : Input) : Type 0 where
+  pub head : Option Expr
+  pub at : Input
+  pub opens : x.opening d (x.expression d) i ≡ Ok (start_of head, at)
+  pub goes : x.level d (x.expression d) p head n at ≡ Ok (e, j)
+
+pub record ReadsLevel (d : ℕ) (p : Bool) (n : ℕ) (e : Expr) (i j : Input) : Type 0 where
+  pub begins_so : starts (kind i) ≡ true
+  pub as_right : Quiet p n j → x.level d (x.expression d) p None n i ≡ Ok (e, j)
+  pub as_first : Quiet p n j → OpensLevel d p n e i j
+
+-- how further operands are read
+pub record ReadsLinks (d : ℕ) (p : Bool) (n : ℕ) (xs : List Link) (i j : Input) : Type 0 where
+  pub quiet : Quiet p (suc n) j → Quiet p n i
+  pub reads : Quiet p (suc n) j → (turns : ℕ) (found : List Link) → left i ≤ turns → x.links_from p (suc n) (x.level d (x.expression d) p None n) turns found i ≡ Ok (found ++ xs, j)
+
+tight_reads : (d : ℕ) (p : Bool) (e : Expr) (i j : Input) → Reads d e i j → ReadsLevel d p 0 e i j
+tight_reads d p e i j r = record {
+  begins_so = r.begins_so;
+  as_right = λ q. atom_level d (x.expression d) p None 0 e i j (unary_postfix d (x.expression d) e i j r.begins_so (r.as_postfix q.calm.no_bracket q.calm.no_change)) q.no_caret q.silent;
+  as_first = λ q. (let o = r.as_first q.calm in record { head = o.head; at = o.at; opens = o.opens; goes = atom_level d (x.expression d) p o.head 0 e o.at j o.goes q.no_caret q.silent });
+}
+
+level_links : (d : ℕ) (p : Bool) (head : Option Expr) (n : ℕ) (e : Expr) (xs : List Link) (i j l : Input) → x.level d (x.expression d) p head n i ≡ Ok (e, j) → ReadsLinks d p n xs j l → Quiet p (suc n) l
+    → x.level d (x.expression d) p head (suc n) i ≡ Ok (x.chained e xs, l)
+unfolding x.level x.links
+level_links d p head n e xs i j l h r q =
+    then_ok (x.level d (x.expression d) p head n i) (λ first. x.links p (suc n) (x.level d (x.expression d) p None n) >>= (λ found. pure (x.chained first found))) e j h
+    ∙ then_ok (x.links p (suc n) (x.level d (x.expression d) p None n) j) (λ found. pure (x.chained e found)) xs l (r.reads q (left j) [] (omega arith))
+
+chain_reads : (d : ℕ) (p : Bool) (n : ℕ) (e : Expr) (xs : List Link) (i j l : Input) → ReadsLevel d p n e i j → ReadsLinks d p n xs j l → ReadsLevel d p (suc n) (x.chained e xs) i l
+chain_reads d p n e xs i j l g r = record {
+  begins_so = g.begins_so;
+  as_right = λ q. level_links d p None n e xs i j l (g.as_right (r.quiet q)) r q;
+  as_first = λ q. (let o = g.as_first (r.quiet q) in record { head = o.head; at = o.at; opens = o.opens; goes = level_links d p o.head n e xs o.at j l o.goes r q });
+}
+
+no_more_reads : (d : ℕ) (p : Bool) (n : ℕ) (i : Input) → ReadsLinks d p n [] i i
+no_more_reads d p n i = record {
+  quiet = less_quiet p n i;
+  reads = λ q turns found fuel. stop p (suc n) (x.level d (x.expression d) p None n) turns found i (q.silent (suc n) (omega arith) (omega arith)) ∙ ap (λ l. done l i) (sym (append-nil found));
+}
+
+-- one operator with its operand, and then what more does
+linked_is : (d : ℕ) (p : Bool) (n turns : ℕ) (o : Operator) (e : Expr) (found all : List Link) (i j l m : Input) → Seen p (suc n) o i j → x.level d (x.expression d) p None n j ≡ Ok (e, l)
+    → cond (table.is_alone (suc n)) (pure (found ++ x.link o e ∷ [])) (x.links_from p (suc n) (x.level d (x.expression d) p None n) turns (found ++ x.link o e ∷ [])) l ≡ Ok (all, m)
+    → x.links_from p (suc n) (x.level d (x.expression d) p None n) (suc turns) found i ≡ Ok (all, m)
+unfolding x.links_from
+linked_is d p n turns o e found all i j l m see h rest =
+    let operand = x.level d (x.expression d) p None n in
+    ap (λ q. x.linked (suc n) operand (x.links_from p (suc n) operand turns) found q i) see.found
+    ∙ then_ok (operand (x.past (table.is_concat o) i)) (λ y. cond (table.is_alone (suc n)) (pure (found ++ x.link o y ∷ [])) (x.links_from p (suc n) operand turns (found ++ x.link o y ∷ []))) e l (ap operand see.past ∙ h)
+    ∙ rest
+
+once_from : (d : ℕ) (p : Bool) (n turns : ℕ) (o : Operator) (e : Expr) (found : List Link) (i j l : Input) → left i ≤ turns → Seen p (suc n) o i j → x.level d (x.expression d) p None n j ≡ Ok (e, l) → table.joins p (suc n) (kind l) ≡ None
+    → x.links_from p (suc n) (x.level d (x.expression d) p None n) turns found i ≡ Ok (found ++ x.link o e ∷ [], l)
+once_from d p n zero o e found i j l fuel see h quiet = absurd (let some = some_left i see.no_end in omega arith)
+once_from d p n (suc turns) o e found i j l fuel see h quiet = linked_is d p n turns o e found (found ++ x.link o e ∷ []) i j l l see h (go (table.is_alone (suc n)))
+  where
+    go : (t : Bool) → cond t (pure (found ++ x.link o e ∷ [])) (x.links_from p (suc n) (x.level d (x.expression d) p None n) turns (found ++ x.link o e ∷ [])) l ≡ Ok (found ++ x.link o e ∷ [], l)
+    go true = refl
+    go false = stop p (suc n) (x.level d (x.expression d) p None n) turns (found ++ x.link o e ∷ []) l quiet
+
+once_reads : (d : ℕ) (p : Bool) (n : ℕ) (o : Operator) (e : Expr) (i j l : Input) → Joins p (suc n) o i j → ReadsLevel d p n e j l → ReadsLinks d p n (x.link o e ∷ []) i l
+once_reads d p n o e i j l s g =
+    let see = join_seen p (suc n) o i j g.begins_so s in
+    record {
+      quiet = λ q. seen_quiet p n o i j see;
+      reads = λ q turns found fuel. once_from d p n turns o e found i j l fuel see (g.as_right (less_quiet p n l q)) (q.silent (suc n) (omega arith) (omega arith));
+    }
+
+again_from : (d : ℕ) (p : Bool) (n turns : ℕ) (o : Operator) (e : Expr) (xs found : List Link) (i j l m : Input) → left i ≤ turns → left l < left i → table.is_alone (suc n) ≡ false → Seen p (suc n) o i j → x.level d (x.expression d) p None n j ≡ Ok (e, l)
+    → ((turns : ℕ) (found : List Link) → left l ≤ turns → x.links_from p (suc n) (x.level d (x.expression d) p None n) turns found l ≡ Ok (found ++ xs, m))
+    → x.links_from p (suc n) (x.level d (x.expression d) p None n) turns found i ≡ Ok (found ++ x.link o e ∷ xs, m)
+again_from d p n zero o e xs found i j l m fuel less many see h rest = absurd (omega arith)
+again_from d p n (suc turns) o e xs found i j l m fuel less many see h rest =
+    linked_is d p n turns o e found (found ++ x.link o e ∷ xs) i j l m see h
+    (ap (λ t. cond t (pure (found ++ x.link o e ∷ [])) (x.links_from p (suc n) (x.level d (x.expression d) p None n) turns (found ++ x.link o e ∷ [])) l) many
+    ∙ rest turns (found ++ x.link o e ∷ []) (omega arith) ∙ ap (λ v. done v m) (append_assoc found (x.link o e ∷ []) xs))
+
+again_reads : (d : ℕ) (p : Bool) (n : ℕ) (o : Operator) (e : Expr) (xs : List Link) (i j l m : Input) → table.is_alone (suc n) ≡ false → left j ≤ left i → left l < left j → Joins p (suc n) o i j → ReadsLevel d p n e j l → ReadsLinks d p n xs l m
+    → ReadsLinks d p n (x.link o e ∷ xs) i m
+again_reads d p n o e xs i j l m many less few s g r =
+    let see = join_seen p (suc n) o i j g.begins_so s in
+    record {
+      quiet = λ q. seen_quiet p n o i j see;
+      reads = λ q turns found fuel. again_from d p n turns o e xs found i j l m fuel (omega arith) many see (g.as_right (r.quiet q)) (r.reads q);
+    }
+
+operated_is : (d : ℕ) (p : Bool) (e : Expr) (i j : Input) → ReadsLevel d p 5 e i j → ends (kind j) ≡ true → x.whole d (x.expression d) p i ≡ Ok (e, j)
+operated_is d p e i j g en =
+    let o = g.as_first (stops_quiet p 5 j (ends_stops (kind j) en)) in
+    whole_from d p (start_of o.head) e i o.at j o.opens (finished_level d (x.expression d) p o.head e o.at j o.goes en)
 
 sign_opening : (d : ℕ) (c : Kind) (s : Sign) → table.sign c ≡ Some s → x.opening_by d (x.expression d) c ≡ pure start.Nothing
 sign_opening d k.Plus s h = refl
@@ -627,6 +728,8 @@ print_group_is d es i q at h en =
 -- what the parser reads, by what stands behind it
 abbrev pub Complete : ℕ → Phrase → Input → Input → Type 0
 Complete d (Whole p e) i j = ends (kind j) ≡ true → x.whole d (x.expression d) p i ≡ Ok (e, j)
+Complete d (Level p n e) i j = ReadsLevel d p n e i j
+Complete d (Links p (suc n) xs) i j = ReadsLinks d p n xs i j
 Complete d (Primary e) i j = Reads d e i j
 Complete d (APlace y) i j = (table.begins_place (kind i) ≡ true) × (kind j ≢ k.LeftBracket → x.place d (x.expression d) i ≡ Ok (y, j))
 Complete d (Arguments es) i j = (kind i ≡ k.LeftParen) × (x.arguments d (x.expression d) i ≡ Ok (es, j))
@@ -669,18 +772,19 @@ complete (several {d = d} {p = p} {e = e} {es = es} {w = w} {i = i} {j = j} {l =
     let a = shrinks g in
     let b = spells_shrink k.Comma w j l (λ q. cc) s in
     let c = newlines_shrink l m t in
-    several_complete (x.whole d (x.expression d) p) e es w i j l m o (complete g (ap ends s.is_kind)) s (newlines_exact l m (not_newline h) t) (omega arith) (λ q f small. complete h q f small en ne) n found le
+    several_complete (x.whole d (x.expression d) p) e es w i j l m o (complete g (ap ends s.is_kind)) s (newlines_exact l m (not_newline _ (fronts h)) t) (omega arith) (λ q f small. complete h q f small en ne) n found le
 complete (print_list {d = d} (one {e = e} {i = i} {j = j} g)) = λ en ne. print_one d e i j (complete g en) (apart begins (kind i) k.Greater (fronts g) refl) ne
 complete (print_list {d = d} (several {e = e} {es = es} {w = w} {i = i} {j = j} {l = l} {m = m} {n = o} g s t h)) = λ en ne.
-    print_more d e es w i j l m o (complete g (ap ends s.is_kind)) (apart begins (kind i) k.Greater (fronts g) refl) s (newlines_exact l m (not_newline h) t) (complete h (left m) (e ∷ []) (omega arith) en ne)
+    print_more d e es w i j l m o (complete g (ap ends s.is_kind)) (apart begins (kind i) k.Greater (fronts g) refl) s (newlines_exact l m (not_newline _ (fronts h)) t) (complete h (left m) (e ∷ []) (omega arith) en ne)
 complete (print_group {d = d} {e = e} {es = es} {u = u} {v = v} {w = w} {i = i} {j = j} {l = l} {m = m} {n = n} {o = o} {q = q} s g c t h r) = λ en ne.
-    print_group_is (suc d) (e ∷ es) i q s.is_kind (enclosed_list d e es u v w i j l m n o q s (complete g (ap ends c.is_kind)) c (newlines_exact m n (not_newline h) t) (complete h) r) en
-complete (alone {d = d} {p = p} {e = e} {i = i} {j = j} g) = λ en. alone_is d p e i j (complete g) en
-complete (operated {d = d} {n = n} {p = p} {o = o} {e = e} {f = f} {i = i} {j = j} {l = l} {m = m} g s h) = λ en.
-    let a = complete g in
-    let b = complete h in
-    let see = join_seen p (suc n) o j l b.begins_so s in
-    operated_is d n p o e f i j l m (a.as_first see.calm) see (joins_small p (suc n) o j l s) b en
+    print_group_is (suc d) (e ∷ es) i q s.is_kind (enclosed_list d e es u v w i j l m n o q s (complete g (ap ends c.is_kind)) c (newlines_exact m n (not_newline _ (fronts h)) t) (complete h) r) en
+complete (operated {d = d} {p = p} {e = e} {i = i} {j = j} g) = λ en. operated_is d p e i j (complete g) en
+complete (tight {d = d} {p = p} {e = e} {i = i} {j = j} g) = tight_reads d p e i j (complete g)
+complete (chain {d = d} {n = n} {p = p} {e = e} {xs = xs} {i = i} {j = j} {l = l} g h) = chain_reads d p n e xs i j l (complete g) (complete h)
+complete {i = i} (no_more {d = d} {n = n} {p = p}) = no_more_reads d p n i
+complete (once {d = d} {n = n} {p = p} {o = o} {e = e} {i = i} {j = j} {l = l} s g) = once_reads d p n o e i j l s (complete g)
+complete (again {d = d} {n = n} {p = p} {o = o} {e = e} {xs = xs} {i = i} {j = j} {l = l} {m = m} many s g h) =
+    again_reads d p n o e xs i j l m many (joins_shrink p (suc n) o i j s) (shrinks g) s (complete g) (complete h)
 complete (signed {d = d} {p = p} {c = c} {w = w} {s = s} {e = e} {i = i} {j = j} {l = l} t h g) = λ en. signed_is d p c w s e i j l t h (complete g) en
 complete (raised {d = d} {p = p} {e = e} {f = f} {w = w} {i = i} {j = j} {l = l} {m = m} g s h) = λ en. raised_is d p w e f i j l m (complete g) s (complete h) en
 complete (changed_after {d = d} {p = p} {c = c} {how = how} {y = y} {w = w} {i = i} {j = j} {l = l} g s e) = λ en. (let h = complete g in changed_after_is d p c how y w i j l h.0 h.1 s e en)
@@ -690,9 +794,9 @@ complete (assign {d = d} {p = p} {c = c} {how = how} {y = y} {e = e} {w = w} {i 
     (let t = complete g in assign_is d p c how y e w i j l m t.0 t.1 s a (complete h en) en)
 complete (contains {d = d} {p = p} {e = e} {v = v} {w = w} {i = i} {j = j} {l = l} {m = m} g s t) = λ en. contains_is d p e v w i j l m (complete g) s t en
 complete (listed_in {d = d} {p = p} {e = e} {es = es} {u = u} {v = v} {w = w} {x = a} {y = b} {i = i} {j = j} {l = l} {m = m} {n = n} {o = o} {q = q} {r = r} {s = z} s g c t h k1 k2 k3) = λ en.
-    listed_in_is (suc d) p (e ∷ es) a b b i q r z s.is_kind (enclosed_list d e es u v w i j l m n o q s (complete g (ap ends c.is_kind)) c (newlines_exact m n (not_newline h) t) (complete h) k1) k2 k3 en
+    listed_in_is (suc d) p (e ∷ es) a b b i q r z s.is_kind (enclosed_list d e es u v w i j l m n o q s (complete g (ap ends c.is_kind)) c (newlines_exact m n (not_newline _ (fronts h)) t) (complete h) k1) k2 k3 en
 complete (joint {d = d} {n = n} {p = p} {e = e} {f = f} {w = w} {i = i} {j = j} {l = l} {m = m} {o = o} small g s t h) = λ en.
-    joint_is d n p e f w i j l m o small (complete g) s (newlines_exact l m (not_newline h) t) (complete h) en
+    joint_is d n p e f w i j l m o small (complete g) s (newlines_exact l m (not_newline _ (fronts h)) t) (complete h) en
 complete (choice {d = d} {p = p} {e = e} {f = f} {g = r} {v = v} {w = w} {i = i} {j = j} {l = l} {m = m} {n = n} {o = o} g s h t a) = λ en.
     choice_is d p e f r v w i j l m n o (complete g) s (complete h (ap ends t.is_kind)) t (complete a en) en
 complete {d = d} {i = i} {j = j} (bare_length {w = w} s ne) = token_reads d k.Length (tree.Builtin fun.Length []) i j s.is_kind refl refl refl (bare_length_is d w i j s ne)

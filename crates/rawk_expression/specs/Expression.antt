@@ -3,8 +3,8 @@ use Rattle.std.specs.Prelude.{ℕ, zero, suc, Bool, true, false, not, ◌||◌, 
 use Rattle.rawk_lexer.specs.declared.token.Kind.{Kind}
 use Rattle.rawk_lexer.specs.declared.token.Kind.TheVariants as k
 use Rattle.rawk_lexer.specs.Lex.{kind, next, left}
-use Rattle.rawk_expression.specs.declared.refusal.RefusalKind.TheVariants as refused
-use Rattle.rawk_expression.specs.declared.parse_error.ParseError.TheVariants.{Here}
+use Rattle.rawk_parsing.specs.declared.refusal.RefusalKind.TheVariants as refused
+use Rattle.rawk_parsing.specs.declared.parse_error.ParseError.TheVariants.{Here}
 use Rattle.rawk_expression.specs.declared.grammar.Wanted.{Wanted}
 use Rattle.rawk_expression.specs.declared.grammar.Wanted.TheVariants as want
 use Rattle.rawk_expression.specs.declared.operands.Enclosed.{Enclosed}
@@ -12,21 +12,21 @@ use Rattle.rawk_expression.specs.declared.operands.Enclosed.TheVariants as insid
 use Rattle.rawk_expression.specs.declared.operands.Start.{Start}
 use Rattle.rawk_expression.specs.declared.operands.Start.TheVariants as start
 use Rattle.rawk_expression.specs.declared.junctions.Operand.{Operand}
-use Rattle.rawk_expression.specs.declared.tree.Operator.{Operator}
-use Rattle.rawk_expression.specs.declared.tree.Sign.{Sign}
-use Rattle.rawk_expression.specs.declared.tree.Change.{Change}
-use Rattle.rawk_expression.specs.declared.tree.Change.TheVariants as changes
-use Rattle.rawk_expression.specs.declared.tree.Assignment.{Assignment}
-use Rattle.rawk_expression.specs.declared.tree.Function.{Function}
-use Rattle.rawk_expression.specs.declared.tree.Function.TheVariants as fun
-use Rattle.rawk_expression.specs.declared.tree.Name.{Name}
-use Rattle.rawk_expression.specs.declared.tree.Expr.{Expr}
-use Rattle.rawk_expression.specs.declared.tree.Expr.TheVariants as tree
-use Rattle.rawk_expression.specs.declared.tree.Link.{Link, roll-Link}
-use Rattle.rawk_expression.specs.declared.tree.Place.{Place}
-use Rattle.rawk_expression.specs.declared.tree.Place.TheVariants as spot
-use Rattle.rawk_expression.specs.Parser.{Input, Parser, and_then, ◌>>=◌, ◌>>◌, pure, refuse, too_deep, left_out, peek, take_token, sees, eat, expect, newlines, name, bare_name, number, text, ere, not_redirected}
-use Rattle.rawk_expression.specs.Tables.{is_concat, joins, is_alone, mark, logic, sign, change, assignment, function, fits}
+use Rattle.rawk_parsing.specs.declared.tree.Operator.{Operator}
+use Rattle.rawk_parsing.specs.declared.tree.Sign.{Sign}
+use Rattle.rawk_parsing.specs.declared.tree.Change.{Change}
+use Rattle.rawk_parsing.specs.declared.tree.Change.TheVariants as changes
+use Rattle.rawk_parsing.specs.declared.tree.Assignment.{Assignment}
+use Rattle.rawk_parsing.specs.declared.tree.Function.{Function}
+use Rattle.rawk_parsing.specs.declared.tree.Function.TheVariants as fun
+use Rattle.rawk_parsing.specs.declared.tree.Name.{Name}
+use Rattle.rawk_parsing.specs.declared.tree.Expr.{Expr}
+use Rattle.rawk_parsing.specs.declared.tree.Expr.TheVariants as tree
+use Rattle.rawk_parsing.specs.declared.tree.Link.{Link, roll-Link}
+use Rattle.rawk_parsing.specs.declared.tree.Place.{Place}
+use Rattle.rawk_parsing.specs.declared.tree.Place.TheVariants as spot
+use Rattle.rawk_parsing.specs.Parser.{Input, Parser, and_then, ◌>>=◌, ◌>>◌, pure, refuse, too_deep, left_out, peek, take_token, sees, eat, expect, newlines, name, bare_name, number, text, ere, not_redirected}
+use Rattle.rawk_parsing.specs.Tables.{is_concat, joins, is_alone, mark, logic, sign, change, assignment, function, fits}
 
 -- ---- parts of trees
 

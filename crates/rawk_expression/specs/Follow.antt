@@ -7,14 +7,14 @@ use Rattle.rawk_lexer.specs.declared.token.Kind.TheVariants as k
 use Rattle.rawk_lexer.specs.Lex.{kind, next, left}
 use Rattle.rawk_lexer.specs.Moves.{some_left, next_shrinks}
 use Rattle.rawk_value.specs.declared.operator.Arithmetic.TheVariants as arithmetic
-use Rattle.rawk_expression.specs.declared.tree.Operator.{Operator}
-use Rattle.rawk_expression.specs.declared.tree.Operator.TheVariants as op
-use Rattle.rawk_expression.specs.declared.tree.Change.{Change}
-use Rattle.rawk_expression.specs.Parser.{Input, Outcome, Parser, and_then, ◌>>=◌, ◌>>◌, pure, refuse, too_deep, left_out, peek, take_token, eat, expect, sees, after, newlines, newlines_from, name_at, bare_name, not_redirected, same_kind}
-use Rattle.rawk_expression.specs.Parser as parser
-use Rattle.rawk_expression.specs.Tables as table
+use Rattle.rawk_parsing.specs.declared.tree.Operator.{Operator}
+use Rattle.rawk_parsing.specs.declared.tree.Operator.TheVariants as op
+use Rattle.rawk_parsing.specs.declared.tree.Change.{Change}
+use Rattle.rawk_parsing.specs.Parser.{Input, Outcome, Parser, and_then, ◌>>=◌, ◌>>◌, pure, refuse, too_deep, left_out, peek, take_token, eat, expect, sees, after, newlines, newlines_from, name_at, bare_name, not_redirected, same_kind}
+use Rattle.rawk_parsing.specs.Parser as parser
+use Rattle.rawk_parsing.specs.Tables as table
 use Rattle.rawk_expression.specs.Expression as x
-use Rattle.rawk_expression.specs.Tokens.{Spells, Newlines, none, more}
+use Rattle.rawk_parsing.specs.Tokens.{Spells, Newlines, none, more}
 use Rattle.rawk_expression.specs.Grammar.{Joins, symbol, beside}
 
 -- ---- kinds

@@ -4,17 +4,17 @@ use Rattle.std.proofs.lemmas.List.{length-drop}
 use Rattle.rawk_lexer.specs.declared.token.Kind.{Kind}
 use Rattle.rawk_lexer.specs.declared.token.Kind.TheVariants as k
 use Rattle.rawk_lexer.specs.Lex.{kind, next, left, skip, ere_len, past_ere}
-use Rattle.rawk_lexer.specs.Moves.{next_shrinks, skip_shrinks}
-use Rattle.rawk_expression.specs.declared.tree.Operator.{Operator}
-use Rattle.rawk_expression.specs.declared.tree.Sign.{Sign}
-use Rattle.rawk_expression.specs.declared.tree.Change.{Change}
-use Rattle.rawk_expression.specs.declared.tree.Assignment.{Assignment}
-use Rattle.rawk_expression.specs.declared.tree.Function.{Function}
-use Rattle.rawk_expression.specs.Parser.{Input}
-use Rattle.rawk_expression.specs.Tables as table
-use Rattle.rawk_expression.specs.Tokens.{Spells, SpellsEre, Newlines, none, more}
-use Rattle.rawk_expression.specs.Grammar.{Joins, symbol, beside, Phrase}
-use Rattle.rawk_expression.specs.Plain.{Plain, number, text, ere, group, of_place, call, builtin, named, element, field, no_argument, some_arguments, one, several, print_list, print_group, alone, operated, signed, raised, changed_after, changed_before, assign, contains, listed_in, joint, choice, bare_length, getline, getline_to}
+use Rattle.rawk_lexer.specs.Moves.{next_shrinks, skip_shrinks, some_left}
+use Rattle.rawk_parsing.specs.declared.tree.Operator.{Operator}
+use Rattle.rawk_parsing.specs.declared.tree.Sign.{Sign}
+use Rattle.rawk_parsing.specs.declared.tree.Change.{Change}
+use Rattle.rawk_parsing.specs.declared.tree.Assignment.{Assignment}
+use Rattle.rawk_parsing.specs.declared.tree.Function.{Function}
+use Rattle.rawk_parsing.specs.Parser.{Input}
+use Rattle.rawk_parsing.specs.Tables as table
+use Rattle.rawk_parsing.specs.Tokens.{Spells, SpellsEre, Newlines, none, more}
+use Rattle.rawk_expression.specs.Grammar.{Joins, symbol, beside, Phrase, Links}
+use Rattle.rawk_expression.specs.Plain.{Plain, number, text, ere, group, of_place, call, builtin, named, element, field, no_argument, some_arguments, one, several, print_list, print_group, operated, tight, chain, no_more, once, again, signed, raised, changed_after, changed_before, assign, contains, listed_in, joint, choice, bare_length, getline, getline_to}
 use Rattle.rawk_expression.specs.Follow.{apart, starts, symbol_not}
 
 -- ---- less text is left
@@ -27,9 +27,15 @@ newlines_shrink i l (more {j = j} s t) =
     let c : left (next i) ≡ left j = ap left s.is_next in
     omega arith
 
-pub ere_shrink : (w : List ℕ) (i j : Input) → SpellsEre w i j → left j ≤ left i
+ere_not_end : (i : Input) → (kind i ≡ k.Slash) ⊎ (kind i ≡ k.SlashAssign) → kind i ≢ k.EndOfText
+ere_not_end i (inl h) = λ e. (let no : k.Slash ≡ k.EndOfText = sym h ∙ e in cc)
+ere_not_end i (inr h) = λ e. (let no : k.SlashAssign ≡ k.EndOfText = sym h ∙ e in cc)
+
+pub ere_shrink : (w : List ℕ) (i j : Input) → SpellsEre w i j → left j < left i
 unfolding left past_ere
 ere_shrink w i j s =
+    let some = some_left i (ere_not_end i s.begins) in
+    let long = s.ends in
     let a = skip_shrinks (drop (ere_len i) (skip i)) in
     let b = length-drop (ere_len i) (skip i) in
     let c : length (skip (drop (ere_len i) (skip i))) ≡ length (skip j) = ap (λ m. length (skip m)) s.is_next in
@@ -64,7 +70,12 @@ pub joins_shrink : (p : Bool) (n : ℕ) (o : Operator) (i j : Input) → Joins p
 joins_shrink p n o i l (symbol {c = c} sp jo calm) = let a = spells_shrink c _ i l (symbol_not c k.EndOfText o jo refl) sp in omega arith
 joins_shrink p n o i l (beside sp b) = omega arith
 
-pub shrinks : {d : ℕ} {f : Phrase} {i j : Input} → Plain d f i j → left j ≤ left i
+-- only what may stand behind an operand may be empty
+abbrev pub Shrinks : Phrase → Input → Input → Type 0
+Shrinks (Links p n xs) i j = left j ≤ left i
+Shrinks _ i j = left j < left i
+
+pub shrinks : {d : ℕ} {f : Phrase} {i j : Input} → Plain d f i j → Shrinks f i j
 shrinks {i = i} {j = j} (number s e) = let a = spells_shrink k.Number _ i j (λ q. cc) s in omega arith
 shrinks {i = i} {j = j} (text s) = let a = spells_shrink k.Text _ i j (λ q. cc) s in omega arith
 shrinks {i = i} {j = j} (ere s) = ere_shrink _ i j s
@@ -83,8 +94,12 @@ shrinks (print_list g) = shrinks g
 shrinks (print_group {i = i} {j = j} {l = l} {m = m} {n = n} {o = o} {q = q} s g c t h u) =
     let a = spells_shrink k.LeftParen _ i j (λ z. cc) s in let b = shrinks g in let e = spells_shrink k.Comma _ l m (λ z. cc) c in
     let f = newlines_shrink m n t in let r = shrinks h in let v = spells_shrink k.RightParen _ o q (λ z. cc) u in omega arith
-shrinks (alone g) = shrinks g
-shrinks (operated {n = n} {p = p} {o = o} {j = j} {l = l} g s h) = let a = shrinks g in let b = joins_shrink p (suc n) o j l s in let c = shrinks h in omega arith
+shrinks (operated g) = shrinks g
+shrinks (tight g) = shrinks g
+shrinks (chain g h) = let a = shrinks g in let b = shrinks h in omega arith
+shrinks no_more = omega arith
+shrinks (once {n = n} {p = p} {o = o} {i = i} {j = j} s g) = let a = joins_shrink p (suc n) o i j s in let b = shrinks g in omega arith
+shrinks (again {n = n} {p = p} {o = o} {i = i} {j = j} many s g h) = let a = joins_shrink p (suc n) o i j s in let b = shrinks g in let c = shrinks h in omega arith
 shrinks (signed {c = c} {s = s} {i = i} {j = j} t e g) = let a = spells_shrink c _ i j (sign_not_end c s e) t in let b = shrinks g in omega arith
 shrinks (raised {j = j} {l = l} g s h) = let a = shrinks g in let b = spells_shrink k.Caret _ j l (λ q. cc) s in let c = shrinks h in omega arith
 shrinks (changed_after {c = c} {how = how} {j = j} {l = l} g s e) = let a = shrinks g in let b = spells_shrink c _ j l (change_not_end c how e) s in omega arith
@@ -128,7 +143,12 @@ pub ere_begins : (i : Input) → (kind i ≡ k.Slash) ⊎ (kind i ≡ k.SlashAss
 ere_begins i (inl h) = ap begins h
 ere_begins i (inr h) = ap begins h
 
-pub fronts : {d : ℕ} {f : Phrase} {i j : Input} → Plain d f i j → begins (kind i) ≡ true
+-- what stands behind an operand begins with an operator, if with anything
+abbrev pub Begins : Phrase → Input → Type 0
+Begins (Links p n xs) i = Unit {0}
+Begins _ i = begins (kind i) ≡ true
+
+pub fronts : {d : ℕ} {f : Phrase} {i j : Input} → Plain d f i j → Begins f i
 fronts (number s e) = ap begins s.is_kind
 fronts (text s) = ap begins s.is_kind
 fronts {i = i} (ere s) = ere_begins i s.begins
@@ -145,8 +165,12 @@ fronts (one g) = fronts g
 fronts (several g s t h) = fronts g
 fronts (print_list g) = fronts g
 fronts (print_group s g c t h u) = ap begins s.is_kind
-fronts (alone g) = fronts g
-fronts (operated g s h) = fronts g
+fronts (operated g) = fronts g
+fronts (tight g) = fronts g
+fronts (chain g h) = fronts g
+fronts no_more = tt
+fronts (once s g) = tt
+fronts (again many s g h) = tt
 fronts (signed {c = c} {s = s} t e g) = ap begins t.is_kind ∙ sign_begins c s e
 fronts (raised g s h) = fronts g
 fronts (changed_after g s e) = fronts g
@@ -160,5 +184,5 @@ fronts (bare_length s ne) = ap begins s.is_kind
 fronts (getline s) = ap begins s.is_kind
 fronts (getline_to s g) = ap begins s.is_kind
 
-pub not_newline : {d : ℕ} {f : Phrase} {i j : Input} → Plain d f i j → kind i ≢ k.Newline
-not_newline {i = i} g = apart begins (kind i) k.Newline (fronts g) refl
+pub not_newline : (i : Input) → begins (kind i) ≡ true → kind i ≢ k.Newline
+not_newline i h = apart begins (kind i) k.Newline h refl

@@ -1,12 +1,6 @@
-pub mod Refusals
-pub mod Constant
-pub mod Parser
-pub mod Tables
 pub mod Expression
 pub mod Nests
-pub mod Tokens
 pub mod Grammar
-pub mod Steps
 pub mod Under
 pub mod Sound
 pub mod Plain

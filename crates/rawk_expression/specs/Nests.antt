@@ -2,10 +2,10 @@
 use Rattle.std.specs.Prelude.{ℕ, Result}
 use Rattle.std.specs.declared.alloc.Global.{Global}
 use denote.Ref.{MutBor}
-use Rattle.rawk_expression.specs.declared.tree.Expr.{Expr}
+use Rattle.rawk_parsing.specs.declared.tree.Expr.{Expr}
 use Rattle.rawk_expression.specs.declared.grammar.Wanted.{Wanted}
-use Rattle.rawk_expression.specs.declared.parse_error.ParseError.{ParseError}
-use Rattle.rawk_expression.specs.Parser.{Input, Parses}
+use Rattle.rawk_parsing.specs.declared.parse_error.ParseError.{ParseError}
+use Rattle.rawk_parsing.specs.Parser.{Input, Parses}
 use Rattle.rawk_expression.specs.Expression.{expression}
 
 -- at this depth it may be called, and its answer is that of `expression`

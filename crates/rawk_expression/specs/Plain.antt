@@ -1,26 +1,28 @@
--- Plain expressions: each operand of an operator is a place, a constant, a regular expression, a call or in parentheses; the value
--- of an assignment, and what stands behind `?` and `:`, may be any plain expression. No rule but that of `length` looks at what stands behind it.
+-- Plain expressions: operators between two operands as the levels have them, a comparison and a match once at its level. Their operands, and that
+-- of another operator, are places, constants, regular expressions, calls or in parentheses; the value of an assignment, and what stands
+-- behind `?` and `:`, may be any plain expression. No rule but that of `length` looks at what stands behind it.
 use Rattle.std.specs.Prelude.{◌≡◌, ◌≢◌, ◌≤◌, ℕ, suc, ℤ, Bool, true, false, List, [], ◌∷◌, Some}
 use Rattle.rawk_lexer.specs.declared.token.Kind.{Kind}
 use Rattle.rawk_lexer.specs.declared.token.Kind.TheVariants as k
 use Rattle.rawk_lexer.specs.Escape.{unescaped_of, unquoted}
 use Rattle.rawk_lexer.specs.Lex.{kind, left}
-use Rattle.rawk_expression.specs.declared.tree.Operator.{Operator}
-use Rattle.rawk_expression.specs.declared.tree.Sign.{Sign}
-use Rattle.rawk_expression.specs.declared.tree.Change.{Change}
-use Rattle.rawk_expression.specs.declared.tree.Assignment.{Assignment}
-use Rattle.rawk_expression.specs.declared.tree.Function.{Function}
-use Rattle.rawk_expression.specs.declared.tree.Function.TheVariants as fun
-use Rattle.rawk_expression.specs.declared.tree.Expr.{Expr}
-use Rattle.rawk_expression.specs.declared.tree.Expr.TheVariants as tree
-use Rattle.rawk_expression.specs.declared.tree.Place.{Place}
-use Rattle.rawk_expression.specs.declared.tree.Place.TheVariants as spot
-use Rattle.rawk_expression.specs.Parser.{Input, name_at}
-use Rattle.rawk_expression.specs.Constant.{constant}
-use Rattle.rawk_expression.specs.Tables.{mark, logic, sign, change, assignment, function, fits}
+use Rattle.rawk_parsing.specs.declared.tree.Operator.{Operator}
+use Rattle.rawk_parsing.specs.declared.tree.Sign.{Sign}
+use Rattle.rawk_parsing.specs.declared.tree.Change.{Change}
+use Rattle.rawk_parsing.specs.declared.tree.Assignment.{Assignment}
+use Rattle.rawk_parsing.specs.declared.tree.Function.{Function}
+use Rattle.rawk_parsing.specs.declared.tree.Function.TheVariants as fun
+use Rattle.rawk_parsing.specs.declared.tree.Expr.{Expr}
+use Rattle.rawk_parsing.specs.declared.tree.Expr.TheVariants as tree
+use Rattle.rawk_parsing.specs.declared.tree.Link.{Link}
+use Rattle.rawk_parsing.specs.declared.tree.Place.{Place}
+use Rattle.rawk_parsing.specs.declared.tree.Place.TheVariants as spot
+use Rattle.rawk_parsing.specs.Parser.{Input, name_at}
+use Rattle.rawk_parsing.specs.Constant.{constant}
+use Rattle.rawk_parsing.specs.Tables.{is_alone, mark, logic, sign, change, assignment, function, fits}
 use Rattle.rawk_expression.specs.Expression.{link, chained}
-use Rattle.rawk_expression.specs.Tokens.{Spells, SpellsEre, Newlines}
-use Rattle.rawk_expression.specs.Grammar.{Joins, Phrase, Whole, Primary, APlace, Arguments, Listed, PrintList}
+use Rattle.rawk_parsing.specs.Tokens.{Spells, SpellsEre, Newlines}
+use Rattle.rawk_expression.specs.Grammar.{Joins, Phrase, Whole, Level, Links, Primary, APlace, Arguments, Listed, PrintList}
 
 pub data Plain : ℕ → Phrase → Input → Input → Type 0 where
   -- operands
@@ -52,9 +54,17 @@ pub data Plain : ℕ → Phrase → Input → Input → Type 0 where
       → Spells k.LeftParen u i j → Plain d (Whole false e) j l → Spells k.Comma v l m → Newlines m n → Plain d (Listed false es) n o → Spells k.RightParen w o q
       → Plain (suc d) (PrintList (e ∷ es)) i q
   -- whole expressions
-  alone : {d : ℕ} {p : Bool} {e : Expr} {i j : Input} → Plain d (Primary e) i j → Plain d (Whole p e) i j
-  operated : {d n : ℕ} {p : Bool} {o : Operator} {e f : Expr} {i j l m : Input}
-      → Plain d (Primary e) i j → Joins p (suc n) o j l → Plain d (Primary f) l m → Plain d (Whole p (chained e (link o f ∷ []))) i m
+  operated : {d : ℕ} {p : Bool} {e : Expr} {i j : Input} → Plain d (Level p 5 e) i j → Plain d (Whole p e) i j
+  tight : {d : ℕ} {p : Bool} {e : Expr} {i j : Input} → Plain d (Primary e) i j → Plain d (Level p 0 e) i j
+  chain : {d n : ℕ} {p : Bool} {e : Expr} {xs : List Link} {i j l : Input}
+      → Plain d (Level p n e) i j → Plain d (Links p (suc n) xs) j l → Plain d (Level p (suc n) (chained e xs)) i l
+  no_more : {d n : ℕ} {p : Bool} {i : Input} → Plain d (Links p (suc n) []) i i
+  once : {d n : ℕ} {p : Bool} {o : Operator} {e : Expr} {i j l : Input}
+      → Joins p (suc n) o i j → Plain d (Level p n e) j l → Plain d (Links p (suc n) (link o e ∷ [])) i l
+  -- neither a comparison nor a match
+  again : {d n : ℕ} {p : Bool} {o : Operator} {e : Expr} {xs : List Link} {i j l m : Input}
+      → is_alone (suc n) ≡ false → Joins p (suc n) o i j → Plain d (Level p n e) j l → Plain d (Links p (suc n) xs) l m
+      → Plain d (Links p (suc n) (link o e ∷ xs)) i m
   signed : {d : ℕ} {p : Bool} {c : Kind} {w : List ℕ} {s : Sign} {e : Expr} {i j l : Input}
       → Spells c w i j → sign c ≡ Some s → Plain d (Primary e) j l → Plain (suc d) (Whole p (tree.Signed s e)) i l
   raised : {d : ℕ} {p : Bool} {e f : Expr} {w : List ℕ} {i j l m : Input}

@@ -11,25 +11,25 @@ use Rattle.rawk_expression.specs.declared.operands.Enclosed.TheVariants as insid
 use Rattle.rawk_expression.specs.declared.operands.Start.{Start}
 use Rattle.rawk_expression.specs.declared.operands.Start.TheVariants as start
 use Rattle.rawk_expression.specs.declared.junctions.Operand.{Operand}
-use Rattle.rawk_expression.specs.declared.tree.Operator.{Operator}
-use Rattle.rawk_expression.specs.declared.tree.Sign.{Sign}
-use Rattle.rawk_expression.specs.declared.tree.Change.{Change}
-use Rattle.rawk_expression.specs.declared.tree.Change.TheVariants as changes
-use Rattle.rawk_expression.specs.declared.tree.Assignment.{Assignment}
-use Rattle.rawk_expression.specs.declared.tree.Function.{Function}
-use Rattle.rawk_expression.specs.declared.tree.Function.TheVariants as fun
-use Rattle.rawk_expression.specs.declared.tree.Expr.{Expr}
-use Rattle.rawk_expression.specs.declared.tree.Expr.TheVariants as tree
-use Rattle.rawk_expression.specs.declared.tree.Link.{Link}
-use Rattle.rawk_expression.specs.declared.tree.Place.{Place}
-use Rattle.rawk_expression.specs.declared.tree.Place.TheVariants as spot
-use Rattle.rawk_expression.specs.Parser.{Input, Outcome, Parser, and_then, ◌>>=◌, ◌>>◌, pure, refuse, peek, take_token, eat, expect, sees, after, newlines, name_at, bare_name, not_redirected}
-use Rattle.rawk_expression.specs.Parser as parser
-use Rattle.rawk_expression.specs.Tables as table
+use Rattle.rawk_parsing.specs.declared.tree.Operator.{Operator}
+use Rattle.rawk_parsing.specs.declared.tree.Sign.{Sign}
+use Rattle.rawk_parsing.specs.declared.tree.Change.{Change}
+use Rattle.rawk_parsing.specs.declared.tree.Change.TheVariants as changes
+use Rattle.rawk_parsing.specs.declared.tree.Assignment.{Assignment}
+use Rattle.rawk_parsing.specs.declared.tree.Function.{Function}
+use Rattle.rawk_parsing.specs.declared.tree.Function.TheVariants as fun
+use Rattle.rawk_parsing.specs.declared.tree.Expr.{Expr}
+use Rattle.rawk_parsing.specs.declared.tree.Expr.TheVariants as tree
+use Rattle.rawk_parsing.specs.declared.tree.Link.{Link}
+use Rattle.rawk_parsing.specs.declared.tree.Place.{Place}
+use Rattle.rawk_parsing.specs.declared.tree.Place.TheVariants as spot
+use Rattle.rawk_parsing.specs.Parser.{Input, Outcome, Parser, and_then, ◌>>=◌, ◌>>◌, pure, refuse, peek, take_token, eat, expect, sees, after, newlines, name_at, bare_name, not_redirected}
+use Rattle.rawk_parsing.specs.Parser as parser
+use Rattle.rawk_parsing.specs.Tables as table
 use Rattle.rawk_expression.specs.Expression as x
-use Rattle.rawk_expression.specs.Tokens.{Spells}
+use Rattle.rawk_parsing.specs.Tokens.{Spells}
 use Rattle.rawk_expression.specs.Grammar.{Whole, Test, Further, Member, Level, Links, Unary, Power, Postfix, Dollar, Primary, APlace, Arguments, Listed, PrintList, Derives, test, lone, joint, last, further, contains, operated, chain, no_more, joined, tight, unsigned, base, unchanged, bare, changed_after, named, dollar, of_place, number, text, ere, call, builtin, bare_length, getline, getline_to, one, several, print_list}
-use Rattle.rawk_expression.specs.Steps.{and_then_ok, cond_is, cond_ok, done, at_ok, not_ok, sees_kind, spells, eaten, kept, keeps, expect_ok, bare_name_ok, ere_ok, number_ok, newlines_are}
+use Rattle.rawk_parsing.specs.Steps.{and_then_ok, cond_is, cond_ok, done, at_ok, not_ok, sees_kind, spells, eaten, kept, keeps, expect_ok, bare_name_ok, ere_ok, number_ok, newlines_are}
 use Rattle.rawk_expression.specs.Under.{Found, IsSound, ListedAs, Under, arguments_under, arrays_sound, assign_under, before_under, choice_under, dollar_before_under, element_under, field_under, group_under, joins_sound, length_only, list_sound, listed_in_under, neither, no_argument_under, not_redirected_ok, not_seen, one_under, print_group_under, raised_under, several_under, signed_under}
 
 -- ---- rules

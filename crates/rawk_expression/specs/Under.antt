@@ -7,24 +7,24 @@ use Rattle.rawk_lexer.specs.declared.token.Kind.TheVariants as k
 use Rattle.rawk_lexer.specs.Lex.{kind, next, left}
 use Rattle.rawk_expression.specs.declared.grammar.Wanted.{Wanted}
 use Rattle.rawk_expression.specs.declared.grammar.Wanted.TheVariants as want
-use Rattle.rawk_expression.specs.declared.tree.Operator.{Operator}
-use Rattle.rawk_expression.specs.declared.tree.Operator.TheVariants as op
-use Rattle.rawk_expression.specs.declared.tree.Sign.{Sign}
-use Rattle.rawk_expression.specs.declared.tree.Change.{Change}
-use Rattle.rawk_expression.specs.declared.tree.Assignment.{Assignment}
-use Rattle.rawk_expression.specs.declared.tree.Function.TheVariants as fun
-use Rattle.rawk_expression.specs.declared.tree.Name.{Name}
-use Rattle.rawk_expression.specs.declared.tree.Expr.{Expr}
-use Rattle.rawk_expression.specs.declared.tree.Expr.TheVariants as tree
-use Rattle.rawk_expression.specs.declared.tree.Place.{Place}
-use Rattle.rawk_expression.specs.declared.tree.Place.TheVariants as spot
-use Rattle.rawk_expression.specs.Parser.{Input, Outcome, Parser, and_then, ◌>>=◌, ◌>>◌, pure, refuse, peek, take_token, eat, expect, sees, after, newlines, name_at, bare_name, not_redirected}
-use Rattle.rawk_expression.specs.Parser as parser
-use Rattle.rawk_expression.specs.Tables as table
+use Rattle.rawk_parsing.specs.declared.tree.Operator.{Operator}
+use Rattle.rawk_parsing.specs.declared.tree.Operator.TheVariants as op
+use Rattle.rawk_parsing.specs.declared.tree.Sign.{Sign}
+use Rattle.rawk_parsing.specs.declared.tree.Change.{Change}
+use Rattle.rawk_parsing.specs.declared.tree.Assignment.{Assignment}
+use Rattle.rawk_parsing.specs.declared.tree.Function.TheVariants as fun
+use Rattle.rawk_parsing.specs.declared.tree.Name.{Name}
+use Rattle.rawk_parsing.specs.declared.tree.Expr.{Expr}
+use Rattle.rawk_parsing.specs.declared.tree.Expr.TheVariants as tree
+use Rattle.rawk_parsing.specs.declared.tree.Place.{Place}
+use Rattle.rawk_parsing.specs.declared.tree.Place.TheVariants as spot
+use Rattle.rawk_parsing.specs.Parser.{Input, Outcome, Parser, and_then, ◌>>=◌, ◌>>◌, pure, refuse, peek, take_token, eat, expect, sees, after, newlines, name_at, bare_name, not_redirected}
+use Rattle.rawk_parsing.specs.Parser as parser
+use Rattle.rawk_parsing.specs.Tables as table
 use Rattle.rawk_expression.specs.Expression as x
-use Rattle.rawk_expression.specs.Tokens.{Spells, Newlines, Arrays, no_array, array}
+use Rattle.rawk_parsing.specs.Tokens.{Spells, Newlines, Arrays, no_array, array}
 use Rattle.rawk_expression.specs.Grammar.{Joins, symbol, beside, Phrase, Whole, Test, Member, Unary, Power, Postfix, Dollar, Primary, APlace, Arguments, Listed, PrintList, Derives, choice, assign, listed_in, signed, raised, changed_before, element, field, dollar_before, group, no_argument, some_arguments, one, several, print_group}
-use Rattle.rawk_expression.specs.Steps.{and_then_ok, cond_is, cond_ok, at_ok, not_ok, spells, eaten, keeps, bare_name_ok, newlines_are}
+use Rattle.rawk_parsing.specs.Steps.{and_then_ok, cond_is, cond_ok, at_ok, not_ok, spells, eaten, keeps, bare_name_ok, newlines_are}
 
 -- the same phrase, one construct deeper
 abbrev pub Under : ℕ → Phrase → Input → Input → Type 0

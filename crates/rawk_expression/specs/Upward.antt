@@ -3,22 +3,22 @@ use Rattle.std.proofs.Common.{◌≡◌, ◌≢◌, ℕ, zero, suc, ◌<◌, ◌
 use Rattle.rawk_lexer.specs.declared.token.Kind.TheVariants as k
 use Rattle.rawk_lexer.specs.Lex.{kind, next, left}
 use Rattle.rawk_lexer.specs.Moves.{some_left}
-use Rattle.rawk_expression.specs.declared.refusal.RefusalKind.TheVariants as refused
-use Rattle.rawk_expression.specs.declared.parse_error.ParseError.TheVariants.{Here}
+use Rattle.rawk_parsing.specs.declared.refusal.RefusalKind.TheVariants as refused
+use Rattle.rawk_parsing.specs.declared.parse_error.ParseError.TheVariants.{Here}
 use Rattle.rawk_expression.specs.declared.grammar.Wanted.{Wanted}
 use Rattle.rawk_expression.specs.declared.operands.Start.{Start}
 use Rattle.rawk_expression.specs.declared.operands.Start.TheVariants as start
 use Rattle.rawk_expression.specs.declared.junctions.Operand.{Operand}
-use Rattle.rawk_expression.specs.declared.tree.Operator.{Operator}
-use Rattle.rawk_expression.specs.declared.tree.Name.{Name}
-use Rattle.rawk_expression.specs.declared.tree.Expr.{Expr}
-use Rattle.rawk_expression.specs.declared.tree.Expr.TheVariants as tree
-use Rattle.rawk_expression.specs.declared.tree.Link.{Link}
-use Rattle.rawk_expression.specs.Parser.{Input, Outcome, Parser, and_then, ◌>>=◌, ◌>>◌, pure, newlines, name_at, bare_name, not_redirected}
-use Rattle.rawk_expression.specs.Tables as table
+use Rattle.rawk_parsing.specs.declared.tree.Operator.{Operator}
+use Rattle.rawk_parsing.specs.declared.tree.Name.{Name}
+use Rattle.rawk_parsing.specs.declared.tree.Expr.{Expr}
+use Rattle.rawk_parsing.specs.declared.tree.Expr.TheVariants as tree
+use Rattle.rawk_parsing.specs.declared.tree.Link.{Link}
+use Rattle.rawk_parsing.specs.Parser.{Input, Outcome, Parser, and_then, ◌>>=◌, ◌>>◌, pure, newlines, name_at, bare_name, not_redirected}
+use Rattle.rawk_parsing.specs.Tables as table
 use Rattle.rawk_expression.specs.Expression as x
-use Rattle.rawk_expression.specs.Tokens.{Spells}
-use Rattle.rawk_expression.specs.Steps.{done}
+use Rattle.rawk_parsing.specs.Tokens.{Spells}
+use Rattle.rawk_parsing.specs.Steps.{done}
 use Rattle.rawk_expression.specs.Follow.{Seen, apart, bare_name_is, eats, ends, ends_stops, eq_from, leaves, not_seen, seen, starts, starts_sign, stops_silent, then_ok}
 
 -- ---- levels

@@ -1,15 +1,14 @@
 //! The rules that hold expressions take the parser of those as a parameter, so that each is proved by itself.
 
 ghost use Rattle.std.specs.Prelude.{◌≡◌};
-ghost use Rattle.rawk_expression.specs.Parser.{Parses};
+ghost use Rattle.rawk_parsing.specs.Parser.{Parses};
 ghost use Rattle.rawk_expression.specs.Expression as spec;
 ghost use Rattle.rawk_expression.specs.Nests.{Nests};
 
-use crate::parse_error::ParseError;
-use crate::refusal::RefusalKind;
-use crate::tree::{Change, Expr};
 use rawk_items::Boxed;
 use rawk_lexer::Cursor;
+use rawk_parsing::tree::{Change, Expr};
+use rawk_parsing::{ParseError, RefusalKind};
 use std::alloc::Global;
 
 /// What is to be read.

@@ -1,20 +1,20 @@
 //! From assignments and `in` up to `?:`.
 
 ghost use Rattle.std.specs.Prelude.{◌≡◌, ◌<◌, ◌-◌, Option, None, IfOk};
-ghost use Rattle.rawk_expression.specs.declared.tree.Expr.TheVariants as tree;
-ghost use Rattle.rawk_expression.specs.Tables as tables;
-ghost use Rattle.rawk_expression.specs.Parser.{Parses};
+ghost use Rattle.rawk_parsing.specs.declared.tree.Expr.TheVariants as tree;
+ghost use Rattle.rawk_parsing.specs.Tables as tables;
+ghost use Rattle.rawk_parsing.specs.Parser.{Parses};
 ghost use Rattle.rawk_expression.specs.Expression as spec;
 ghost use Rattle.rawk_expression.specs.Nests.{Nests};
 
 use crate::grammar::{Grammar, Wanted, whole_of};
 use crate::operands::{Start, arrays, contained};
-use crate::parse_error::ParseError;
-use crate::tables::{logic, mark};
-use crate::tokens::{eat, expect, not_redirected, sees, skip_newlines};
-use crate::tree::Expr;
 use rawk_items::{Boxed, Items};
 use rawk_lexer::{Cursor, Kind};
+use rawk_parsing::ParseError;
+use rawk_parsing::tables::{logic, mark};
+use rawk_parsing::tokens::{eat, expect, not_redirected, sees, skip_newlines};
+use rawk_parsing::tree::Expr;
 use std::alloc::{AllocError, Global};
 
 /// An operand of `&&` or `||`.

@@ -3,9 +3,9 @@
 ghost use Rattle.std.specs.Prelude.{◌≡◌, ◌≢◌, ℕ, suc, Bool, true, List, Ok};
 ghost use Rattle.rawk_lexer.specs.declared.token.Kind.TheVariants as k;
 ghost use Rattle.rawk_lexer.specs.Lex.{kind};
-ghost use Rattle.rawk_expression.specs.declared.tree.Expr.{Expr};
-ghost use Rattle.rawk_expression.specs.declared.tree.Place.{Place};
-ghost use Rattle.rawk_expression.specs.Parser.{Input};
+ghost use Rattle.rawk_parsing.specs.declared.tree.Expr.{Expr};
+ghost use Rattle.rawk_parsing.specs.declared.tree.Place.{Place};
+ghost use Rattle.rawk_parsing.specs.Parser.{Input};
 ghost use Rattle.rawk_expression.specs.Expression as spec;
 ghost use Rattle.rawk_expression.specs.Grammar.{Derives, Whole, APlace, PrintList};
 ghost use Rattle.rawk_expression.specs.Plain.{Plain};

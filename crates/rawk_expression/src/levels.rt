@@ -1,17 +1,17 @@
 //! From signs and `^` up to `~`: a number is the level of an operator, and one function serves all levels.
 
 ghost use Rattle.std.specs.Prelude.{◌≡◌, ◌<◌, ◌-◌, Option, None, IfOk};
-ghost use Rattle.rawk_expression.specs.Parser.{Parses};
+ghost use Rattle.rawk_parsing.specs.Parser.{Parses};
 ghost use Rattle.rawk_expression.specs.Expression as spec;
 ghost use Rattle.rawk_expression.specs.Nests.{Nests};
 
 use crate::grammar::{Grammar, Wanted};
-use crate::parse_error::ParseError;
-use crate::tables::{is_alone, is_concat, joins, sign};
-use crate::tokens::eat;
-use crate::tree::{Expr, Link, Sign};
 use rawk_items::{Boxed, Items};
 use rawk_lexer::{Cursor, Kind};
+use rawk_parsing::ParseError;
+use rawk_parsing::tables::{is_alone, is_concat, joins, sign};
+use rawk_parsing::tokens::eat;
+use rawk_parsing::tree::{Expr, Link, Sign};
 use std::alloc::{AllocError, Global};
 
 /// An operand, and what is joined to it.

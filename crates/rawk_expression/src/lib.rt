@@ -7,15 +7,9 @@ pub mod laws;
 mod levels;
 mod lists;
 mod operands;
-pub mod parse_error;
 mod places;
 mod primaries;
-pub mod refusal;
-pub mod tables;
-pub mod tokens;
-pub mod tree;
 
 pub use grammar::{Wanted, expression};
 pub use lists::{place, printed};
-pub use parse_error::ParseError;
-pub use refusal::{Refusal, RefusalKind};
+pub use rawk_parsing::{ParseError, Refusal, RefusalKind, tree};

@@ -1,19 +1,18 @@
 //! What statements are made of beside expressions: places, and the list of a print.
 
 ghost use Rattle.std.specs.Prelude.{◌≡◌, true};
-ghost use Rattle.rawk_expression.specs.Parser.{Parses};
+ghost use Rattle.rawk_parsing.specs.Parser.{Parses};
 ghost use Rattle.rawk_expression.specs.Expression as spec;
 ghost use Rattle.rawk_expression.specs.Nests.{Nests};
 ghost use Rattle.rawk_expression.specs.declared.operands.Enclosed.TheVariants.{Several};
 
 use crate::grammar::{Grammar, Wanted, expression};
 use crate::operands::{Enclosed, Start};
-use crate::parse_error::ParseError;
-use crate::refusal::RefusalKind;
-use crate::tokens::{eat, not_redirected, refuse, sees, skip_newlines};
-use crate::tree::{Expr, Place};
 use rawk_items::{Boxed, Items};
 use rawk_lexer::{Cursor, Kind};
+use rawk_parsing::tokens::{eat, not_redirected, refuse, sees, skip_newlines};
+use rawk_parsing::tree::{Expr, Place};
+use rawk_parsing::{ParseError, RefusalKind};
 use std::alloc::Global;
 
 impl<F: Fn(Global, &mut Cursor<'_>, usize, Wanted) -> Result<Boxed<Expr>, ParseError>> Grammar<F> {

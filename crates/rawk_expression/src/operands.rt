@@ -1,17 +1,17 @@
 //! The begin of an operand of `&&` and `||`: an assignment, a list before `in`, or another.
 
 ghost use Rattle.std.specs.Prelude.{◌≡◌, IfOk};
-ghost use Rattle.rawk_expression.specs.Parser.{Parses};
+ghost use Rattle.rawk_parsing.specs.Parser.{Parses};
 ghost use Rattle.rawk_expression.specs.Expression as spec;
 ghost use Rattle.rawk_expression.specs.Nests.{Nests};
 
 use crate::grammar::{Grammar, Wanted};
-use crate::parse_error::ParseError;
-use crate::tables::assignment;
-use crate::tokens::{bare_name, eat, expect, skip_newlines};
-use crate::tree::{Assignment, Expr, Name, Place};
 use rawk_items::{Boxed, Items};
 use rawk_lexer::{Cursor, Kind};
+use rawk_parsing::ParseError;
+use rawk_parsing::tables::assignment;
+use rawk_parsing::tokens::{bare_name, eat, expect, skip_newlines};
+use rawk_parsing::tree::{Assignment, Expr, Name, Place};
 use std::alloc::{AllocError, Global};
 
 /// What stood in parentheses.

@@ -1,17 +1,16 @@
 //! Places, and the lists in brackets and in the parentheses of calls.
 
 ghost use Rattle.std.specs.Prelude.{◌≡◌};
-ghost use Rattle.rawk_expression.specs.Parser.{Parses};
+ghost use Rattle.rawk_parsing.specs.Parser.{Parses};
 ghost use Rattle.rawk_expression.specs.Expression as spec;
 ghost use Rattle.rawk_expression.specs.Nests.{Nests};
 
 use crate::grammar::{Grammar, Wanted};
-use crate::parse_error::ParseError;
-use crate::refusal::RefusalKind;
-use crate::tokens::{eat, expect, name, refuse, skip_newlines};
-use crate::tree::{Expr, Place};
 use rawk_items::{Boxed, Items};
 use rawk_lexer::{Cursor, Kind};
+use rawk_parsing::tokens::{eat, expect, name, refuse, skip_newlines};
+use rawk_parsing::tree::{Expr, Place};
+use rawk_parsing::{ParseError, RefusalKind};
 use std::alloc::Global;
 
 impl<F: Fn(Global, &mut Cursor<'_>, usize, Wanted) -> Result<Boxed<Expr>, ParseError>> Grammar<F> {

@@ -1,18 +1,17 @@
 //! Constants, calls, groups and places as operands.
 
 ghost use Rattle.std.specs.Prelude.{◌≡◌};
-ghost use Rattle.rawk_expression.specs.Parser.{Parses};
+ghost use Rattle.rawk_parsing.specs.Parser.{Parses};
 ghost use Rattle.rawk_expression.specs.Expression as spec;
 ghost use Rattle.rawk_expression.specs.Nests.{Nests};
 
 use crate::grammar::{Grammar, Wanted};
-use crate::parse_error::ParseError;
-use crate::refusal::RefusalKind;
-use crate::tables::{change, fits, function};
-use crate::tokens::{ere, expect, name, number, refuse, sees, text};
-use crate::tree::{Change, Expr, Function, Place};
 use rawk_items::{Boxed, Items};
 use rawk_lexer::{Cursor, Kind};
+use rawk_parsing::tables::{change, fits, function};
+use rawk_parsing::tokens::{ere, expect, name, number, refuse, sees, text};
+use rawk_parsing::tree::{Change, Expr, Function, Place};
+use rawk_parsing::{ParseError, RefusalKind};
 use std::alloc::Global;
 
 impl<F: Fn(Global, &mut Cursor<'_>, usize, Wanted) -> Result<Boxed<Expr>, ParseError>> Grammar<F> {

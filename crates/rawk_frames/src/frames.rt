@@ -180,6 +180,16 @@ impl Frames {
         }
     }
 
+    /// What is so of all activations. It does nothing.
+    #[inline]
+    pub fn known(&self)
+        ensures nested { AreNested self.now.now }
+        ensures live { AreFramesLive self.now.now }
+    {
+        self.frames.known();
+        self.locals.known();
+    }
+
     /// Ends the step, and forgets what it changed. It takes no memory.
     pub fn forget(&mut self)
         ensures now { self.new ≡ at_rest self.old.now }

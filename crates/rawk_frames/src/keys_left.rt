@@ -121,6 +121,15 @@ impl KeysLeft {
         }
     }
 
+    /// What is so of all loops. It does nothing.
+    #[inline]
+    pub fn known(&self)
+        ensures { AreKeysLive self.now.now }
+    {
+        self.lists.known();
+        self.visited.known();
+    }
+
     /// Ends the step, and forgets what it changed. It takes no memory.
     pub fn forget(&mut self)
         ensures now { self.new ≡ at_rest self.old.now }

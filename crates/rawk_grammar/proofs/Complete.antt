@@ -4,16 +4,17 @@ use Rattle.rawk_lexer.specs.declared.token.Kind.{Kind}
 use Rattle.rawk_lexer.specs.declared.token.Kind.TheVariants as k
 use Rattle.rawk_lexer.specs.Lex.{kind, next, spelling, left}
 use Rattle.rawk_expression.specs.declared.grammar.Wanted.TheVariants as want
-use Rattle.rawk_expression.specs.declared.tree.Expr.{Expr}
-use Rattle.rawk_expression.specs.declared.tree.Expr.TheVariants as expr
-use Rattle.rawk_expression.specs.declared.tree.Place.{Place}
-use Rattle.rawk_expression.specs.declared.tree.Place.TheVariants as spot
-use Rattle.rawk_expression.specs.Parser.{Input, Outcome, Parser, and_then, ◌>>=◌, pure, too_deep, expect, sees, newlines, name_at, name}
+use Rattle.rawk_parsing.specs.declared.tree.Expr.{Expr}
+use Rattle.rawk_parsing.specs.declared.tree.Expr.TheVariants as expr
+use Rattle.rawk_parsing.specs.declared.tree.Place.{Place}
+use Rattle.rawk_parsing.specs.declared.tree.Place.TheVariants as spot
+use Rattle.rawk_parsing.specs.Parser.{Input, Outcome, Parser, and_then, ◌>>=◌, pure, too_deep, expect, sees, newlines, name_at, name}
 use Rattle.rawk_expression.specs.Expression.{expression, lone_place, printed}
-use Rattle.rawk_expression.specs.Tokens.{Spells, Newlines}
+use Rattle.rawk_parsing.specs.Tokens as token
+use Rattle.rawk_parsing.specs.Tokens.{Spells, Newlines}
 use Rattle.rawk_expression.specs.Grammar.{Whole}
 use Rattle.rawk_expression.specs.Plain.{Plain, contains, of_place, named}
-use Rattle.rawk_expression.specs.Steps.{done, sees_kind, spells}
+use Rattle.rawk_parsing.specs.Steps.{done, sees_kind, spells}
 use Rattle.rawk_grammar.specs.declared.context.Context.{Context}
 use Rattle.rawk_grammar.specs.declared.tree.Act.{Act}
 use Rattle.rawk_grammar.specs.declared.tree.Act.TheVariants as act
@@ -28,7 +29,7 @@ use Rattle.rawk_grammar.specs.Context.{looped, allows}
 use Rattle.rawk_grammar.specs.Statement.{branch_of, simple_at, condition_at, head_of}
 use Rattle.rawk_grammar.specs.Statement as x
 use Rattle.rawk_grammar.specs.Grammar.{Phrase, One, Many, Action, Chain}
-use Rattle.rawk_grammar.specs.Plain.{Separator, PlainActs, evaluate, print_record, print, printf, delete, PlainJumps, next_record, break_loop, continue_loop, exit, exit_with, return, return_with, PlainEncloses, parentheses, PlainSimply, no_part, part, PlainTests, no_test, test, PlainHeads, head, PlainStates, empty, simple, jump, none, more, action, block, choice, last, otherwise, else_if, while_loop, do_loop, count_loop, member_loop}
+use Rattle.rawk_grammar.specs.Plain.{Separator, PlainActs, evaluate, print_record, print, printf, delete, PlainJumps, next_record, break_loop, continue_loop, exit, exit_with, return, return_with, PlainEncloses, parentheses, PlainSimply, no_part, part, PlainTests, no_test, test, PlainHeads, head, PlainStates, empty, simple, jump, none, more, action, block, choice, last, otherwise, else_if, while_loop, do_loop, count_loop, member_loop, last_simple, last_jump}
 use Rattle.rawk_expression.specs.Follow.{ends, apart, not_seen, seen, expect_is, by_kind, newlines_exact}
 use Rattle.rawk_expression.specs.Fronts.{begins as starts_expression, spells_shrink, shrinks, newlines_shrink, fronts}
 use Rattle.rawk_expression.specs.Complete.{whole_complete, place_complete, printed_complete}
@@ -139,7 +140,7 @@ deleted_is d y j l e h = on_true (sees k.Name j) _ _ _ (seen k.Name j e) (go_on 
 
 pub record Acted (d : ℕ) (a : Act) (i j : Input) : Type 0 where
   pub first : begins_act (kind i) ≡ true
-  pub less : left j ≤ left i
+  pub less : left j < left i
   pub read : x.is_bare (kind j) ≡ true → x.act_by (suc d) (kind i) i ≡ Ok (a, j)
 
 acted : {d : ℕ} {a : Act} {i j : Input} → PlainActs d a i j → Acted d a i j
@@ -178,6 +179,13 @@ unfolding x.ended
 ended_is d a i j l g s =
     go_on (x.simple (suc d) i) _ (simple_at (left i) a) j _ (simple_is d a i j g (closes_bare (kind j) (separator_closes j l s)))
     (go_on (x.end j) (λ _. pure (tree.Simple (simple_at (left i) a))) tt l _ (end_is j l s) refl)
+
+-- a brace behind it stays
+ended_brace : (d : ℕ) (a : Act) (i j : Input) → Acted d a i j → kind j ≡ k.RightBrace → x.ended (suc d) i ≡ Ok (tree.Simple (simple_at (left i) a), j)
+unfolding x.ended x.end
+ended_brace d a i j g e =
+    go_on (x.simple (suc d) i) _ (simple_at (left i) a) j _ (simple_is d a i j g (ap x.is_bare e))
+    (go_on (x.end j) (λ _. pure (tree.Simple (simple_at (left i) a))) tt j _ (by_kind x.end_by k.RightBrace j e) refl)
 
 -- ---- jumps
 
@@ -246,6 +254,12 @@ unfolding x.placed_jump x.jump
 placed_is c d y i j l g s =
     on_true (allows c (kind i)) _ _ _ g.allowed
     (go_on (x.jump_by (suc d) (kind i) i) _ y j _ (g.read (separator_closes j l s)) (go_on (x.end j) (λ _. pure (tree.Jump (left i) y)) tt l _ (end_is j l s) refl))
+
+placed_brace : (c : Context) (d : ℕ) (y : Jump) (i j : Input) → Jumped c d y i j → kind j ≡ k.RightBrace → x.placed_jump (suc d) c i ≡ Ok (tree.Jump (left i) y, j)
+unfolding x.placed_jump x.jump x.end
+placed_brace c d y i j g e =
+    on_true (allows c (kind i)) _ _ _ g.allowed
+    (go_on (x.jump_by (suc d) (kind i) i) _ y j _ (g.read (ap x.closes e)) (go_on (x.end j) (λ _. pure (tree.Jump (left i) y)) tt j _ (by_kind x.end_by k.RightBrace j e) refl))
 
 -- ---- heads
 
@@ -524,6 +538,26 @@ moved c d (suc n) found s ss i j l m o w ns g r fuel b =
     let e = g.less in
     more_is c d n found s ss i j l o (newlines_exact i j (apart begins (kind j) k.Newline g.first refl) ns) (apart begins (kind j) k.RightBrace g.first refl) (g.read (r.clear b.is_kind)) (r.read n (found ++ s ∷ []) w o (omega arith) b)
 
+-- the last statement, before the brace
+last_read : (c : Context) (d n : ℕ) (found : List Stmt) (s : Stmt) (i j l o : Input) (w : List ℕ) → Newlines i j → begins (kind j) ≡ true → left l < left j → x.statement (suc d) c j ≡ Ok (s, l) → left i ≤ n → Spells k.RightBrace w l o
+    → x.block_from (suc d) (x.statement (suc d)) c n found i ≡ Ok (found ++ s ∷ [], o)
+last_read c d zero found s i j l o w ns fr less h fuel b = absurd (let a = newlines_shrink i j ns in omega arith)
+last_read c d (suc n) found s i j l o w ns fr less h fuel b =
+    let a = newlines_shrink i j ns in
+    let e = spells_shrink k.RightBrace w l o (λ q. cc) b in
+    let no : kind l ≢ k.Newline = λ q. (let z : k.RightBrace ≡ k.Newline = sym b.is_kind ∙ q in cc) in
+    more_is c d n found s [] i j l o (newlines_exact i j (apart begins (kind j) k.Newline fr refl) ns) (apart begins (kind j) k.RightBrace fr refl) h
+    (closed_is c d n (found ++ s ∷ []) w l l o (omega arith) (newlines_exact l l no token.none) b)
+
+last_filled : (c : Context) (d : ℕ) (s : Stmt) (i j l : Input) → Newlines i j → begins (kind j) ≡ true → left l < left j → x.statement (suc d) c j ≡ Ok (s, l) → Filled c d (s ∷ []) i l
+last_filled c d s i j l ns fr less h =
+    let a = newlines_shrink i j ns in
+    record {
+      less = omega arith;
+      clear = λ _. clear_of i j ns (apart begins (kind j) k.Newline fr refl) (apart begins (kind j) k.Else fr refl);
+      read = λ n found w o fuel b. last_read c d n found s i j l o w ns fr less h fuel b;
+    }
+
 braced : (c : Context) (d : ℕ) (ss : List Stmt) (v w : List ℕ) (i j l m : Input) → Spells k.LeftBrace v i j → Filled c d ss j l → Spells k.RightBrace w l m → Braced c (suc d) ss i m
 unfolding x.action x.block
 braced c d ss v w i j l m s g t =
@@ -664,6 +698,12 @@ complete (more {c = c} {d = d} {s = s} {ss = ss} {i = i} {j = j} {l = l} {m = m}
       clear = λ _. clear_of i j ns (apart begins (kind j) k.Newline g.first refl) (apart begins (kind j) k.Else g.first refl);
       read = λ n found w o fuel y. moved c d n found s ss i j l m o w ns g r fuel y;
     }
+complete (last_simple {c = c} {d = d} {a = a} {i = i} {j = j} {l = l} ns h e) =
+    let g = acted h in
+    last_filled c d (tree.Simple (simple_at (left j) a)) i j l ns (act_begins (kind j) g.first) g.less (statement_by c d j ∙ by_act d (x.statement d) c (suc d) (kind j) j g.first ∙ ended_brace d a j l g e)
+complete (last_jump {c = c} {d = d} {x = y} {i = i} {j = j} {l = l} ns h e) =
+    let g = jumped h in
+    last_filled c d (tree.Jump (left j) y) i j l ns (jump_begins (kind j) g.first) g.less (statement_by c d j ∙ by_jump d (x.statement d) c (suc d) (kind j) j g.first ∙ placed_brace c d y j l g e)
 complete (action {c = c} {d = d} {ss = ss} {v = v} {w = w} {i = i} {j = j} {l = l} {m = m} s h t) = braced c d ss v w i j l m s (complete h) t
 complete (block {c = c} {d = d} {ss = ss} {i = i} {j = j} h) =
     let g = complete h in

@@ -5,19 +5,19 @@ use Rattle.rawk_lexer.specs.declared.token.Kind.TheVariants as k
 use Rattle.rawk_lexer.specs.Moves.{some_left}
 use Rattle.rawk_lexer.specs.Lex.{kind, next, spelling, left}
 use Rattle.rawk_expression.specs.declared.grammar.Wanted.TheVariants as want
-use Rattle.rawk_expression.specs.declared.parse_error.ParseError.{ParseError}
-use Rattle.rawk_expression.specs.declared.parse_error.ParseError.TheVariants as refused
-use Rattle.rawk_expression.specs.declared.tree.Expr.{Expr}
-use Rattle.rawk_expression.specs.declared.tree.Name.{Name}
-use Rattle.rawk_expression.specs.Parser.{Input, Outcome, Parses, and_then, ◌>>=◌, ◌>>◌, pure, expect, sees, newlines, name, name_at, bare_name}
+use Rattle.rawk_parsing.specs.declared.parse_error.ParseError.{ParseError}
+use Rattle.rawk_parsing.specs.declared.parse_error.ParseError.TheVariants as refused
+use Rattle.rawk_parsing.specs.declared.tree.Expr.{Expr}
+use Rattle.rawk_parsing.specs.declared.tree.Name.{Name}
+use Rattle.rawk_parsing.specs.Parser.{Input, Outcome, Parses, and_then, ◌>>=◌, ◌>>◌, pure, expect, sees, newlines, name, name_at, bare_name}
 use Rattle.rawk_expression.specs.Expression.{expression}
-use Rattle.rawk_expression.specs.Tokens.{Spells, Newlines}
+use Rattle.rawk_parsing.specs.Tokens.{Spells, Newlines}
 use Rattle.rawk_expression.specs.Grammar.{Whole}
 use Rattle.rawk_expression.specs.Plain.{Plain}
 use Rattle.rawk_expression.specs.Follow.{ends, apart, not_seen, seen, expect_is, bare_name_is, by_kind, newlines_exact}
 use Rattle.rawk_expression.specs.Fronts.{begins as starts_expression, spells_shrink, shrinks, newlines_shrink, not_newline, fronts}
 use Rattle.rawk_expression.specs.Complete.{whole_complete}
-use Rattle.rawk_expression.specs.Steps.{done}
+use Rattle.rawk_parsing.specs.Steps.{done}
 use Rattle.rawk_grammar.specs.declared.context.Owner.TheVariants as owner
 use Rattle.rawk_grammar.specs.declared.tree.Pattern.{Pattern}
 use Rattle.rawk_grammar.specs.declared.tree.Pattern.TheVariants as guard
@@ -54,10 +54,10 @@ unfolding x.pattern
 range_is d e f w i j l m n h s ns g en =
     go_on (expression (suc d) want.Whole i) _ e j _ (whole_complete d false e i j h (ap ends s.is_kind))
     (eats k.Comma w j l (λ m. and_then (expression (suc d) want.Whole (newlines m)) (λ f. pure (guard.Range (left i) e f))) (pure (guard.When (left i) e)) _ s
-    (go_on (expression (suc d) want.Whole (newlines l)) (λ f. pure (guard.Range (left i) e f)) f n _ (ap (expression (suc d) want.Whole) (newlines_exact l m (not_newline g) ns) ∙ whole_complete d false f m n g en) refl))
+    (go_on (expression (suc d) want.Whole (newlines l)) (λ f. pure (guard.Range (left i) e f)) f n _ (ap (expression (suc d) want.Whole) (newlines_exact l m (not_newline _ (fronts g)) ns) ∙ whole_complete d false f m n g en) refl))
 
 patterned : {d : ℕ} {p : Pattern} {i j : Input} → PlainPatterns d p i j → Patterned d p i j
-patterned (when {d = d} {e = e} {i = i} {j = j} h) = record { first = fronts h; less = shrinks h; read = λ en ne. when_is d e i j h en ne }
+patterned (when {d = d} {e = e} {i = i} {j = j} h) = (let a = shrinks h in record { first = fronts h; less = omega arith; read = λ en ne. when_is d e i j h en ne })
 patterned (range {d = d} {e = e} {f = f} {w = w} {i = i} {j = j} {l = l} {m = m} {n = n} h s ns g) =
     let a = shrinks h in
     let b = spells_shrink k.Comma w j l (λ q. cc) s in

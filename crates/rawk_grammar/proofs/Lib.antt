@@ -1,6 +1,6 @@
-mod Turns
 mod Steps
 mod Sound
 mod SoundItems
 mod Complete
 mod CompleteItems
+mod NoElse

@@ -4,14 +4,14 @@ use Rattle.rawk_lexer.specs.declared.token.Kind.{Kind}
 use Rattle.rawk_lexer.specs.declared.token.Kind.TheVariants as k
 use Rattle.rawk_lexer.specs.Lex.{kind, next, spelling, left}
 use Rattle.rawk_expression.specs.declared.grammar.Wanted.TheVariants as want
-use Rattle.rawk_expression.specs.declared.refusal.RefusalKind.TheVariants as refused
-use Rattle.rawk_expression.specs.declared.parse_error.ParseError.TheVariants.{Here}
-use Rattle.rawk_expression.specs.declared.tree.Expr.{Expr}
-use Rattle.rawk_expression.specs.Parser.{Input, Parser, and_then, ◌>>=◌, pure, refuse, too_deep, eat, expect, sees, after, newlines, name}
+use Rattle.rawk_parsing.specs.declared.refusal.RefusalKind.TheVariants as refused
+use Rattle.rawk_parsing.specs.declared.parse_error.ParseError.TheVariants.{Here}
+use Rattle.rawk_parsing.specs.declared.tree.Expr.{Expr}
+use Rattle.rawk_parsing.specs.Parser.{Input, Parser, and_then, ◌>>=◌, pure, refuse, too_deep, eat, expect, sees, after, newlines, name}
 use Rattle.rawk_expression.specs.Expression.{expression, lone_place, printed}
-use Rattle.rawk_expression.specs.Tokens.{Spells, Newlines}
+use Rattle.rawk_parsing.specs.Tokens.{Spells, Newlines}
 use Rattle.rawk_expression.specs.Sound.{whole_derived, place_derived, printed_derived}
-use Rattle.rawk_expression.specs.Steps.{and_then_ok, cond_ok, done, at_ok, not_ok, sees_kind, spells, eaten, kept, expect_ok, newlines_are}
+use Rattle.rawk_parsing.specs.Steps.{and_then_ok, cond_ok, done, at_ok, not_ok, sees_kind, spells, eaten, kept, expect_ok, newlines_are}
 use Rattle.rawk_grammar.specs.declared.context.Context.{Context}
 use Rattle.rawk_grammar.specs.declared.tree.Act.{Act}
 use Rattle.rawk_grammar.specs.declared.tree.Act.TheVariants as act
@@ -262,7 +262,7 @@ module _ (d : ℕ) (deeper : Context → Parser Stmt) (sound : IsSound d deeper)
       let same : t.0 ≡ r.0 = t.1 in
       subst (λ ss. Closed c d ss i r.1) same t.2
 
-  branch_sound : (i : Input) (r : Branch × Input) → x.branch (suc d) deeper c i ≡ Ok r → Branches c d r.0 i r.1
+  pub branch_sound : (i : Input) (r : Branch × Input) → x.branch (suc d) deeper c i ≡ Ok r → Branches c d r.0 i r.1
   unfolding x.branch
   branch_sound i r h =
       let a = and_then_ok (x.condition (suc d) i) _ r h in

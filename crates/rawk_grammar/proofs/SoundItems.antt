@@ -4,15 +4,15 @@ use Rattle.rawk_lexer.specs.declared.token.Kind.{Kind}
 use Rattle.rawk_lexer.specs.declared.token.Kind.TheVariants as k
 use Rattle.rawk_lexer.specs.Lex.{kind, next, spelling, left}
 use Rattle.rawk_expression.specs.declared.grammar.Wanted.TheVariants as want
-use Rattle.rawk_expression.specs.declared.parse_error.ParseError.{ParseError}
-use Rattle.rawk_expression.specs.declared.tree.Expr.{Expr}
-use Rattle.rawk_expression.specs.declared.tree.Name.{Name}
-use Rattle.rawk_expression.specs.Parser.{Input, Parses, and_then, ◌>>=◌, ◌>>◌, pure, refuse, expect, sees, after, newlines, name, name_at, bare_name}
+use Rattle.rawk_parsing.specs.declared.parse_error.ParseError.{ParseError}
+use Rattle.rawk_parsing.specs.declared.tree.Expr.{Expr}
+use Rattle.rawk_parsing.specs.declared.tree.Name.{Name}
+use Rattle.rawk_parsing.specs.Parser.{Input, Parses, and_then, ◌>>=◌, ◌>>◌, pure, refuse, expect, sees, after, newlines, name, name_at, bare_name}
 use Rattle.rawk_expression.specs.Expression.{expression}
-use Rattle.rawk_expression.specs.Tokens.{Spells}
+use Rattle.rawk_parsing.specs.Tokens.{Spells}
 use Rattle.rawk_expression.specs.Grammar.{Derives, Whole}
 use Rattle.rawk_expression.specs.Sound.{whole_derived}
-use Rattle.rawk_expression.specs.Steps.{and_then_ok, cond_ok, done, at_ok, not_ok, sees_kind, spells, eaten, kept, keeps, expect_ok, bare_name_ok, newlines_are}
+use Rattle.rawk_parsing.specs.Steps.{and_then_ok, cond_ok, done, at_ok, not_ok, sees_kind, spells, eaten, kept, keeps, expect_ok, bare_name_ok, newlines_are}
 use Rattle.rawk_grammar.specs.declared.context.Owner.TheVariants as owner
 use Rattle.rawk_grammar.specs.declared.tree.Pattern.{Pattern}
 use Rattle.rawk_grammar.specs.declared.tree.Pattern.TheVariants as guard

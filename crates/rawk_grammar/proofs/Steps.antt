@@ -3,8 +3,8 @@ use Rattle.std.proofs.Common.{◌≡◌, ◌≢◌, ℕ, suc, Bool, true, false,
 use Rattle.std.proofs.lemmas.Bool.{false_from_ne_true}
 use Rattle.rawk_lexer.specs.declared.token.Kind.{Kind}
 use Rattle.rawk_lexer.specs.Lex.{kind}
-use Rattle.rawk_expression.specs.Parser.{Input, Outcome, Parser, and_then, sees, after}
-use Rattle.rawk_expression.specs.Tokens.{Spells}
+use Rattle.rawk_parsing.specs.Parser.{Input, Outcome, Parser, and_then, sees, after}
+use Rattle.rawk_parsing.specs.Tokens.{Spells}
 use Rattle.rawk_expression.specs.Follow.{eats as eaten_is, leaves as kept_is}
 
 pub both : (a b : Bool) → (a && b) ≡ true → (a ≡ true) × (b ≡ true)

@@ -2,10 +2,10 @@
 use Rattle.std.specs.Prelude.{◌≡◌, ◌≢◌, ℕ, suc, true, false, List, [], ◌∷◌, Option, Some, None}
 use Rattle.rawk_lexer.specs.declared.token.Kind.TheVariants as k
 use Rattle.rawk_lexer.specs.Lex.{kind, left}
-use Rattle.rawk_expression.specs.declared.tree.Expr.{Expr}
-use Rattle.rawk_expression.specs.declared.tree.Place.{Place}
-use Rattle.rawk_expression.specs.Parser.{Input, name_at}
-use Rattle.rawk_expression.specs.Tokens.{Spells, Newlines}
+use Rattle.rawk_parsing.specs.declared.tree.Expr.{Expr}
+use Rattle.rawk_parsing.specs.declared.tree.Place.{Place}
+use Rattle.rawk_parsing.specs.Parser.{Input, name_at}
+use Rattle.rawk_parsing.specs.Tokens.{Spells, Newlines}
 use Rattle.rawk_expression.specs.Grammar.{Derives, Whole, APlace, PrintList}
 use Rattle.rawk_grammar.specs.declared.context.Context.{Context}
 use Rattle.rawk_grammar.specs.declared.tree.Act.{Act}

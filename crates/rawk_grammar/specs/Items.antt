@@ -4,8 +4,8 @@ use Rattle.rawk_lexer.specs.declared.token.Kind.{Kind}
 use Rattle.rawk_lexer.specs.declared.token.Kind.TheVariants as k
 use Rattle.rawk_lexer.specs.Lex.{kind, next, left}
 use Rattle.rawk_expression.specs.declared.grammar.Wanted.TheVariants as want
-use Rattle.rawk_expression.specs.declared.tree.Name.{Name}
-use Rattle.rawk_expression.specs.Parser.{Input, Parser, and_then, ◌>>=◌, ◌>>◌, pure, refuse, too_deep, peek, take_token, sees, eat, expect, newlines, name, bare_name}
+use Rattle.rawk_parsing.specs.declared.tree.Name.{Name}
+use Rattle.rawk_parsing.specs.Parser.{Input, Parser, and_then, ◌>>=◌, ◌>>◌, pure, refuse, too_deep, peek, take_token, sees, eat, expect, newlines, name, bare_name}
 use Rattle.rawk_expression.specs.Expression.{expression}
 use Rattle.rawk_grammar.specs.declared.context.Owner.TheVariants as owner
 use Rattle.rawk_grammar.specs.declared.tree.Pattern.{Pattern}

@@ -6,3 +6,4 @@ pub mod Grammar
 pub mod Programs
 pub mod Texts
 pub mod Plain
+pub mod Dangling

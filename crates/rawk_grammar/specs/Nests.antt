@@ -2,8 +2,8 @@
 use Rattle.std.specs.Prelude.{ℕ, Result}
 use Rattle.std.specs.declared.alloc.Global.{Global}
 use denote.Ref.{MutBor}
-use Rattle.rawk_expression.specs.declared.parse_error.ParseError.{ParseError}
-use Rattle.rawk_expression.specs.Parser.{Input, Parses}
+use Rattle.rawk_parsing.specs.declared.parse_error.ParseError.{ParseError}
+use Rattle.rawk_parsing.specs.Parser.{Input, Parses}
 use Rattle.rawk_grammar.specs.declared.context.Context.{Context}
 use Rattle.rawk_grammar.specs.declared.tree.Stmt.{Stmt}
 use Rattle.rawk_grammar.specs.Statement.{statement}

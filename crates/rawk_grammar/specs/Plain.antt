@@ -1,13 +1,13 @@
 -- Plain programs: expressions are plain, each body is an action or an `if` behind `else`, and each simple or jump statement ends by
--- a semicolon or a newline. No rule looks at what stands behind it.
+-- a semicolon or a newline, or stands before the closing brace of an action. No rule looks at what stands behind it.
 use Rattle.std.specs.Prelude.{◌≡◌, ℕ, zero, suc, true, false, ◌⊎◌, List, [], ◌∷◌, length, Option, Some, None}
 use Rattle.rawk_lexer.specs.declared.token.Kind.TheVariants as k
 use Rattle.rawk_lexer.specs.Lex.{kind, left}
-use Rattle.rawk_expression.specs.declared.tree.Expr.{Expr}
-use Rattle.rawk_expression.specs.declared.tree.Name.{Name}
-use Rattle.rawk_expression.specs.declared.tree.Place.{Place}
-use Rattle.rawk_expression.specs.Parser.{Input, name_at}
-use Rattle.rawk_expression.specs.Tokens.{Spells, Newlines}
+use Rattle.rawk_parsing.specs.declared.tree.Expr.{Expr}
+use Rattle.rawk_parsing.specs.declared.tree.Name.{Name}
+use Rattle.rawk_parsing.specs.declared.tree.Place.{Place}
+use Rattle.rawk_parsing.specs.Parser.{Input, name_at}
+use Rattle.rawk_parsing.specs.Tokens.{Spells, Newlines}
 use Rattle.rawk_expression.specs.Grammar.{Whole, APlace, PrintList}
 use Rattle.rawk_expression.specs.Plain.{Plain}
 use Rattle.rawk_grammar.specs.declared.context.Context.{Context}
@@ -82,6 +82,10 @@ pub data PlainStates : Context → ℕ → Phrase → Input → Input → Type 0
   none : {c : Context} {d : ℕ} {i j : Input} → Newlines i j → PlainStates c d (Many []) i j
   more : {c : Context} {d : ℕ} {s : Stmt} {ss : List Stmt} {i j l m : Input}
       → Newlines i j → PlainStates c d (One s) j l → PlainStates c d (Many ss) l m → PlainStates c d (Many (s ∷ ss)) i m
+  last_simple : {c : Context} {d : ℕ} {a : Act} {i j l : Input}
+      → Newlines i j → PlainActs d a j l → kind l ≡ k.RightBrace → PlainStates c d (Many (tree.Simple (simple_at (left j) a) ∷ [])) i l
+  last_jump : {c : Context} {d : ℕ} {x : Jump} {i j l : Input}
+      → Newlines i j → PlainJumps c d x j l → kind l ≡ k.RightBrace → PlainStates c d (Many (tree.Jump (left j) x ∷ [])) i l
   action : {c : Context} {d : ℕ} {ss : List Stmt} {v w : List ℕ} {i j l m : Input}
       → Spells k.LeftBrace v i j → PlainStates c d (Many ss) j l → Spells k.RightBrace w l m → PlainStates c (suc d) (Action ss) i m
   block : {c : Context} {d : ℕ} {ss : List Stmt} {i j : Input} → PlainStates c d (Action ss) i j → PlainStates c d (One (tree.Block ss)) i j

@@ -2,10 +2,10 @@
 use Rattle.std.specs.Prelude.{◌≡◌, ℕ, true, false, ◌⊎◌, List, [], ◌∷◌, length}
 use Rattle.rawk_lexer.specs.declared.token.Kind.TheVariants as k
 use Rattle.rawk_lexer.specs.Lex.{kind, left}
-use Rattle.rawk_expression.specs.declared.tree.Expr.{Expr}
-use Rattle.rawk_expression.specs.declared.tree.Name.{Name}
-use Rattle.rawk_expression.specs.Parser.{Input, name_at}
-use Rattle.rawk_expression.specs.Tokens.{Spells, Newlines}
+use Rattle.rawk_parsing.specs.declared.tree.Expr.{Expr}
+use Rattle.rawk_parsing.specs.declared.tree.Name.{Name}
+use Rattle.rawk_parsing.specs.Parser.{Input, name_at}
+use Rattle.rawk_parsing.specs.Tokens.{Spells, Newlines}
 use Rattle.rawk_expression.specs.Grammar.{Derives, Whole}
 use Rattle.rawk_grammar.specs.declared.context.Owner.TheVariants as owner
 use Rattle.rawk_grammar.specs.declared.tree.Pattern.{Pattern}

@@ -3,11 +3,11 @@ use Rattle.std.specs.Prelude.{ℕ, zero, suc, Bool, true, false, ◌&&◌, if◌
 use Rattle.rawk_lexer.specs.declared.token.Kind.{Kind}
 use Rattle.rawk_lexer.specs.declared.token.Kind.TheVariants as k
 use Rattle.rawk_lexer.specs.Lex.{kind, next, left}
-use Rattle.rawk_expression.specs.declared.refusal.RefusalKind.TheVariants as refused
-use Rattle.rawk_expression.specs.declared.parse_error.ParseError.TheVariants.{Here}
+use Rattle.rawk_parsing.specs.declared.refusal.RefusalKind.TheVariants as refused
+use Rattle.rawk_parsing.specs.declared.parse_error.ParseError.TheVariants.{Here}
 use Rattle.rawk_expression.specs.declared.grammar.Wanted.TheVariants as want
-use Rattle.rawk_expression.specs.declared.tree.Expr.{Expr}
-use Rattle.rawk_expression.specs.Parser.{Input, Parser, and_then, ◌>>=◌, ◌>>◌, pure, refuse, too_deep, peek, take_token, sees, eat, expect, newlines, name}
+use Rattle.rawk_parsing.specs.declared.tree.Expr.{Expr}
+use Rattle.rawk_parsing.specs.Parser.{Input, Parser, and_then, ◌>>=◌, ◌>>◌, pure, refuse, too_deep, peek, take_token, sees, eat, expect, newlines, name}
 use Rattle.rawk_expression.specs.Expression.{expression, lone_place, printed}
 use Rattle.rawk_grammar.specs.declared.context.Context.{Context}
 use Rattle.rawk_grammar.specs.declared.tree.Act.{Act}

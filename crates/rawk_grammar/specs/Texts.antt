@@ -1,7 +1,7 @@
 -- Whole texts.
 use Rattle.std.specs.Prelude.{◌≡◌, ℕ, zero, suc, List, Result, Ok, Err}
-use Rattle.rawk_expression.specs.declared.parse_error.ParseError.{ParseError}
-use Rattle.rawk_expression.specs.declared.parse_error.ParseError.TheVariants as refused
+use Rattle.rawk_parsing.specs.declared.parse_error.ParseError.{ParseError}
+use Rattle.rawk_parsing.specs.declared.parse_error.ParseError.TheVariants as refused
 use Rattle.rawk_grammar.specs.declared.tree.Item.{Item}
 use Rattle.rawk_grammar.specs.Programs.{Texts}
 

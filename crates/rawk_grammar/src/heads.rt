@@ -1,16 +1,17 @@
 //! What stands in parentheses behind a keyword.
 
 ghost use Rattle.std.specs.Prelude.{◌≡◌, Ok};
-ghost use Rattle.rawk_expression.specs.Parser.{Parses};
+ghost use Rattle.rawk_parsing.specs.Parser.{Parses};
 ghost use Rattle.rawk_grammar.specs.Statement as spec;
 
 use crate::simple::simple;
 use crate::tree::{Condition, Head, Stmt};
-use rawk_expression::tokens::{expect, sees, skip_newlines};
-use rawk_expression::tree::Expr;
-use rawk_expression::{ParseError, Wanted, expression};
+use rawk_expression::{Wanted, expression};
 use rawk_items::Boxed;
 use rawk_lexer::{Cursor, Kind};
+use rawk_parsing::ParseError;
+use rawk_parsing::tokens::{expect, sees, skip_newlines};
+use rawk_parsing::tree::Expr;
 use std::alloc::Global;
 
 /// An expression in parentheses.

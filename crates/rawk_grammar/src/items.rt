@@ -1,7 +1,7 @@
 //! Items and programs.
 
 ghost use Rattle.std.specs.Prelude.{◌≡◌, IfOk, List};
-ghost use Rattle.rawk_expression.specs.Parser.{Parses};
+ghost use Rattle.rawk_parsing.specs.Parser.{Parses};
 ghost use Rattle.rawk_grammar.specs.Items as spec;
 ghost use Rattle.rawk_grammar.specs.Texts.{IsText, IsItems};
 ghost use Rattle.rawk_grammar.specs.Plain.{IsPlainText};
@@ -9,11 +9,12 @@ ghost use Rattle.rawk_grammar.specs.Plain.{IsPlainText};
 use crate::context::{Context, Owner};
 use crate::statements::action;
 use crate::tree::{Action, Item, Pattern};
-use rawk_expression::tokens::{bare_name, eat, expect, name, refuse, sees, skip_newlines};
-use rawk_expression::tree::Name;
-use rawk_expression::{ParseError, RefusalKind, Wanted, expression};
+use rawk_expression::{Wanted, expression};
 use rawk_items::{Boxed, Items};
 use rawk_lexer::{Cursor, Kind};
+use rawk_parsing::tokens::{bare_name, eat, expect, name, refuse, sees, skip_newlines};
+use rawk_parsing::tree::Name;
+use rawk_parsing::{ParseError, RefusalKind};
 use std::alloc::Global;
 
 #[tactic(auto, unfolding(crate::specs::Items::pattern))]

@@ -2,6 +2,7 @@
 #![tactic(auto)]
 
 pub mod context;
+mod dangling;
 mod heads;
 mod items;
 mod simple;

@@ -1,17 +1,18 @@
 //! Simple statements, jumps, and what stands in the parentheses of heads.
 
 ghost use Rattle.std.specs.Prelude.{◌≡◌};
-ghost use Rattle.rawk_expression.specs.Parser.{Parses};
+ghost use Rattle.rawk_parsing.specs.Parser.{Parses};
 ghost use Rattle.rawk_lexer.specs.Lex.{kind as the_kind};
 ghost use Rattle.rawk_grammar.specs.Statement as spec;
 
 use crate::context::Context;
 use crate::tree::{Act, Jump, Simple, Stmt};
-use rawk_expression::tokens::{refuse, sees};
-use rawk_expression::tree::Expr;
-use rawk_expression::{ParseError, RefusalKind, Wanted, expression, place, printed};
+use rawk_expression::{Wanted, expression, place, printed};
 use rawk_items::{Boxed, Items};
 use rawk_lexer::{Cursor, Kind};
+use rawk_parsing::tokens::{refuse, sees};
+use rawk_parsing::tree::Expr;
+use rawk_parsing::{ParseError, RefusalKind};
 use std::alloc::Global;
 
 /// What may stand directly behind a statement.

@@ -1,18 +1,19 @@
 //! Statements, whose bodies are statements.
 
 ghost use Rattle.std.specs.Prelude.{◌≡◌};
-ghost use Rattle.rawk_expression.specs.Parser.{Parses};
+ghost use Rattle.rawk_parsing.specs.Parser.{Parses};
 ghost use Rattle.rawk_grammar.specs.Statement as spec;
 ghost use Rattle.rawk_grammar.specs.Nests.{Nests};
 
 use crate::context::Context;
-use crate::heads::{condition, enclosed, head, other, sees_member};
+use crate::dangling::other_behind;
+use crate::heads::{condition, enclosed, head, sees_member};
 use crate::simple::{end, ended, placed_jump};
 use crate::tree::{Branch, Stmt};
-use rawk_expression::tokens::{eat, expect, name, refuse, sees, skip_newlines};
-use rawk_expression::{ParseError, RefusalKind};
 use rawk_items::{Boxed, Items};
 use rawk_lexer::{Cursor, Kind};
+use rawk_parsing::tokens::{eat, expect, name, refuse, sees, skip_newlines};
+use rawk_parsing::{ParseError, RefusalKind};
 use std::alloc::Global;
 
 /// The rules that hold statements take the parser of those as a parameter, so that each is proved by itself.
@@ -69,8 +70,10 @@ impl<F: Fn(Global, &mut Cursor<'_>, usize, Context) -> Result<Boxed<Stmt>, Parse
     {
         let mut branches = Items::new(self.alloc);
         for _turn in 0..tokens.left() {
-            branches.push(self.branch(tokens)?)?;
-            if !other(tokens) {
+            let branch = self.branch(tokens)?;
+            let goes_on = other_behind(branch.get(), tokens);
+            branches.push(branch)?;
+            if !goes_on {
                 return Ok(Boxed::new(self.alloc, Stmt::If(branches, None))?);
             }
             if !eat(tokens, Kind::If) {

@@ -3,8 +3,8 @@
 //! A place in the text is the number of bytes from there to the end of the text. Branches that `else if` joins are a list, so that a
 //! tree is no deeper than the constructs that are open in the text.
 
-use rawk_expression::tree::{Expr, Name, Place};
 use rawk_items::{Boxed, Items};
+use rawk_parsing::tree::{Expr, Name, Place};
 
 /// What a simple statement does.
 #[derive(Drop)]

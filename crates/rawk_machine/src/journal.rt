@@ -1,12 +1,12 @@
 //! The end of a step: what it changed is kept, or forgotten.
 
-ghost use Rattle.std.specs.Prelude.{◌≡◌, ◌<◌, ◌≤◌, ◌+◌, ◌^◌, [], None, Some, length, reverse, OnOk, OnErr};
+ghost use Rattle.std.specs.Prelude.{◌≡◌, ◌<◌, ◌≤◌, ◌+◌, ◌^◌, [], IsTrue, None, Some, length, reverse, OnOk, OnErr};
 ghost use Rattle.rawk_tape.specs.Records.{Input};
 ghost use Rattle.rawk_tape.specs.Tapes.{MayBe};
 ghost use Rattle.rawk_tape.specs.declared.source.Ending.{Ending as End};
 ghost use Rattle.rawk_store.specs.Keeping.{keeps_any};
 ghost use Rattle.rawk_store.specs.Layout.{Layout, Grown, IsSound};
-ghost use Rattle.rawk_store.specs.Stores.{now_of, start_of};
+ghost use Rattle.rawk_store.specs.Stores.{IsPlainStep, now_of, start_of};
 ghost use Rattle.rawk_travel.specs.Moving.{moving};
 ghost use Rattle.rawk_machine.specs.Arrival.{Arrives, ends_quietly, EndsByRead, IsSettled};
 ghost use Rattle.rawk_machine.specs.Closing.{Closes, FitAll};
@@ -21,12 +21,15 @@ use std::mem;
 
 /// Ends a step, and keeps what it changed with what the sets changed that were made at the point that it left. Where memory is
 /// refused, the step is put back, and its sets' groups stand as before.
+#[inline(always)]
 pub fn close<K: Keeper>(
     alloc: Global,
     store: &mut Store,
     keeper: &mut K,
     here: &mut Vec<Group>,
+    plain: bool,
 ) -> Result<(), AllocError>
+    requires { IsTrue plain → IsPlainStep store.old }
     ensures kept { OnOk result (Closes (keeps_any (K.limit keeper.old)) (start_of store.old) (now_of store.old) (K.kept keeper.old) (K.kept keeper.new) here.old.items (K.limit keeper.old)) }
     ensures now { OnOk result (now_of store.new ≡ now_of store.old) }
     ensures here { OnOk result (here.new.items ≡ []) }
@@ -38,7 +41,11 @@ pub fn close<K: Keeper>(
     ensures limit { K.limit keeper.new ≡ K.limit keeper.old }
 {
     if !keeper.keeps() {
-        store.forget();
+        if plain {
+            store.forget_plain();
+        } else {
+            store.forget();
+        }
         here.clear();
         return Ok(());
     }
@@ -56,6 +63,7 @@ pub fn close<K: Keeper>(
 }
 
 /// One step, kept. Where memory is refused, the parts are put back as they were; bytes may be read ahead then.
+#[inline(always)]
 pub fn journaled<R: Source + Drop, K: Keeper>(
     alloc: Global,
     code: &Code,
@@ -90,8 +98,9 @@ pub fn journaled<R: Source + Drop, K: Keeper>(
     ensures risen { executed.old + 1 < 2 ^ 128 → executed.old < executed.new }
 {
     let consumed = tape.consumed();
-    step(alloc, code, store, tape, executed, count, limit)?;
-    match close(alloc, store, keeper, here) {
+    let mut plain = false;
+    step(alloc, code, store, tape, &mut plain, executed, count, limit)?;
+    match close(alloc, store, keeper, here, plain) {
         Ok(()) => Ok(()),
         Err(refused) => {
             tape.consume(consumed);

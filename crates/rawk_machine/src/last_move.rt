@@ -17,12 +17,22 @@ pub enum LastMove {
 
 impl LastMove {
     /// The last move was an advance. Where it was one before, nothing is written: a step does not pay for the size of what a step back keeps.
+    #[inline]
     pub(crate) fn turn_on(&mut self)
         ensures { self.new ≡ LastMove.On }
     {
         match self {
             LastMove::On => {}
-            _ => *self = LastMove::On,
+            _ => self.replace(),
         }
+    }
+
+    /// Drops what a step back kept.
+    #[cold]
+    #[inline(never)]
+    fn replace(&mut self)
+        ensures { self.new ≡ LastMove.On }
+    {
+        *self = LastMove::On;
     }
 }

@@ -132,7 +132,17 @@ impl<R: Source + Drop, K: Keeper> Machine<R, K> {
         let mut store = first_store(alloc, &code, &settings)?;
         let mut tape = Tape::new(alloc, source);
         let mut executed = 0;
-        step(alloc, &code, &mut store, &mut tape, &mut executed, 0, steps)?;
+        let mut plain = false;
+        step(
+            alloc,
+            &code,
+            &mut store,
+            &mut tape,
+            &mut plain,
+            &mut executed,
+            0,
+            steps,
+        )?;
         store.forget();
         Ok(Machine {
             code,
@@ -357,6 +367,9 @@ impl<R: Source + Drop> Machine<R, Off> {
     {
         let consumed = self.tape.consumed();
         let size = self.tape.forget();
+        if size == 0 {
+            return size;
+        }
         self.store.registers.now.consumed = consumed - size;
         self.store.registers.start.consumed = consumed - size;
         size

@@ -43,19 +43,24 @@ pub fn perform<R: Env + Files + AllocGlobal + Input + Print + Eprint>(
 ) -> u8 {
     match invocation(rt) {
         Ok(invocation) => {
-            let at_once = is_terminal || invocation.commands == Some(Text::StandardInput);
-            let room = if at_once { 0 } else { OUTPUT_BUFFER };
-            match run_invocation(rt, &invocation, room) {
-                Ok(status) => status,
-                Err(refusal) => refused(rt, &refusal),
-            }
+            let at_once = is_terminal || matches!(&invocation.commands, Some(Text::StandardInput));
+            let done = run_invocation(rt, &invocation, if at_once { 0 } else { OUTPUT_BUFFER });
+            drop(invocation);
+            done.unwrap_or_else(|refusal| refused(rt, refusal))
         }
-        Err(refusal) => refused(rt, &refusal),
+        Err(refusal) => refused(rt, refusal),
     }
 }
 
 /// Tells a refusal, or shows the help, and answers the status.
-fn refused<R: Print + Eprint>(rt: &R, refusal: &S) -> u8 {
+fn refused<R: Print + Eprint>(rt: &R, refusal: S) -> u8 {
+    let status = told(rt, &refusal);
+    drop(refusal);
+    status
+}
+
+/// The same of a refusal that stays.
+fn told<R: Print + Eprint>(rt: &R, refusal: &S) -> u8 {
     match refusal {
         S::Help(text) => match rt.print(text.as_str()) {
             Ok(()) => 0,
@@ -84,7 +89,9 @@ fn invocation<R: Env + AllocGlobal>(rt: &R) -> Result<Invocation, S> {
     match env::args(rt) {
         Ok(args) => {
             let words: Vec<String> = args.skip(1).collect(alloc)?;
-            settings_of(alloc, words.as_slice())
+            let asked = settings_of(alloc, words.as_slice());
+            drop(words);
+            asked
         }
         Err(error) if error.kind() == ErrorKind::OutOfMemory => Err(S::Memory(AllocError)),
         Err(_) => Err(not_text(alloc)),
@@ -105,40 +112,73 @@ fn run_invocation<R: Files + AllocGlobal + Input + Print + Eprint>(
     invocation: &Invocation,
     room: usize,
 ) -> Result<u8, S> {
-    let alloc = rt.alloc();
     let program = bytes_of(rt, &invocation.program)?;
-    let commands = match &invocation.commands {
-        Some(text) => Some(input_of(rt, text)?),
-        None => None,
+    let done = match &invocation.commands {
+        Some(commands) => hold_session(rt, invocation, program.as_slice(), commands, room),
+        None => run_program(rt, invocation, program.as_slice(), room),
     };
-    let input = input_of(rt, &invocation.input)?;
+    drop(program);
+    done
+}
+
+/// Runs a program, and answers the status.
+fn run_program<R: Files + AllocGlobal + Input + Print + Eprint>(
+    rt: &R,
+    invocation: &Invocation,
+    program: &[u8],
+    room: usize,
+) -> Result<u8, S> {
+    let alloc = rt.alloc();
     let Ok(mut buffer) = BufWriter::with_capacity(alloc, room, io::writer(rt)) else {
         return Err(S::Memory(AllocError));
     };
-    let report = match commands {
-        Some(commands) => debug_from(
-            alloc,
-            &invocation.settings,
-            program.as_slice(),
-            StdSource::new(input),
-            StdSource::new(commands),
-            &mut StdSink::new(&mut buffer),
-            invocation.steps,
-            invocation.history,
-        ),
-        None => run(
-            alloc,
-            &invocation.settings,
-            program.as_slice(),
-            StdSource::new(input),
-            &mut StdSink::new(&mut buffer),
-            invocation.steps,
-        ),
+    let input = input_of(rt, &invocation.input)?;
+    let report = run(
+        alloc,
+        &invocation.settings,
+        program,
+        StdSource::new(input),
+        &mut StdSink::new(&mut buffer),
+        invocation.steps,
+    );
+    let flushed = buffer.flush();
+    Ok(ended(rt, flushed, &report))
+}
+
+/// Holds a session on a program, and answers the status.
+fn hold_session<R: Files + AllocGlobal + Input + Print + Eprint>(
+    rt: &R,
+    invocation: &Invocation,
+    program: &[u8],
+    commands: &Text,
+    room: usize,
+) -> Result<u8, S> {
+    let alloc = rt.alloc();
+    let Ok(mut buffer) = BufWriter::with_capacity(alloc, room, io::writer(rt)) else {
+        return Err(S::Memory(AllocError));
     };
-    if buffer.flush().is_err() {
-        return Ok(write_failed(rt));
+    let commands = input_of(rt, commands)?;
+    let input = input_of(rt, &invocation.input)?;
+    let report = debug_from(
+        alloc,
+        &invocation.settings,
+        program,
+        StdSource::new(input),
+        StdSource::new(commands),
+        &mut StdSink::new(&mut buffer),
+        invocation.steps,
+        invocation.history,
+    );
+    let flushed = buffer.flush();
+    Ok(ended(rt, flushed, &report))
+}
+
+/// Tells how a run or a session went, or that its output could not be written, and answers the status.
+fn ended<R: Eprint>(rt: &R, flushed: io::Result<()>, report: &Report) -> u8 {
+    match flushed {
+        Ok(()) => reported(rt, report),
+        Err(_) => write_failed(rt),
     }
-    Ok(reported(rt, &report))
 }
 
 /// Tells how a run went, and answers the status.

@@ -1,6 +1,6 @@
 //! Old values, each with its place.
 
-ghost use Rattle.std.specs.Prelude.{◌≡◌, ◌<◌, ◌↔◌, IsTrue, length, map, slice_index};
+ghost use Rattle.std.specs.Prelude.{◌≡◌, ◌<◌, ◌↔◌, [], IsTrue, length, map, slice_index};
 ghost use Rattle.rawk_slots.specs.Back.{back, AreBelow, HasDistinctPlaces, IsSavedAt, places};
 
 use std::mem;
@@ -35,4 +35,14 @@ pub(crate) fn is_saved<T>(marks: &[usize], saved: &[Saved<T>], place: usize) -> 
 {
     let mark = marks[place];
     mark < saved.len() && saved[mark].place == place
+}
+
+/// Drops each old value, one by one: a step saves few.
+#[inline]
+pub(crate) fn drop_all<T: Drop>(saved: &mut Vec<Saved<T>>)
+    ensures { saved.new.items ≡ [] }
+{
+    while let Some(entry) = saved.pop() {
+        drop(entry);
+    }
 }

@@ -6,7 +6,7 @@ ghost use Rattle.rawk_slots.specs.Back.{back, AreBelow};
 ghost use Rattle.rawk_slots.specs.Journaled.{Longer, at_rest};
 
 use crate::reversible::Reversible;
-use crate::saved::{Saved, is_saved, swap_back};
+use crate::saved::{Saved, drop_all, is_saved, swap_back};
 use crate::slot_group::SlotGroup;
 use std::alloc::{AllocError, Global};
 use std::marker::Model;
@@ -66,6 +66,7 @@ impl<T: Drop> Slots<T> {
     }
 
     /// Writes a slot. It fails where memory is refused, and then nothing has changed.
+    #[inline(always)]
     pub fn write(&mut self, place: usize, value: T) -> Result<(), AllocError>
         requires { place < length self.old.now }
         ensures did { OnOk result (self.new.now ≡ slice_set self.old.now place value) }
@@ -79,11 +80,12 @@ impl<T: Drop> Slots<T> {
         self.saved.reserve(1)?;
         let old = mem::replace(&mut self.items[place], value);
         self.marks[place] = self.saved.len();
-        self.saved.push(Saved { place, old })?;
+        self.saved.push_reserved(Saved { place, old });
         Ok(())
     }
 
     /// Writes a slot; a number that is no slot changes nothing. It fails where memory is refused, and then nothing has changed.
+    #[inline(always)]
     pub fn set(&mut self, place: usize, value: T) -> Result<(), AllocError>
         ensures did { OnOk result (self.new.now ≡ slice_set self.old.now place value) }
         ensures start { self.new.start ≡ self.old.start }
@@ -133,10 +135,11 @@ impl<T: Drop> Slots<T> {
     }
 
     /// Ends the step, and forgets what it changed. The list of old values is cleared in place: it takes no memory.
+    #[inline]
     pub fn forget(&mut self)
         ensures { self.new ≡ at_rest self.old.now }
     {
-        self.saved.clear();
+        drop_all(&mut self.saved);
     }
 
     /// Puts back what the step in progress changed. It takes no memory and always succeeds.

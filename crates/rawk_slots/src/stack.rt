@@ -159,7 +159,16 @@ impl<T: Drop> Stack<T> {
         group
     }
 
+    /// What is so of each stack. It does nothing.
+    #[inline]
+    pub fn known(&self)
+        ensures { IsLive self.now.now }
+    {
+        let _live = self.live;
+    }
+
     /// Ends the step, and forgets what it changed. It takes no memory.
+    #[inline]
     pub fn forget(&mut self)
         ensures now { self.new ≡ at_rest self.old.now }
         ensures live { IsLive self.old.now }

@@ -45,3 +45,11 @@ empty_layout registers = record { globals = []; arrays = no_arrays; frames = no_
 pub record IsNew (registers : Registers) (s : Store) : Type 0 where
   pub now : now_of s ≡ empty_layout registers
   pub start : start_of s ≡ empty_layout registers
+
+-- the step in progress changed no array, activation, key that is left, range or operand
+pub record IsPlainStep (s : Store) : Type 0 where
+  pub arrays : s.arrays.start ≡ s.arrays.now
+  pub frames : s.frames.start ≡ s.frames.now
+  pub keys : s.keys.start ≡ s.keys.now
+  pub ranges : s.ranges.start ≡ s.ranges.now
+  pub operands : s.operands.start ≡ s.operands.now

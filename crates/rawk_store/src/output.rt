@@ -74,14 +74,17 @@ impl Output {
     }
 
     /// Gives the bytes away into a buffer, whose room is used for the next ones. It takes no memory.
+    #[inline]
     pub fn give(&mut self, buffer: &mut Vec<u8>)
         requires { self.old.start ≡ self.old.now }
         ensures given { buffer.new.items ≡ self.old.now }
         ensures rest { self.new ≡ at_rest [] }
     {
         buffer.clear();
-        mem::swap(&mut self.bytes, buffer);
-        self.began = 0;
+        if !self.bytes.is_empty() {
+            mem::swap(&mut self.bytes, buffer);
+            self.began = 0;
+        }
     }
 
     /// Ends the step, and gives how many bytes there were when it began.
@@ -94,6 +97,7 @@ impl Output {
     }
 
     /// Ends the step, and forgets how it began.
+    #[inline]
     pub fn forget(&mut self)
         ensures { self.new ≡ at_rest self.old.now }
     {

@@ -63,6 +63,7 @@ impl Bank {
     }
 
     /// Ends the step, and forgets how it began. Each register is copied by itself: some were just written, and a copy of several at once would wait for them.
+    #[inline]
     pub fn forget(&mut self)
         ensures now { self.new.now ≡ self.old.now }
         ensures start { self.new.start ≡ self.old.now }
@@ -73,8 +74,12 @@ impl Bank {
         self.start.status = now.status;
         self.start.here = now.here;
         self.start.site = now.site;
-        self.start.consumed = now.consumed;
-        self.start.ending = now.ending;
+        if self.start.consumed != now.consumed {
+            self.start.consumed = now.consumed;
+        }
+        if now.ending.is_some() || self.start.ending.is_some() {
+            self.start.ending = now.ending;
+        }
     }
 
     /// Puts back what the step in progress changed.

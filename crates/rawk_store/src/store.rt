@@ -5,7 +5,7 @@ ghost use Rattle.rawk_record.specs.Shown.{record_back};
 ghost use Rattle.rawk_slots.specs.Back.{back};
 ghost use Rattle.rawk_arrays.specs.ArraysBack.{arrays_back};
 ghost use Rattle.rawk_store.specs.Layout.{IsSound, state};
-ghost use Rattle.rawk_store.specs.Stores.{IsNew, now_of, start_of};
+ghost use Rattle.rawk_store.specs.Stores.{IsNew, IsPlainStep, now_of, start_of};
 ghost use Rattle.rawk_store.specs.GroupBack.{FitsIn, put_back};
 
 use crate::current::Current;
@@ -95,6 +95,17 @@ impl Store {
         }
     }
 
+    /// What is so of the parts that few steps change. It does nothing.
+    #[inline]
+    fn known(&self)
+        ensures { IsSound (now_of self.now) }
+    {
+        self.arrays.known();
+        self.frames.known();
+        self.keys.known();
+        self.operands.known();
+    }
+
     /// Ends the step, and forgets what it changed. Its buffers are used again: it takes no memory.
     pub fn forget(&mut self)
         ensures now { now_of self.new ≡ now_of self.old }
@@ -107,6 +118,22 @@ impl Store {
         self.keys.forget();
         self.ranges.forget();
         self.operands.forget();
+        self.current.forget();
+        self.output.forget();
+        self.registers.forget();
+    }
+
+    /// Ends a step that changed no array, activation, key that is left, range or operand, and forgets what it changed: it goes through none of these.
+    /// Its buffers are used again: it takes no memory.
+    #[inline]
+    pub fn forget_plain(&mut self)
+        requires { IsPlainStep self.old }
+        ensures now { now_of self.new ≡ now_of self.old }
+        ensures rest { start_of self.new ≡ now_of self.old }
+        ensures sound { IsSound (now_of self.old) }
+    {
+        self.known();
+        self.globals.forget();
         self.current.forget();
         self.output.forget();
         self.registers.forget();

@@ -1,11 +1,7 @@
-pub mod Turns
 pub mod Globals
 pub mod Indexes
+pub mod Coverings
 pub mod Settlements
-pub mod Sites
-pub mod Steps
-pub mod Sound
-pub mod SoundPrograms
-pub mod Whole
-pub mod Groups
-pub mod WholePrograms
+pub mod Gaps
+pub mod Layings
+pub mod Readings

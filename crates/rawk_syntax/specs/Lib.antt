@@ -1,13 +1,6 @@
-pub mod Refusals
-pub mod Parser
-pub mod Constant
-pub mod Expression
-pub mod Nests
-pub mod Statement
-pub mod Tokens
-pub mod Grammar
-pub mod Programs
+pub mod Covered
 pub mod Indexed
 pub mod Settled
 pub mod Sites
+pub mod Laid
 pub mod Texts

@@ -1,20 +1,16 @@
-//! The grammar of programs, their names and their sites.
+//! The program of a text: the parser's tree with its names as numbers, and its sites.
 #![tactic(auto)]
 
-mod draft;
-mod expression;
-mod grammar;
+mod expressions;
+mod growth;
+mod items;
 mod lines;
 mod names;
-mod parse_error;
 mod parsing;
-mod programs;
-pub mod refusal;
-mod settling;
-mod tokens;
+mod statements;
 pub mod tree;
 
 pub use parsing::parse;
 pub use rawk_lexer::unescaped;
-pub use refusal::{Refusal, RefusalKind};
+pub use rawk_parsing::{Refusal, RefusalKind};
 pub use tree::{Expr, Guard, Link, Place, Program, Rule, Stmt};

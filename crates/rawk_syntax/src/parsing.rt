@@ -2,56 +2,49 @@
 
 ghost use Rattle.std.specs.Prelude.{◌≡◌, ◌≤◌, List, length, IfOk};
 ghost use Rattle.rawk_limits.specs.declared.TheConstants as limits;
-ghost use Rattle.rawk_syntax.specs.Parser.{Parses};
-ghost use Rattle.rawk_syntax.specs.Texts.{IsProgram, IsText, IsItems, IsRead};
-ghost use Rattle.rawk_syntax.specs.declared.draft.Item.{Item};
-ghost use Rattle.rawk_syntax.specs.declared.parse_error.ParseError.TheVariants.{OutOfMemory};
-ghost use Rattle.rawk_syntax.specs.declared.refusal.RefusalKind.TheVariants as kinds;
-ghost use Rattle.rawk_syntax.specs.Settled.{IsSettled};
+ghost use Rattle.rawk_grammar.specs.declared.tree.Item as part;
+ghost use Rattle.rawk_syntax.specs.Covered.{Judges};
+ghost use Rattle.rawk_syntax.specs.Texts as spec;
+ghost use Rattle.rawk_syntax.specs.Texts.{IsReading, IsProgram, IsPlain, IsSettledAs, IsRead, Answers};
 
-use crate::draft::Item;
-use crate::parse_error::ParseError;
-use crate::programs::program;
-use crate::refusal::{Refusal, RefusalKind};
-use crate::settling::settle;
+use crate::items::settle;
 use crate::tree::Program;
-use rawk_items::Items;
+use rawk_grammar::program;
 use rawk_lexer::{Cursor, line_of};
 use rawk_limits::{OPEN_CONSTRUCTS, PROGRAM_BYTES};
+use rawk_parsing::{ParseError, Refusal, RefusalKind};
 use std::alloc::Global;
 
 /// Parses the text of a program (POSIX awk, Grammar); the names of the program are numbers, and its sites are numbered.
 ///
 /// It refuses a text of more than 1,048,576 bytes, or with more than 200 constructs open at once (`TooDeep`); a text that the
-/// grammar does not give, by the token at which it stops (`Syntax`, `BadToken`, `Unterminated`, `LeftOut`); a constant that is
-/// not whole or does not fit 64 bits (`BadNumber`). `OutOfMemory` is the refusal of a growth, and its line is 0.
-/// It goes over the text once, but over a list in parentheses behind `print` at most twice, and finds each name that it met
-/// before by a hash.
+/// grammar does not give, by the token at which it stops (`Syntax`, `BadToken`, `Unterminated`, `LeftOut`, `Misplaced`); a constant
+/// that is not whole or does not fit 64 bits (`BadNumber`); and what has no settled tree so far (`LeftOut`), at the line of its
+/// statement, condition, pattern or item. `OutOfMemory` is the refusal of a growth, and its line is 0.
+/// A token is looked at no more often than constructs may be open, and each name that was met before is found by a hash.
 pub fn parse(alloc: Global, text: &[u8]) -> Result<Program, Refusal>
-    // The program is that of a tree which the grammar gives the text, within the limits.
+    // The refusal of a text, its kind and its line, is a function of the text; memory may also be refused.
+    ensures exact { Answers (spec.refusal_of text.now) result }
+    // The program is settled from items that the grammar gives the text, within the limits.
     ensures found { IfOk result (λ p. IsProgram text.now p) }
-    // A text that has a tree within the limits is read, unless memory is refused.
-    ensures complete { (items : List Item) → length text.now ≤ limits.PROGRAM_BYTES → IsText text.now items → IsRead text.now items result }
+    // A text that plain rules give items with nothing left out, within the limits, is read as those, unless memory is refused.
+    ensures plain { (items : List part.Item) → length text.now ≤ limits.PROGRAM_BYTES → IsPlain text.now items → IsRead text.now items result }
 {
     if text.len() > PROGRAM_BYTES {
-        return Err(Refusal {
-            kind: RefusalKind::TooDeep,
-            line: line_of(text, text.len() - PROGRAM_BYTES),
-        });
+        return Err(told(
+            text,
+            ParseError::Here(RefusalKind::TooDeep, text.len() - PROGRAM_BYTES),
+        ));
     }
-    let items = match items_of(alloc, text) {
-        Ok(items) => items,
-        Err(refused) => return Err(told(text, refused)),
-    };
-    match settle(alloc, text, items.as_slice()) {
+    match read(alloc, text) {
         Ok(program) => Ok(program),
-        Err(_) => Err(told(text, ParseError::OutOfMemory)),
+        Err(refused) => Err(told(text, refused)),
     }
 }
 
 /// The line of a refusal is counted only now.
 fn told(text: &[u8], refused: ParseError) -> Refusal
-    ensures { refused ≡ OutOfMemory → result.kind ≡ kinds.OutOfMemory }
+    ensures { result ≡ spec.told text.now refused }
 {
     match refused {
         ParseError::OutOfMemory => Refusal {
@@ -65,11 +58,15 @@ fn told(text: &[u8], refused: ParseError) -> Refusal
     }
 }
 
-/// The parts of a program.
-fn items_of(alloc: Global, text: &[u8]) -> Result<Items<Item>, ParseError>
-    ensures found { IfOk result (λ items. IsText text.now items) }
-    ensures complete { (items : List Item) → IsText text.now items → IsItems items result }
+/// The program of a text of any length.
+fn read(alloc: Global, text: &[u8]) -> Result<Program, ParseError>
+    ensures exact { Judges (spec.flaw text.now) result }
+    ensures found { IfOk result (λ p. IsReading text.now p) }
+    ensures plain { (items : List part.Item) → IsPlain text.now items → IsSettledAs text.now items result }
 {
     let mut tokens = Cursor::new(text);
-    program(alloc, &mut tokens, OPEN_CONSTRUCTS)
+    let items = program(alloc, &mut tokens, OPEN_CONSTRUCTS + 1)?;
+    let settled = settle(alloc, text, items.as_slice());
+    drop(items);
+    settled
 }

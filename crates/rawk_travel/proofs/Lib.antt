@@ -6,3 +6,5 @@ pub mod Lines
 pub mod Takings
 pub mod Readings
 pub mod Travels
+pub mod Plains
+pub mod AtOnces

@@ -4,3 +4,5 @@ pub mod Borrowed
 pub mod Travel
 pub mod Gets
 pub mod Line
+pub mod Plain
+pub mod AtOnce

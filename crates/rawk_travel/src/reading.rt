@@ -2,6 +2,7 @@
 
 ghost use Rattle.std.specs.Prelude.{◌≡◌, ◌≢◌, ◌≤◌, List, Some, length, slice_range, IfOk, OnOk};
 ghost use Rattle.rawk_store.specs.Stores.{start_of};
+ghost use Rattle.rawk_travel.specs.Plain.{IsPlainMove};
 ghost use Rattle.rawk_travel.specs.Moving.{moving};
 ghost use Rattle.rawk_travel.specs.Reading.{counter_up, Takes, Shows, Counts, Finds, consumed_by, ReadsTo, KeepsRegisters, IsQuietReading};
 ghost use Rattle.rawk_travel.specs.Borrowed.{global_in};
@@ -12,6 +13,7 @@ ghost use Rattle.rawk_tape.specs.Tapes.{MayBe};
 ghost use Rattle.rawk_tape.specs.declared.source.Ending.{Ending};
 ghost use Rattle.rawk_code.specs.Actions.{Point};
 
+use crate::at_once::global_number;
 use crate::borrowed::{global_borrowed, number, text_borrowed};
 use rawk_special::{FNR, FS, NR, RS};
 use rawk_store::{Cells, Store};
@@ -32,6 +34,9 @@ pub enum Reading {
 fn counter_up(globals: &Cells, counter: usize) -> Result<i64, Fault>
     ensures { result ≡ counter_up counter globals.now.now }
 {
+    if let Some(n) = global_number(globals, counter) {
+        return rawk_value::add(n, 1);
+    }
     let n = number(global_borrowed(globals, counter))?;
     rawk_value::add(n, 1)
 }
@@ -45,8 +50,7 @@ fn show(
 ) -> Result<Option<Fault>, AllocError>
     ensures did { IfOk result (λ fault. Shows fault (read_as text.now (text_of (global_in FS store.old.globals.now)) paragraph) (moving store.old) (moving store.new)) }
     ensures start { start_of store.new ≡ start_of store.old }
-    ensures operands { store.new.operands ≡ store.old.operands }
-    ensures keys { store.new.keys ≡ store.old.keys }
+    ensures plain { IsPlainMove store.old store.new }
 {
     let mut buffer = Vec::new(alloc);
     let separator = text_borrowed(global_borrowed(&store.globals, FS), &mut buffer)?;
@@ -68,8 +72,7 @@ fn show_counted(
 ) -> Result<Reading, AllocError>
     ensures did { IfOk result (λ r. Counts r nr fnr (read_as text.now (text_of (global_in FS store.old.globals.now)) paragraph) (moving store.old) (moving store.new)) }
     ensures start { start_of store.new ≡ start_of store.old }
-    ensures operands { store.new.operands ≡ store.old.operands }
-    ensures keys { store.new.keys ≡ store.old.keys }
+    ensures plain { IsPlainMove store.old store.new }
 {
     match show(alloc, store, text, paragraph)? {
         Some(fault) => Ok(Reading::Faulted(fault)),
@@ -92,8 +95,7 @@ fn take_text(
     requires { paragraph ≡ is_empty (text_of (global_in RS store.old.globals.now)) }
     ensures did { IfOk result (λ r. Takes r text.now (moving store.old) (moving store.new)) }
     ensures start { start_of store.new ≡ start_of store.old }
-    ensures operands { store.new.operands ≡ store.old.operands }
-    ensures keys { store.new.keys ≡ store.old.keys }
+    ensures plain { IsPlainMove store.old store.new }
 {
     match counter_up(&store.globals, NR) {
         Err(fault) => Ok(Reading::Faulted(fault)),
@@ -128,8 +130,7 @@ fn take_found<R: Source + Drop>(
     requires in_range { found.count ≤ length tape.old.bytes }
     ensures did { IfOk result (λ r. Finds r (slice_range tape.old.bytes found.start found.end) found.count (moving store.old) (moving store.new)) }
     ensures start { start_of store.new ≡ start_of store.old }
-    ensures operands { store.new.operands ≡ store.old.operands }
-    ensures keys { store.new.keys ≡ store.old.keys }
+    ensures plain { IsPlainMove store.old store.new }
     ensures tape { tape.new ≡ record tape.old { consumed = tape.new.consumed } }
     ensures consumed { IfOk result (λ r. tape.new.consumed ≡ consumed_by r found.count tape.old.consumed) }
 {
@@ -155,8 +156,7 @@ pub fn read<R: Source + Drop>(
     ensures did { IfOk result (λ r. (points : List Point) (gone handed : Bytes) (kept : Input) → MayBe R.may_give tape.new kept → ReadsTo r points gone handed kept (moving store.old) (moving store.new)) }
     ensures registers { IfOk result (λ r. KeepsRegisters (moving store.old) (moving store.new)) }
     ensures start { start_of store.new ≡ start_of store.old }
-    ensures operands { store.new.operands ≡ store.old.operands }
-    ensures keys { store.new.keys ≡ store.old.keys }
+    ensures plain { IsPlainMove store.old store.new }
     ensures consumed { OnOk result (tape.new.consumed ≡ store.new.registers.now.consumed) }
     ensures longer { length tape.old.bytes ≤ length tape.new.bytes }
     ensures quiet { IfOk result IsQuietReading }

@@ -33,6 +33,6 @@ mod value;
 
 pub use case::Case;
 pub use escape::{shown, unescaped};
-pub use judging::judge;
+pub use judging::{judge, judge_cases, read};
 pub use number::{number_of, setting_of};
 pub use value::{push_value, value_of};

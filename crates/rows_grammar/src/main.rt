@@ -1,54 +1,29 @@
-//! Cases of the grammar of the whole language: which texts are read.
+//! Cases of the grammar of the whole language: the trees of texts, and which texts are refused.
 //!
-//! A text: `read`, or the number of its refusal and the line.
+//! A text: its tree, or the number of its refusal and the line. Then each text is cut after each byte.
+//!
+//! With the word `read` the standard input is one text, which is read once.
+//!
+//! A tree has an operator before its operands, in parentheses: `(- a b)`, `(- a)`, `(++ a)`; `after` is a place with the `++` or `--`
+//! behind it, `at` an array with subscripts, `join` a concatenation, `group` an expression in parentheses, `list` the subscripts before
+//! `in`. A rule is `always`, or `when` with its pattern and a `block`, which is missing where no action is written; a part of a `for`
+//! that is missing is `()`.
 #![tactic(auto)]
 
-use rawk_expression::{ParseError, RefusalKind};
-use rawk_grammar::program;
-use rawk_grammar::tree::Item;
-use rawk_items::Items;
-use rawk_lexer::{Cursor, line_of};
-use rawk_limits::OPEN_CONSTRUCTS;
-use std::alloc::{AllocError, Global};
-use std::io;
+mod cuts;
+mod expressions;
+mod programs;
+mod reading;
+
+use cuts::cut_texts;
+use reading::{outcome, read_once};
+use std::{env, io};
 
 fn main(rt: HostRuntime) -> io::Result<()> {
-    rows_cases::judge(&rt, outcome)
-}
-
-/// What a case answers.
-fn outcome(alloc: Global, parts: &[&[u8]]) -> Result<Vec<u8>, AllocError> {
-    match parts {
-        [text] => {
-            let mut tokens = Cursor::new(text);
-            let read = program(alloc, &mut tokens, OPEN_CONSTRUCTS + 1);
-            answered(alloc, text, &read)
-        }
-        _ => Vec::from_slice(alloc, b"not a case"),
+    if env::args(&rt)?.count() > 1 {
+        return read_once(&rt);
     }
-}
-
-/// Whether a text is read, or why it is refused.
-fn answered(
-    alloc: Global,
-    text: &[u8],
-    read: &Result<Items<Item>, ParseError>,
-) -> Result<Vec<u8>, AllocError> {
-    match read {
-        Ok(_) => Vec::from_slice(alloc, b"read"),
-        Err(ParseError::OutOfMemory) => Err(AllocError),
-        Err(ParseError::Here(kind, left)) => refused(alloc, text, *kind, *left),
-    }
-}
-
-/// The number of a refusal, and its line.
-fn refused(
-    alloc: Global,
-    text: &[u8],
-    kind: RefusalKind,
-    left: usize,
-) -> Result<Vec<u8>, AllocError> {
-    let number = kind.number();
-    let line = line_of(text, left);
-    Ok(format!(in alloc; "P{number} at line {line}")?.into_bytes())
+    let cases = rows_cases::read(&rt)?;
+    rows_cases::judge_cases(&rt, &cases, outcome)?;
+    cut_texts(&rt, &cases)
 }

@@ -1,20 +1,10 @@
-//! Cases of runs and sessions.
-//!
-//! The parts are the words of a command line, but: one that begins with `<` is the input; one that begins with `>` are the
-//! commands of a session (`--debug` is put before the words). `@let NAME=TEXT` is a first value; `@pieces N`: a read gives at most so
-//! many bytes; `@source fails N`, `@sink fails N`: the source or the sink fails behind so many bytes; `@sink fails everywhere`: the
-//! case is asked with a sink that fails behind each count of bytes below those that it writes.
-//!
-//! The answer is what the sink took, and in parentheses the line for the standard error, if there is one, the status, the point
-//! of a run, and how many bytes the source handed out; or the first line of the refusal of the words.
+//! Cases of runs and sessions, of machines there and back, and of a long session; the modules say what the parts of a case are.
 #![tactic(auto)]
 
-ghost use Rattle.std.specs.Prelude.{◌≡◌, None};
+mod far;
+mod kept;
+mod played;
 
-use rawk::{
-    BytesSink, BytesSource, Invocation, Report, Settings, Text, debug_with, run, settings_of,
-};
-use rows_cases::setting_of;
 use std::alloc::{AllocError, Global};
 use std::io;
 
@@ -22,197 +12,11 @@ fn main(rt: HostRuntime) -> io::Result<()> {
     rows_cases::judge(&rt, outcome)
 }
 
-/// A case, as its parts say it.
-#[derive(Drop)]
-struct Plan<'a> {
-    words: Vec<String>,
-    input: &'a [u8],
-    commands: Option<&'a [u8]>,
-    settings: Settings,
-    piece: Option<usize>,
-    source_fails: Option<usize>,
-    sink_fails: Option<usize>,
-    is_everywhere: bool,
-}
-
-impl<'a> Plan<'a> {
-    /// Takes a part.
-    fn take(&mut self, alloc: Global, part: &'a [u8]) -> Result<(), AllocError> {
-        match part {
-            [b'<', input @ ..] => self.input = input,
-            [b'>', commands @ ..] => self.commands = Some(commands),
-            [b'@', b'l', b'e', b't', b' ', value @ ..] => self.assign(value)?,
-            [b'@', setting @ ..] => self.set(setting),
-            word => self.words.push(text_of(alloc, word)?)?,
-        }
-        Ok(())
-    }
-
-    /// Takes a first value, `NAME=TEXT`.
-    fn assign(&mut self, value: &[u8]) -> Result<(), AllocError> {
-        match value.iter().position(|b| *b == b'=') {
-            Some(at) => self.settings.assign(&value[..at], &value[at + 1..]),
-            None => Ok(()),
-        }
-    }
-
-    /// Takes how a device behaves.
-    fn set(&mut self, setting: &[u8]) {
-        match setting_of(setting) {
-            (b"pieces", piece) => self.piece = piece,
-            (b"source fails", place) => self.source_fails = place,
-            (b"sink fails", None) => self.is_everywhere = true,
-            (b"sink fails", place) => self.sink_fails = place,
-            _ => {}
-        }
-    }
-}
-
-/// The text of a word.
-fn text_of(alloc: Global, word: &[u8]) -> Result<String, AllocError> {
-    str::from_utf8(word).unwrap_or("?").to_string(alloc)
-}
-
 /// What a case answers.
 fn outcome(alloc: Global, parts: &[&[u8]]) -> Result<Vec<u8>, AllocError> {
-    let mut plan = Plan {
-        words: Vec::new(alloc),
-        input: &[],
-        commands: None,
-        settings: Settings::new(alloc),
-        piece: None,
-        source_fails: None,
-        sink_fails: None,
-        is_everywhere: false,
-    };
-    for part in parts {
-        plan.take(alloc, part)?;
+    match parts.split_first() {
+        Some((&b"@kept", parts)) => kept::answered(alloc, parts),
+        Some((&b"@far", _)) => far::answered(alloc),
+        _ => played::answered(alloc, parts),
     }
-    if plan.commands.is_some() {
-        plan.words.insert(0, "--debug".to_string(alloc)?)?;
-        plan.words.insert(1, "commands".to_string(alloc)?)?;
-    }
-    match settings_of(alloc, plan.words.as_slice()) {
-        Ok(invocation) if plan.is_everywhere => beginnings(alloc, &plan, &invocation),
-        Ok(invocation) => told(alloc, &play(alloc, &plan, &invocation, plan.sink_fails)?),
-        Err(refusal) => {
-            let text = format!(in alloc; "{refusal}")?;
-            let line = text.as_str().lines().next().unwrap_or("");
-            Vec::from_slice(alloc, line.as_bytes())
-        }
-    }
-}
-
-/// What came of a run or a session.
-#[derive(Drop)]
-struct Played {
-    written: Vec<u8>,
-    line: String,
-    status: u8,
-    point: u64,
-    handed: u128,
-}
-
-/// Runs a program, or holds a session on it.
-fn play(
-    alloc: Global,
-    plan: &Plan<'_>,
-    invocation: &Invocation,
-    sink_fails: Option<usize>,
-) -> Result<Played, AllocError> {
-    let mut cuts = Vec::new(alloc);
-    if let Some(piece) = plan.piece {
-        for _ in 0..plan.input.len() {
-            cuts.push(piece)?;
-        }
-    }
-    let bytes = Vec::from_slice(alloc, plan.input)?;
-    let mut source = BytesSource::new(bytes, cuts, plan.source_fails);
-    let mut sink = BytesSink::new(alloc, sink_fails);
-    let report = reported(alloc, plan, invocation, &mut source, &mut sink);
-    Ok(Played {
-        written: Vec::from_slice(alloc, sink.bytes())?,
-        line: format!(in alloc; "{report}")?,
-        status: report.status,
-        point: report.point,
-        handed: source.handed(),
-    })
-}
-
-/// The report of a run or a session.
-fn reported(
-    alloc: Global,
-    plan: &Plan<'_>,
-    invocation: &Invocation,
-    source: &mut BytesSource,
-    sink: &mut BytesSink,
-) -> Report
-    requires { source.old.over ≡ None }
-{
-    let program: &[u8] = match &invocation.program {
-        Text::Bytes(bytes) => bytes.as_slice(),
-        _ => &[],
-    };
-    match plan.commands {
-        Some(commands) => debug_with(
-            alloc,
-            &plan.settings,
-            program,
-            source,
-            commands,
-            sink,
-            invocation.steps,
-            invocation.history,
-        ),
-        None => run(
-            alloc,
-            &plan.settings,
-            program,
-            source,
-            sink,
-            invocation.steps,
-        ),
-    }
-}
-
-/// What was written, and how it ended.
-fn told(alloc: Global, played: &Played) -> Result<Vec<u8>, AllocError> {
-    let mut text = played.written.clone()?;
-    text.push(b'(')?;
-    if !played.line.is_empty() {
-        text.extend_from_slice(played.line.as_bytes())?;
-        text.extend_from_slice(b"; ")?;
-    }
-    let status = played.status;
-    let handed = played.handed;
-    let end = match played.point {
-        0 => format!(in alloc; "status {status}, {handed} read)")?,
-        point => format!(in alloc; "status {status}, point {point}, {handed} read)")?,
-    };
-    text.extend_from_slice(end.as_bytes())?;
-    Ok(text)
-}
-
-/// Whether a sink that fails behind each count of bytes has taken that beginning of what is written else.
-fn beginnings(
-    alloc: Global,
-    plan: &Plan<'_>,
-    invocation: &Invocation,
-) -> Result<Vec<u8>, AllocError> {
-    let whole = play(alloc, plan, invocation, None)?;
-    for place in 0..whole.written.len() {
-        let cut = play(alloc, plan, invocation, Some(place))?;
-        if cut.written.as_slice() != &whole.written[..place] || !is_write_failed(&cut) {
-            let text = format!(in alloc; "another answer behind {place} bytes")?;
-            return Ok(text.into_bytes());
-        }
-    }
-    let count = whole.written.len();
-    let text = format!(in alloc; "each of {count} beginnings, and write failed")?;
-    Ok(text.into_bytes())
-}
-
-/// Whether a failed write is what ended it.
-fn is_write_failed(played: &Played) -> bool {
-    played.line.as_str() == "rawk: write failed" && played.status == 2
 }

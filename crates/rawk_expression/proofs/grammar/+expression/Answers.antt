@@ -1,7 +1,7 @@
 use Rattle.std.proofs.Common.{◌≡◌, ◌<◌, ◌-◌, ℕ, zero, suc, ap, arith, rules}
 use Rattle.std.proofs.lemmas.Grind.{common_steps}
 use Rattle.rawk_expression.specs.declared.grammar.Wanted.{Wanted}
-use Rattle.rawk_expression.specs.Parser.{Input}
+use Rattle.rawk_parsing.specs.Parser.{Input}
 use Rattle.rawk_expression.specs.Expression.{expression, by}
 use Rattle.rawk_expression.proofs.grammar.+expression.Goals as goal
 

@@ -1,6 +1,6 @@
 use Rattle.std.proofs.Common.{◌≡◌, ℕ, zero, suc, ◌-◌, ◌<◌, ap, arith, rules}
 use Rattle.std.proofs.lemmas.Grind.{common_steps}
-use Rattle.rawk_expression.specs.Parser.{Input}
+use Rattle.rawk_parsing.specs.Parser.{Input}
 use Rattle.rawk_grammar.specs.declared.context.Context.{Context}
 use Rattle.rawk_grammar.specs.Statement.{statement, one}
 use Rattle.rawk_grammar.proofs.statements.+statement.Goals as goal

@@ -1,7 +1,9 @@
-use Rattle.std.proofs.Common.{rules, arith}
+use Rattle.std.proofs.Common.{sym, ap, ◌∙◌, rules, arith}
 use Rattle.std.proofs.lemmas.Grind.{common_steps}
 use Rattle.rawk_grammar.specs.Statement.{chain, chain_from, statement}
-use Rattle.rawk_grammar.proofs.Turns.{one_more, no_more}
+use Rattle.rawk_grammar.specs.Dangling.{branch_dangles}
+use Rattle.rawk_parsing.proofs.Turns.{one_more, no_more}
+use Rattle.rawk_grammar.proofs.NoElse.{none_found}
 use Rattle.rawk_grammar.proofs.statements.Rules.chain.Goals as goal
 
 pub loop-turn-init : goal.loop-turn-init
@@ -14,9 +16,9 @@ returns-in_err-branch g c =
     let e = one_more (λ n. chain_from c.args.self.now.depth (statement c.args.self.now.depth) c.args.self.now.context n c.loop-turn.branches c.loop-turn.tokens) _ c.loop-turn._turn c.loop-turn-test.true c.loop-turn.invariant in
     first_of (search rules, grind (arith, common_steps))
 
-pub returns-then-not-other : goal.returns-then-not-other
+pub returns-then-not-goes_on : goal.returns-then-not-goes_on
 unfolding chain_from
-returns-then-not-other g c =
+returns-then-not-goes_on g c =
     let e = one_more (λ n. chain_from c.args.self.now.depth (statement c.args.self.now.depth) c.args.self.now.context n c.loop-turn.branches c.loop-turn.tokens) _ c.loop-turn._turn c.loop-turn-test.true c.loop-turn.invariant in
     first_of (search rules, grind (arith, common_steps))
 
@@ -43,3 +45,6 @@ unfolding chain_from
 returns g c =
     let e = no_more (λ n. chain_from c.args.self.now.depth (statement c.args.self.now.depth) c.args.self.now.context n c.loop-turn.branches c.loop-turn.tokens) _ c.loop-turn._turn c.loop-turn-test.false c.loop-turn.invariant in
     first_of (search rules, grind (arith, common_steps))
+
+pub other_behind-goes_on-requires : goal.other_behind-goes_on-requires
+other_behind-goes_on-requires g c = λ e. none_found c.args.self.now.depth c.args.self.now.context c.loop-turn.tokens c.branch-self.new.tokens c.in_ok-branch.branch c.in_ok-branch.ensures (ap branch_dangles (sym c.get.ensures) ∙ e)

@@ -15,7 +15,7 @@ invariant_of-self-2 g c =
     let items = c.self.inside.items.items in
     let saved = c.self.inside.saved.items in
     let e : Saved g.row.T.Denot = record { place = c.args.place; old = c.replace-old.result } in
-    let pushed : c.push.new.self.items ≡ saved ++ e ∷ [] = c.in_ok-push.ensures.items ∙ ap (λ (xs : List (Saved g.row.T.Denot)). xs ++ e ∷ []) c.reserve.ensures.items in
+    let pushed : c.push_reserved.new.self.items ≡ saved ++ e ∷ [] = c.push_reserved.ensures.items ∙ ap (λ (xs : List (Saved g.row.T.Denot)). xs ++ e ∷ []) c.reserve.ensures.items in
     let count : c.len.result ≡ length saved = c.len.ensures ∙ (c.reserve.ensures.len ∙ c.self.inside.saved.ok.0) in
     let inside : c.args.place < length items = rw (← ap (λ j. length j.now) c.self.view_is) at c.requires in
     let hit = rw (c.deref.ensures.value, c.deref-2.ensures.value) at c.if-is_saved.ensures.1 in
@@ -28,6 +28,6 @@ returns-clause-start g c =
     let items = c.self.inside.items.items in
     let saved = c.self.inside.saved.items in
     let e : Saved g.row.T.Denot = record { place = c.args.place; old = c.replace-old.result } in
-    let pushed : c.push.new.self.items ≡ saved ++ e ∷ [] = c.in_ok-push.ensures.items ∙ ap (λ (xs : List (Saved g.row.T.Denot)). xs ++ e ∷ []) c.reserve.ensures.items in
+    let pushed : c.push_reserved.new.self.items ≡ saved ++ e ∷ [] = c.push_reserved.ensures.items ∙ ap (λ (xs : List (Saved g.row.T.Denot)). xs ++ e ∷ []) c.reserve.ensures.items in
     rw (pushed, c.replace-old.ensures.after)
     (back_saves items saved e c.args.value (rw c.replace-old.ensures.value c.index_mut-2.ensures.value) ∙ ap (λ j. j.start) c.self.view_is)

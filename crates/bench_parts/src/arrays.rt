@@ -1,0 +1,147 @@
+//! Works on one array, as the words of the standard input say: `bump N K` adds 1 to elements 0 to K - 1 in turn, N times;
+//! `fill K` makes elements 0 to K - 1; `keys` makes the list of keys, in byte order; `clear` deletes all elements; `count` counts them.
+//! `set K V`, `touch K`, `delete K`, `get K` and `has K` are of one element; `again` drops the array and adds an empty one; `rest` ends a
+//! step, `undo` ends it and puts back what it changed, `back` puts back what the step in progress changed.
+
+use anyhow::{Result, bail};
+use rawk_arrays::Arrays;
+use rawk_value::{Value, push_number};
+use std::alloc::{AllocError, Global};
+use std::io::Input;
+
+/// Carries out the lines, and prints what came of each.
+pub fn worked<R: Input + Print + AllocGlobal>(rt: &R) -> Result<()> {
+    let mut arrays = Arrays::new(rt.alloc());
+    let worked = work_on(rt, &mut arrays);
+    drop(arrays);
+    worked
+}
+
+/// The same on these arrays.
+fn work_on<R: Input + Print + AllocGlobal>(rt: &R, arrays: &mut Arrays) -> Result<()> {
+    let alloc = rt.alloc();
+    arrays.add()?;
+    rest(alloc, arrays);
+    for line in rt.lines(alloc) {
+        let line = line?;
+        let mut words = line.as_str().split_whitespace();
+        let verb = words.next().unwrap_or("");
+        let first = number(words.next());
+        let second = number(words.next());
+        let answer = match verb {
+            "set" | "touch" | "delete" | "get" | "has" => one(alloc, arrays, verb, first, second)?,
+            "rest" | "undo" | "back" | "again" => step(alloc, arrays, verb)?,
+            _ => work(alloc, arrays, verb, first, second)?,
+        };
+        rt.println(format!(in alloc; "{verb} {answer}")?)?;
+    }
+    Ok(())
+}
+
+/// The number that a word is, and 0 without one.
+fn number(word: Option<&str>) -> u64 {
+    match word {
+        Some(text) => text.parse::<u64>().unwrap_or(0),
+        None => 0,
+    }
+}
+
+/// Carries out a line, and tells what came of it.
+fn work(alloc: Global, arrays: &mut Arrays, verb: &str, first: u64, second: u64) -> Result<u64> {
+    match verb {
+        "bump" => Ok(bump(alloc, arrays, first, second)?),
+        "fill" => Ok(bump(alloc, arrays, first, first)?),
+        "keys" => Ok(keys(alloc, arrays)?),
+        "clear" => {
+            arrays.clear(0)?;
+            rest(alloc, arrays);
+            Ok(arrays.count(0) as u64)
+        }
+        "count" => Ok(arrays.count(0) as u64),
+        _ => bail!("bump, fill, keys, clear or count is wanted"),
+    }
+}
+
+/// Carries out a line on one element.
+fn one(alloc: Global, arrays: &mut Arrays, verb: &str, first: u64, second: u64) -> Result<u64> {
+    let mut key = Vec::new(alloc);
+    push_number(&mut key, i64::try_from(first).unwrap_or(0))?;
+    match verb {
+        "set" => arrays.set(
+            alloc,
+            0,
+            &key,
+            Value::Number(i64::try_from(second).unwrap_or(0)),
+        )?,
+        "touch" => arrays.touch(alloc, 0, &key)?,
+        "delete" => arrays.delete(alloc, 0, &key)?,
+        "has" => return Ok(u64::from(arrays.has(0, &key))),
+        _ => {
+            return match arrays.element(0, &key) {
+                Some(Value::Number(n)) => Ok(n.unsigned_abs()),
+                _ => Ok(0),
+            };
+        }
+    }
+    Ok(arrays.count(0) as u64)
+}
+
+/// Ends a step that is not kept.
+fn rest(alloc: Global, arrays: &mut Arrays) {
+    arrays.forget();
+    arrays.pack(alloc);
+}
+
+/// Ends a step, or puts it back.
+fn step(alloc: Global, arrays: &mut Arrays, verb: &str) -> Result<u64> {
+    match verb {
+        "rest" => rest(alloc, arrays),
+        "back" => arrays.undo_step(),
+        "undo" => {
+            let mut group = arrays.finish(alloc);
+            arrays.undo(&mut group);
+            drop(group);
+        }
+        _ => {
+            arrays.truncate(0);
+            arrays.add()?;
+        }
+    }
+    Ok(arrays.count(0) as u64)
+}
+
+/// Adds 1 to the elements below `count` in turn, so many times, and gives the sum of what they are.
+fn bump(alloc: Global, arrays: &mut Arrays, times: u64, count: u64) -> Result<u64, AllocError> {
+    let mut key = Vec::new(alloc);
+    let mut sum = 0u64;
+    let mut next = 0u64;
+    for _ in 0..times {
+        key.clear();
+        push_number(&mut key, i64::try_from(next).unwrap_or(0))?;
+        let Some(place) = arrays.place(alloc, 0, &key)? else {
+            break;
+        };
+        let value = match arrays.value_at(place) {
+            Some(Value::Number(n)) => n.saturating_add(1),
+            _ => 1,
+        };
+        arrays.set_at(place, Value::Number(value))?;
+        rest(alloc, arrays);
+        sum = sum.wrapping_add(value.unsigned_abs());
+        next = next.wrapping_add(1);
+        if next >= count {
+            next = 0;
+        }
+    }
+    Ok(sum)
+}
+
+/// How many bytes the keys have, and that each is above the one before.
+fn keys(alloc: Global, arrays: &Arrays) -> Result<u64, AllocError> {
+    let found = arrays.keys(alloc, 0)?;
+    let mut bytes = 0u64;
+    for key in &found {
+        bytes = bytes.wrapping_add(key.len() as u64);
+    }
+    Ok(bytes)
+}

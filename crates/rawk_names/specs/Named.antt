@@ -1,0 +1,139 @@
+-- What is told of the names of a program.
+use Rattle.std.specs.Prelude.{◌≡◌, ◌<◌, ◌↔◌, ◌⊎◌, ◌==◌, ℕ, ◌-◌, Bool, true, false, ◌&&◌, if◌then◌else◌, nat_lt, List, [], ◌∷◌, length, slice_get, slice_index_or, Option, Some, None}
+use Rattle.rawk_ere_tree.specs.Tree.{Tree, IsWithinLimits}
+use Rattle.rawk_ere.specs.declared.error.EreError.TheVariants as ere
+use Rattle.rawk_ere.specs.PatternOf.{IsPatternOf}
+use Rattle.rawk_ere.specs.PatternOf as reading
+use Rattle.rawk_keys.specs.ArrayKey.{ArrayKey, array_key}
+use Rattle.rawk_names.specs.declared.names.NameError.{NameError}
+use Rattle.rawk_names.specs.declared.names.NameError.TheVariants as error
+use Rattle.rawk_names.specs.declared.names.Meaning.{Meaning}
+use Rattle.rawk_names.specs.declared.names.Meaning.TheVariants as meaning
+use Rattle.rawk_names.specs.declared.names.Variable.{Variable}
+use Rattle.rawk_names.specs.declared.names.Variable.TheVariants as variable
+use Rattle.rawk_names.specs.declared.names.Names.{Names}
+use Rattle.rawk_names.specs.declared.register.Register.{Register}
+use Rattle.rawk_names.specs.declared.usage.Manner.TheVariants.{Scalar, Array, Either, Argument}
+use Rattle.rawk_names.specs.declared.usage.What.{What}
+use Rattle.rawk_names.specs.declared.usage.What.TheVariants.{Named, Value, Pattern, Misuse}
+use Rattle.rawk_names.specs.declared.usage.Usage.{Usage}
+use Rattle.rawk_names.specs.declared.usage.Signature.{Signature}
+use Rattle.rawk_names.specs.declared.usage.TheConstants.{SPECIALS}
+use Rattle.rawk_names.specs.Table.{place_of}
+use Rattle.rawk_names.specs.Noted.{Word, Noted}
+use Rattle.rawk_names.specs.Arrays.{IsArray, IsMisuse}
+use Rattle.rawk_names.specs.Marking.{is_marked}
+
+-- PART 1: what is known
+
+pub record Known : Type 0 where
+  pub functions : List ArrayKey
+  pub signatures : List Signature
+  pub variables : List ArrayKey
+  pub arrays : List Bool
+
+abbrev pub known : Names → Known
+known n = record { functions = n.functions; signatures = n.signatures.items; variables = n.variables; arrays = n.arrays.items }
+
+abbrev pub known_from : Register → List Bool → Known
+known_from r arrays = record { functions = r.functions; signatures = r.signatures.items; variables = r.variables; arrays = arrays }
+
+-- the marks are those of the arrays
+abbrev pub AreArrays : List Usage → List Bool → Type 0
+AreArrays uses flags = (v : ℕ) → (is_marked flags v ≡ true) ↔ IsArray uses v
+
+-- a regular expression within the limits
+abbrev pub IsReadable : Word → Type 0
+IsReadable pattern = (e : Tree) × IsPatternOf pattern e × IsWithinLimits e
+
+abbrev pub AreReadable : List ArrayKey → ℕ → Type 0
+AreReadable patterns n = (k : ℕ) (entry : ArrayKey) → k < n → slice_get patterns k ≡ Some entry → IsReadable entry.key
+
+-- the names are those of the program: none is misused, each regular expression is one, and the arrays are the least set
+pub record IsNamed (noted : Noted) (n : Known) : Type 0 where
+  pub functions : n.functions ≡ noted.functions
+  pub signatures : n.signatures ≡ noted.signatures
+  pub variables : n.variables ≡ noted.variables
+  pub arrays : AreArrays noted.uses n.arrays
+  pub proper : (k : ℕ) (u : Usage) → slice_get noted.uses k ≡ Some u → IsMisuse noted.uses u.what → ⊥
+  pub patterns : AreReadable noted.patterns (length noted.patterns)
+
+-- PART 2: why names are refused
+
+-- no regular expression, or one beyond the limits
+abbrev pub IsBad : Word → Type 0
+IsBad pattern = reading.IsRefused ere.Syntax pattern ⊎ reading.IsRefused ere.TooLarge pattern
+
+abbrev pub IsBadAt : List ArrayKey → ℕ → Type 0
+IsBadAt patterns k = (entry : ArrayKey) × (slice_get patterns k ≡ Some entry) × IsBad entry.key
+
+abbrev pub is_pattern : What → ℕ → Bool
+is_pattern (Pattern n) number = n == number
+is_pattern _ number = false
+
+-- the place of the first use of a pattern
+abbrev pub pattern_left : ℕ → List Usage → ℕ
+pattern_left number [] = 0
+pattern_left number (u ∷ us) = if is_pattern u.what number then u.left else pattern_left number us
+
+-- the place where a pattern that is none stands first
+abbrev pub IsBadPlace : List ArrayKey → List Usage → ℕ → Type 0
+IsBadPlace patterns uses left = (k : ℕ) × IsBadAt patterns k × (left ≡ pattern_left k uses)
+
+-- of the uses that can't be the first has this place
+abbrev pub IsFirstMisuse : List Usage → ℕ → Type 0
+IsFirstMisuse uses left =
+    (k : ℕ) × (u : Usage) × (slice_get uses k ≡ Some u) × (u.left ≡ left) × IsMisuse uses u.what × ((j : ℕ) (t : Usage) → j < k → slice_get uses j ≡ Some t → IsMisuse uses t.what → ⊥)
+
+abbrev pub IsRefused : Noted → NameError → Type 0
+IsRefused noted error.OutOfMemory = Unit {0}
+IsRefused noted (error.BadEre left) = IsBadPlace noted.patterns noted.uses left
+IsRefused noted (error.Misused left) = IsFirstMisuse noted.uses left
+
+-- PART 3: answers
+
+abbrev pub variable_at : Option ℕ → Option Meaning
+variable_at None = None
+variable_at (Some v) = Some (meaning.Variable v)
+
+abbrev pub outer_at : Known → Word → Option ℕ → Option Meaning
+outer_at n word (Some f) = Some (meaning.Function f)
+outer_at n word None = variable_at (place_of (array_key 0 word) n.variables)
+
+abbrev pub inner_at : Known → Word → Option ℕ → Option Meaning
+inner_at n word (Some v) = Some (meaning.Variable v)
+inner_at n word None = outer_at n word (place_of (array_key 0 word) n.functions)
+
+-- a parameter of the function around, else a function, else a global
+unfoldable pub meaning_of : Known → ℕ → Word → Option Meaning
+meaning_of n scope word = inner_at n word (place_of (array_key scope word) n.variables)
+
+abbrev pub end_of_last : List Signature → ℕ
+end_of_last signatures = if length signatures == 0 then SPECIALS else (slice_index_or signatures (length signatures - 1) (record { first = 0; end = 0 })).end
+
+abbrev pub variable_of : Known → ℕ → Variable
+variable_of n v =
+    if v == 0 then variable.FieldCount
+    else if nat_lt v SPECIALS then variable.Global (v - 1)
+    else if nat_lt v (end_of_last n.signatures) then variable.Parameter v
+    else variable.Global (v - 1 - (end_of_last n.signatures - SPECIALS))
+
+-- PART 4: the search for a misuse
+
+abbrev pub is_misuse : List Bool → What → Bool
+is_misuse flags (Named Scalar v) = is_marked flags v
+is_misuse flags (Named Array v) = nat_lt v SPECIALS
+is_misuse flags (Named Either v) = false
+is_misuse flags (Named (Argument p) v) = nat_lt v SPECIALS && is_marked flags v
+is_misuse flags (Value p) = is_marked flags p
+is_misuse flags (Pattern n) = false
+is_misuse flags Misuse = true
+
+abbrev pub NoneBefore : List Bool → List Usage → ℕ → Type 0
+NoneBefore flags uses n = (k : ℕ) (u : Usage) → k < n → slice_get uses k ≡ Some u → is_misuse flags u.what ≡ false
+
+abbrev pub NoMisuse : List Bool → List Usage → Type 0
+NoMisuse flags uses = NoneBefore flags uses (length uses)
+
+abbrev pub IsFirst : List Bool → List Usage → ℕ → Type 0
+IsFirst flags uses left = (k : ℕ) × (u : Usage) × (slice_get uses k ≡ Some u) × (u.left ≡ left) × (is_misuse flags u.what ≡ true) × NoneBefore flags uses k

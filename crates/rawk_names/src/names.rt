@@ -1,0 +1,325 @@
+//! What the names of a program are.
+
+ghost use Rattle.std.specs.Prelude.{◌≡◌, ◌<◌, ◌+◌, ◌-◌, ℕ, Some, IfOk, IfErr, MatchBool, MatchOption, length, slice_get};
+ghost use Rattle.rawk_keys.specs.ArrayKey.{ArrayKey, array_key};
+ghost use Rattle.rawk_names.specs.Table.{place_of};
+ghost use Rattle.rawk_names.specs.Items.{program};
+ghost use Rattle.rawk_names.specs.Marking.{is_marked};
+ghost use Rattle.rawk_names.specs.Noted.{shown};
+ghost use Rattle.rawk_names.specs.Named.{AreArrays, AreReadable, IsBad, IsBadAt, IsBadPlace, IsFirst, IsNamed, IsReadable, IsRefused, NoMisuse, end_of_last, is_misuse, is_pattern, known, known_from, meaning_of, pattern_left, variable_of};
+
+use crate::arrays::arrays;
+use crate::register::Register;
+use crate::table::Table;
+use crate::usage::{Manner, SPECIALS, Signature, Usage, What};
+use rawk_ere::{Ere, EreError};
+use rawk_grammar::tree::Item;
+use std::alloc::{AllocError, Global};
+
+/// Why the names of a program are refused. A place is the number of bytes from there to the end of the text.
+#[derive(Clone, Copy, Debug, PartialEq, Eq)]
+pub enum NameError {
+    OutOfMemory,
+    /// The place of a regular expression that is none, or too large: the first one of its text.
+    BadEre(usize),
+    /// The place of the first misuse of a name: those of definitions come first, then those of uses in the order of the text.
+    Misused(usize),
+}
+
+impl From<AllocError> for NameError {
+    ghost use Rattle.std.specs.Prelude.{◌≡◌};
+    ghost use Rattle.rawk_names.specs.declared.names.NameError.TheVariants.{OutOfMemory};
+
+    ghost from_gives = { λ _ e. e ≡ OutOfMemory };
+
+    fn from(_: AllocError) -> NameError {
+        NameError::OutOfMemory
+    }
+}
+
+/// What a name is.
+#[derive(Clone, Copy, Debug, PartialEq, Eq)]
+pub enum Meaning {
+    /// functions are numbered from 0 in the order of their definitions
+    Function(usize),
+    /// by its place among all variables
+    Variable(usize),
+}
+
+/// What a variable is.
+#[derive(Clone, Copy, Debug, PartialEq, Eq)]
+pub enum Variable {
+    /// NF
+    FieldCount,
+    /// the other special variables have the first numbers, the others of the program follow in the order in which they appear
+    Global(usize),
+    /// by its place among all variables; those of one function stand side by side
+    Parameter(usize),
+}
+
+/// Functions, variables, and which of these are arrays.
+#[derive(Drop)]
+pub struct Names {
+    functions: Table,
+    signatures: Vec<Signature>,
+    variables: Table,
+    arrays: Vec<bool>,
+}
+
+fn is_array_in(arrays: &[bool], variable: usize) -> bool
+    ensures { result ≡ is_marked arrays.now variable }
+{
+    match arrays.get(variable) {
+        None => false,
+        Some(flag) => *flag,
+    }
+}
+
+/// Whether a use can't be, where these are the arrays.
+fn misuses(arrays: &[bool], what: What) -> bool
+    ensures { result ≡ is_misuse arrays.now what }
+{
+    match what {
+        What::Named(Manner::Scalar, variable) => is_array_in(arrays, variable),
+        What::Named(Manner::Array, variable) => variable < SPECIALS,
+        What::Named(Manner::Either, _) => false,
+        What::Named(Manner::Argument(_), variable) => {
+            variable < SPECIALS && is_array_in(arrays, variable)
+        }
+        What::Value(parameter) => is_array_in(arrays, parameter),
+        What::Pattern(_) => false,
+        What::Misuse => true,
+    }
+}
+
+/// The place of the first use that can't be.
+fn first_misuse(uses: &[Usage], arrays: &[bool]) -> Option<usize>
+    ensures { MatchOption result (NoMisuse arrays.now uses.now) (IsFirst arrays.now uses.now) }
+{
+    for usage in uses {
+        if misuses(arrays, usage.what) {
+            return Some(usage.left);
+        }
+    }
+    None
+}
+
+/// Whether a pattern is a regular expression.
+fn is_readable(alloc: Global, pattern: &[u8]) -> Result<bool, AllocError>
+    ensures { IfOk result (λ b. MatchBool b (IsReadable pattern.now) (IsBad pattern.now)) }
+{
+    match Ere::parse(alloc, pattern) {
+        Ok(ere) => {
+            drop(ere);
+            Ok(true)
+        }
+        Err(EreError::Syntax) => Ok(false),
+        Err(EreError::TooLarge) => Ok(false),
+        Err(EreError::Memory) => Err(AllocError),
+    }
+}
+
+/// The first pattern that is no regular expression.
+fn first_bad(alloc: Global, patterns: &Table) -> Result<Option<usize>, AllocError>
+    ensures { IfOk result (λ r. MatchOption r (AreReadable patterns.now (length patterns.now)) (λ k. IsBadAt patterns.now k)) }
+{
+    for number in 0..patterns.len() {
+        if !is_readable(alloc, patterns.word(number))? {
+            return Ok(Some(number));
+        }
+    }
+    Ok(None)
+}
+
+fn is_pattern(what: What, number: usize) -> bool
+    ensures { result ≡ is_pattern what number }
+{
+    match what {
+        What::Pattern(pattern) => pattern == number,
+        What::Named(_, _) => false,
+        What::Value(_) => false,
+        What::Misuse => false,
+    }
+}
+
+/// The place of the first use of a pattern; 0 where there is none.
+fn left_of(uses: &[Usage], number: usize) -> usize
+    ensures { result ≡ pattern_left number uses.now }
+{
+    for usage in uses {
+        if is_pattern(usage.what, number) {
+            return usage.left;
+        }
+    }
+    0
+}
+
+/// The place of the first pattern that is no regular expression.
+fn bad_of(alloc: Global, register: &Register) -> Result<Option<usize>, AllocError>
+    ensures { IfOk result (λ r. MatchOption r (AreReadable register.now.patterns (length register.now.patterns)) (IsBadPlace register.now.patterns register.now.uses.items)) }
+{
+    match first_bad(alloc, &register.patterns)? {
+        None => Ok(None),
+        Some(number) => Ok(Some(left_of(&register.uses, number))),
+    }
+}
+
+fn arrays_of(alloc: Global, register: &Register) -> Result<Vec<bool>, AllocError>
+    ensures { IfOk result (λ flags. AreArrays register.now.uses.items flags.items) }
+{
+    arrays(alloc, &register.uses)
+}
+
+fn misuse_of(register: &Register, arrays: &Vec<bool>) -> Option<usize>
+    ensures { MatchOption result (NoMisuse arrays.now.items register.now.uses.items) (IsFirst arrays.now.items register.now.uses.items) }
+{
+    first_misuse(&register.uses, arrays)
+}
+
+fn names_from(register: Register, arrays: Vec<bool>) -> Names
+    ensures { known result ≡ known_from register arrays.items }
+{
+    let Register {
+        scope: _,
+        functions,
+        signatures,
+        variables,
+        patterns: _,
+        uses: _,
+    } = register;
+    Names {
+        functions,
+        signatures,
+        variables,
+        arrays,
+    }
+}
+
+/// The names, where each pattern is a regular expression.
+fn settled(alloc: Global, register: Register) -> Result<Names, NameError>
+    requires { AreReadable register.patterns (length register.patterns) }
+    ensures named { IfOk result (λ n. IsNamed (shown register) (known n)) }
+    ensures refused { IfErr result (IsRefused (shown register)) }
+{
+    let arrays = arrays_of(alloc, &register)?;
+    match misuse_of(&register, &arrays) {
+        Some(left) => Err(NameError::Misused(left)),
+        None => Ok(names_from(register, arrays)),
+    }
+}
+
+/// What the names of a program are. It leaves the tree as it is.
+///
+/// It fails where memory is refused, where a regular expression is none or too large, and where a name is misused: two functions of one
+/// name, a parameter twice in a list or with the name of a function, a parameter or a function with the name of a special variable, a call
+/// of what is no function or with more arguments than parameters, a function's name in another use, an array used as a scalar, a special
+/// variable used as an array, and for a parameter that is an array an argument that is no name alone (POSIX awk, "User-Defined Functions").
+/// `length(x)` uses x as neither.
+pub fn resolve(alloc: Global, items: &[Item]) -> Result<Names, NameError>
+    ensures named { IfOk result (λ n. IsNamed (program items.now) (known n)) }
+    ensures refused { IfErr result (IsRefused (program items.now)) }
+{
+    let register = Register::of(alloc, items)?;
+    match bad_of(alloc, &register)? {
+        Some(left) => Err(NameError::BadEre(left)),
+        None => settled(alloc, register),
+    }
+}
+
+impl Names {
+    /// What a name is where it stands: outside functions the scope is 0, inside one more than the function's number. None: the program
+    /// has no such name there. It takes no memory.
+    #[tactic(auto, unfolding(crate::specs::Named::meaning_of))]
+    pub fn meaning(&self, scope: usize, word: &[u8]) -> Option<Meaning>
+        ensures { result ≡ meaning_of (known self.now) scope word.now }
+    {
+        match self.variables.find(scope, word) {
+            Some(variable) => Some(Meaning::Variable(variable)),
+            None => match self.functions.find(0, word) {
+                Some(function) => Some(Meaning::Function(function)),
+                None => match self.variables.find(0, word) {
+                    Some(variable) => Some(Meaning::Variable(variable)),
+                    None => None,
+                },
+            },
+        }
+    }
+
+    /// The number of a function, by its name. It takes no memory.
+    pub fn entry_of(&self, word: &[u8]) -> Option<usize>
+        ensures { result ≡ place_of (array_key 0 word.now) self.now.functions }
+    {
+        self.functions.find(0, word)
+    }
+
+    /// How many functions there are.
+    pub fn function_count(&self) -> usize
+        ensures { result ≡ length self.now.functions }
+    {
+        self.functions.len()
+    }
+
+    /// Where the parameters of a function stand among all variables.
+    pub fn signature(&self, function: usize) -> Option<Signature>
+        ensures { result ≡ slice_get self.now.signatures.items function }
+    {
+        self.signatures.get(function).copied()
+    }
+
+    /// How many variables there are, those with no use but special ones too.
+    pub fn variable_count(&self) -> usize
+        ensures { result ≡ length self.now.variables }
+    {
+        self.variables.len()
+    }
+
+    /// The name of a variable.
+    pub fn variable_name(&self, variable: usize) -> &[u8]
+        requires { variable < length self.now.variables }
+        ensures { (entry : ArrayKey) → slice_get self.now.variables variable ≡ Some entry → result.now ≡ entry.key }
+    {
+        self.variables.word(variable)
+    }
+
+    /// The name of a function.
+    pub fn function_name(&self, function: usize) -> &[u8]
+        requires { function < length self.now.functions }
+        ensures { (entry : ArrayKey) → slice_get self.now.functions function ≡ Some entry → result.now ≡ entry.key }
+    {
+        self.functions.word(function)
+    }
+
+    /// Whether a variable is an array.
+    pub fn is_array(&self, variable: usize) -> bool
+        ensures { result ≡ is_marked self.now.arrays.items variable }
+    {
+        is_array_in(&self.arrays, variable)
+    }
+
+    /// What a variable is.
+    pub fn variable(&self, variable: usize) -> Variable
+        ensures { result ≡ variable_of (known self.now) variable }
+    {
+        let behind = end_of_last(&self.signatures);
+        if variable == 0 {
+            Variable::FieldCount
+        } else if variable < SPECIALS {
+            Variable::Global(variable - 1)
+        } else if variable < behind {
+            Variable::Parameter(variable)
+        } else {
+            Variable::Global(variable - 1 - behind.saturating_sub(SPECIALS))
+        }
+    }
+}
+
+/// The place behind the last parameter.
+fn end_of_last(signatures: &[Signature]) -> usize
+    ensures { result ≡ end_of_last signatures.now }
+{
+    if signatures.len() == 0 {
+        SPECIALS
+    } else {
+        signatures[signatures.len() - 1].end
+    }
+}

@@ -1,0 +1,6 @@
+pub mod Refusals
+pub mod Constant
+pub mod Parser
+pub mod Tables
+pub mod Tokens
+pub mod Steps

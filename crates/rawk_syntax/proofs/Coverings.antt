@@ -1,0 +1,210 @@
+-- What of the parser's tree is covered, from its parts.
+use Rattle.std.proofs.Common.{◌≡◌, ◌≢◌, ℕ, ℤ, ◌+◌, ◌<◌, suc, Bool, true, false, not, ◌&&◌, List, [], ◌∷◌, ◌++◌, length, take, drop, map, get_or, Option, Some, None, Result, Err, refl, sym, ap, ◌∙◌, arith}
+use Rattle.std.proofs.lemmas.List.{take_more, take-append-drop}
+use Rattle.std.proofs.Math.Seq.{drop-cons}
+use Rattle.rawk_parsing.specs.declared.parse_error.ParseError.{ParseError}
+use Rattle.rawk_parsing.specs.declared.parse_error.ParseError.TheVariants.{OutOfMemory}
+use Rattle.rawk_parsing.specs.declared.tree.Assignment.{Assignment}
+use Rattle.rawk_value.specs.declared.operator.Arithmetic.{Arithmetic}
+use Rattle.rawk_parsing.specs.declared.tree.Operator.{Operator}
+use Rattle.rawk_parsing.specs.declared.tree.Operator.TheVariants as op
+use Rattle.rawk_parsing.specs.declared.tree.Name as word
+use Rattle.rawk_parsing.specs.declared.tree.Expr.{Expr, out-Expr, roll-Expr, roll-out-Expr, map-Expr, fold-roll-Expr, fold_out-Expr}
+use Rattle.rawk_parsing.specs.declared.tree.Expr.TheVariants as tree
+use Rattle.rawk_parsing.specs.declared.tree.Expr.TheVariants.{rolls-Number, rolls-Text, rolls-Of, rolls-Group, rolls-Power, rolls-Chain, rolls-Assign}
+use Rattle.rawk_parsing.specs.declared.tree.Expr.TheOpen as expr
+use Rattle.rawk_parsing.specs.declared.tree.Expr.TheOpen.{Expr-F, Place-F, Link-F}
+use Rattle.rawk_parsing.specs.declared.tree.Link.{Link, fold_out-Link}
+use Rattle.rawk_parsing.specs.declared.tree.Place.{Place, out-Place, roll-Place, roll-out-Place, map-Place, fold-roll-Place, fold_out-Place}
+use Rattle.rawk_parsing.specs.declared.tree.Place.TheVariants as spot
+use Rattle.rawk_parsing.specs.declared.tree.Place.TheVariants.{rolls-Name, rolls-Field, rolls-Element}
+use Rattle.rawk_special.specs.Special.{is_special}
+use Rattle.rawk_syntax.specs.Covered.{Judges, Cover, unless, or_then, first_of, each, joiner, joins, expr_step, place_step, link_step, covers, place_cover, covers_link}
+
+-- ---- tests and refusals
+
+pub sure : (b : Bool) (left : ℕ) → unless b left ≡ None → b ≡ true
+sure true left h = refl
+sure false left h = cc
+
+pub holds : (b : Bool) (left : ℕ) → b ≡ true → unless b left ≡ None
+holds b left h = ap (λ c. unless c left) h
+
+pub fails : (b : Bool) (left : ℕ) → b ≡ false → unless b left ≡ unless false left
+fails b left h = ap (λ c. unless c left) h
+
+-- a refusal of a part is one of the whole
+pub passes : (c d : Bool) (left : ℕ) (e : ParseError) → (c ≡ false → d ≡ false) → (e ≢ OutOfMemory → unless c left ≡ Some e) → e ≢ OutOfMemory → unless d left ≡ Some e
+passes c d left e down h ne = go c refl (h ne)
+  where
+    go : (b : Bool) → c ≡ b → unless b left ≡ Some e → unless d left ≡ Some e
+    go true q g = cc
+    go false q g = fails d left (down q) ∙ g
+
+-- the exit of a call that was refused
+pub exits : {A : Type 0} (r : Result A ParseError) (g : Option ParseError) (e y : ParseError) → r ≡ Err y → y ≡ e → (e ≢ OutOfMemory → g ≡ Some e) → Judges g r
+exits r g e y is same h = rw (is, same) h
+
+pub both : (a b : Bool) → a ≡ true → b ≡ true → (a && b) ≡ true
+both a b h g = ap (λ x. x && b) h ∙ g
+
+pub first_false : (a b : Bool) → a ≡ false → (a && b) ≡ false
+first_false a b h = ap (λ x. x && b) h
+
+pub second_false : (a b : Bool) → b ≡ false → (a && b) ≡ false
+second_false true b h = h
+second_false false b h = refl
+
+-- ---- lists
+
+each_append : {A : Type 0} (f : A → Bool) (xs ys : List A) → each f xs ≡ true → each f ys ≡ true → each f (xs ++ ys) ≡ true
+each_append f [] ys h g = g
+each_append f (x ∷ xs) ys h g = go (f x) refl h (λ more. each_append f xs ys more g)
+  where
+    go : (b : Bool) → f x ≡ b → (b && each f xs) ≡ true → (each f xs ≡ true → each f (xs ++ ys) ≡ true) → (f x && each f (xs ++ ys)) ≡ true
+    go true e more rest = both (f x) (each f (xs ++ ys)) e (rest more)
+    go false e more rest = cc
+
+each_fails : {A : Type 0} (f : A → Bool) (xs : List A) (x : A) (ys : List A) → f x ≡ false → each f (xs ++ x ∷ ys) ≡ false
+each_fails f [] x ys h = first_false (f x) (each f ys) h
+each_fails f (y ∷ xs) x ys h = second_false (f y) (each f (xs ++ x ∷ ys)) (each_fails f xs x ys h)
+
+around : {A : Type 0} (xs : List A) (i : ℕ) (x : A) → i < length xs → x ≡ get_or xs i x → xs ≡ take i xs ++ x ∷ drop (suc i) xs
+around xs i x h at = sym (take-append-drop i xs) ∙ ap (λ l. take i xs ++ l) (drop-cons xs i x h ∙ ap (λ y. y ∷ drop (suc i) xs) (sym at))
+
+one_taken : {A : Type 0} (xs : List A) (i : ℕ) (x : A) → i < length xs → x ≡ get_or xs i x → take (i + 1) xs ≡ take i xs ++ x ∷ []
+one_taken xs i x h at = take_more xs i x h ∙ ap (λ y. take i xs ++ y ∷ []) (sym at)
+
+pub each_more : {A : Type 0} (f : A → Bool) (xs : List A) (i : ℕ) (x : A) → i < length xs → x ≡ get_or xs i x → each f (take i xs) ≡ true → f x ≡ true → each f (take (i + 1) xs) ≡ true
+each_more f xs i x h at so here = ap (each f) (one_taken xs i x h at) ∙ each_append f (take i xs) (x ∷ []) so (both (f x) true here refl)
+
+pub each_stops : {A : Type 0} (f : A → Bool) (xs : List A) (i : ℕ) (x : A) → i < length xs → x ≡ get_or xs i x → f x ≡ false → each f xs ≡ false
+each_stops f xs i x h at here = ap (each f) (around xs i x h at) ∙ each_fails f (take i xs) x (drop (suc i) xs) here
+
+first_append : {A : Type 0} (f : A → Option ParseError) (xs ys : List A) → first_of f xs ≡ None → first_of f (xs ++ ys) ≡ first_of f ys
+first_append f [] ys h = refl
+first_append f (x ∷ xs) ys h = go (f x) refl h (λ more. first_append f xs ys more)
+  where
+    go : (o : Option ParseError) → f x ≡ o → or_then o (first_of f xs) ≡ None → (first_of f xs ≡ None → first_of f (xs ++ ys) ≡ first_of f ys) → or_then (f x) (first_of f (xs ++ ys)) ≡ first_of f ys
+    go None e more rest = ap (λ o. or_then o (first_of f (xs ++ ys))) e ∙ rest more
+    go (Some r) e more rest = cc
+
+pub first_more : {A : Type 0} (f : A → Option ParseError) (xs : List A) (i : ℕ) (x : A) → i < length xs → x ≡ get_or xs i x → first_of f (take i xs) ≡ None → f x ≡ None → first_of f (take (i + 1) xs) ≡ None
+first_more f xs i x h at so here = ap (first_of f) (one_taken xs i x h at) ∙ first_append f (take i xs) (x ∷ []) so ∙ ap (λ o. or_then o None) here
+
+pub first_stops : {A : Type 0} (f : A → Option ParseError) (xs : List A) (i : ℕ) (x : A) (e : ParseError) → i < length xs → x ≡ get_or xs i x → first_of f (take i xs) ≡ None → f x ≡ Some e → first_of f xs ≡ Some e
+first_stops f xs i x e h at so here = ap (first_of f) (around xs i x h at) ∙ first_append f (take i xs) (x ∷ drop (suc i) xs) so ∙ ap (λ o. or_then o (first_of f (drop (suc i) xs))) here
+
+-- ---- expressions
+
+covers_roll : (d : Expr-F Expr Place Link) → covers (roll-Expr d) ≡ expr_step (map-Expr Expr Place Link Bool Cover Bool covers place_cover covers_link d)
+unfolding covers place_cover covers_link
+covers_roll d = fold-roll-Expr Bool Cover Bool expr_step place_step link_step d
+
+each_mapped : {A B : Type 0} (g : B → Bool) (f : A → B) (xs : List A) → each g (map f xs) ≡ each (λ x. g (f x)) xs
+each_mapped g f [] = refl
+each_mapped g f (x ∷ xs) = ap (λ b. g (f x) && b) (each_mapped g f xs)
+
+pub number_covers : (e : Expr) (n : _) → e ≡ tree.Number n → covers e ≡ true
+number_covers e n is = ap covers (is ∙ sym (rolls-Number n)) ∙ covers_roll (expr.Number n)
+
+pub text_covers : (e : Expr) (w : List ℕ) → e ≡ tree.Text w → covers e ≡ true
+text_covers e w is = ap covers (is ∙ sym (rolls-Text w)) ∙ covers_roll (expr.Text w)
+
+pub of_covers : (e : Expr) (p : Place) → e ≡ tree.Of p → covers e ≡ (place_cover p).reads
+of_covers e p is = ap covers (is ∙ sym (rolls-Of p)) ∙ covers_roll (expr.Of p)
+
+pub group_covers : (e x y : Expr) → e ≡ tree.Group x → y ≡ x → covers e ≡ covers y
+group_covers e x y is same = ap covers (is ∙ sym (rolls-Group x)) ∙ covers_roll (expr.Group x) ∙ ap covers (sym same)
+
+pub power_covers : (e x y v w : Expr) → e ≡ tree.Power x v → y ≡ x → w ≡ v → covers e ≡ (covers y && covers w)
+power_covers e x y v w is same other = ap covers (is ∙ sym (rolls-Power x v)) ∙ covers_roll (expr.Power x v) ∙ ap (λ a. a && covers v) (ap covers (sym same)) ∙ ap (λ a. covers y && a) (ap covers (sym other))
+
+pub chain_covers : (e x y : Expr) (xs ys : List Link) → e ≡ tree.Chain x xs → y ≡ x → ys ≡ xs → covers e ≡ (covers y && each covers_link ys)
+chain_covers e x y xs ys is same all =
+    ap covers (is ∙ sym (rolls-Chain x xs)) ∙ covers_roll (expr.Chain x xs) ∙ ap (λ a. covers x && a) (each_mapped (λ b. b) covers_link xs)
+    ∙ ap (λ a. a && each covers_link xs) (ap covers (sym same)) ∙ ap (λ a. covers y && a) (ap (each covers_link) (sym all))
+
+pub assign_covers : (e x y : Expr) (how : Assignment) (p : Place) → e ≡ tree.Assign how p x → y ≡ x → covers e ≡ ((place_cover p).sets && covers y)
+assign_covers e x y how p is same = ap covers (is ∙ sym (rolls-Assign how p x)) ∙ covers_roll (expr.Assign how p x) ∙ ap (λ a. (place_cover p).sets && a) (ap covers (sym same))
+
+covers_out : (e : Expr) → covers e ≡ expr_step (map-Expr Expr Place Link Bool Cover Bool covers place_cover covers_link (out-Expr e))
+unfolding covers place_cover covers_link
+covers_out e = fold_out-Expr Bool Cover Bool expr_step place_step link_step e
+
+-- no other expression is covered
+pub other_covers : (e : Expr) → ((n : ℤ) → e ≡ tree.Number n → ⊥) → ((w : List ℕ) → e ≡ tree.Text w → ⊥) → ((p : Place) → e ≡ tree.Of p → ⊥) → ((x : Expr) → e ≡ tree.Group x → ⊥)
+    → ((x y : Expr) → e ≡ tree.Power x y → ⊥) → ((x : Expr) (xs : List Link) → e ≡ tree.Chain x xs → ⊥) → ((how : Assignment) (p : Place) (x : Expr) → e ≡ tree.Assign how p x → ⊥) → covers e ≡ false
+other_covers e number text place group power chain assign = covers_out e ∙ go (out-Expr e) (sym (roll-out-Expr e))
+  where
+    go : (d : Expr-F Expr Place Link) → e ≡ roll-Expr d → expr_step (map-Expr Expr Place Link Bool Cover Bool covers place_cover covers_link d) ≡ false
+    go (expr.Number n) q = absurd (number n (q ∙ rolls-Number n))
+    go (expr.Text w) q = absurd (text w (q ∙ rolls-Text w))
+    go (expr.Of p) q = absurd (place p (q ∙ rolls-Of p))
+    go (expr.Group x) q = absurd (group x (q ∙ rolls-Group x))
+    go (expr.Power x y) q = absurd (power x y (q ∙ rolls-Power x y))
+    go (expr.Chain x xs) q = absurd (chain x xs (q ∙ rolls-Chain x xs))
+    go (expr.Assign how p x) q = absurd (assign how p x (q ∙ rolls-Assign how p x))
+    go _ q = refl
+
+-- ---- places
+
+place_roll : (d : Place-F Expr Place Link) → place_cover (roll-Place d) ≡ place_step (map-Place Expr Place Link Bool Cover Bool covers place_cover covers_link d)
+unfolding covers place_cover covers_link
+place_roll d = fold-roll-Place Bool Cover Bool expr_step place_step link_step d
+
+abbrev named : word.Name → Cover
+named n = record { reads = true; sets = not (is_special n.word) }
+
+pub name_cover : (p : Place) (n : word.Name) → p ≡ spot.Name n → place_cover p ≡ named n
+name_cover p n is = ap place_cover (is ∙ sym (rolls-Name n)) ∙ place_roll (expr.Name n)
+
+abbrev numbered : Bool → Cover
+numbered b = record { reads = b; sets = false }
+
+pub field_cover : (p : Place) (x y : Expr) → p ≡ spot.Field x → y ≡ x → place_cover p ≡ numbered (covers y)
+field_cover p x y is same = ap place_cover (is ∙ sym (rolls-Field x)) ∙ place_roll (expr.Field x) ∙ ap (λ z. numbered (covers z)) (sym same)
+
+pub element_cover : (p : Place) (n : word.Name) (es : List Expr) → p ≡ spot.Element n es → place_cover p ≡ numbered false
+element_cover p n es is = ap place_cover (is ∙ sym (rolls-Element n es)) ∙ place_roll (expr.Element n es)
+
+place_out : (p : Place) → place_cover p ≡ place_step (map-Place Expr Place Link Bool Cover Bool covers place_cover covers_link (out-Place p))
+unfolding covers place_cover covers_link
+place_out p = fold_out-Place Bool Cover Bool expr_step place_step link_step p
+
+-- nothing but a name can be assigned
+pub other_cover : (p : Place) → ((n : word.Name) → p ≡ spot.Name n → ⊥) → (place_cover p).sets ≡ false
+other_cover p name = ap (λ c. c.sets) (place_out p) ∙ go (out-Place p) (sym (roll-out-Place p))
+  where
+    go : (d : Place-F Expr Place Link) → p ≡ roll-Place d → (place_step (map-Place Expr Place Link Bool Cover Bool covers place_cover covers_link d)).sets ≡ false
+    go (expr.Name n) q = absurd (name n (q ∙ rolls-Name n))
+    go (expr.Element n es) q = refl
+    go (expr.Field e) q = refl
+
+-- what can be assigned can be read
+pub sets_reads : (p : Place) → (place_cover p).sets ≡ true → (place_cover p).reads ≡ true
+sets_reads p h = ap (λ c. c.reads) (place_out p) ∙ go (out-Place p) (ap (λ c. c.sets) (sym (place_out p)) ∙ h)
+  where
+    go : (d : Place-F Expr Place Link) → (place_step (map-Place Expr Place Link Bool Cover Bool covers place_cover covers_link d)).sets ≡ true
+        → (place_step (map-Place Expr Place Link Bool Cover Bool covers place_cover covers_link d)).reads ≡ true
+    go (expr.Name n) g = refl
+    go (expr.Element n es) g = cc
+    go (expr.Field e) g = cc
+
+-- ---- links
+
+pub link_covers : (l : Link) → covers_link l ≡ (joins l.operator && covers l.operand)
+unfolding covers place_cover covers_link
+link_covers l = fold_out-Link Bool Cover Bool expr_step place_step link_step l
+
+pub joiner_joins : (o : Operator) (operator : Arithmetic) → joiner o ≡ Some operator → joins o ≡ true
+joiner_joins (op.Arithmetic x) operator h = refl
+joiner_joins _ operator h = cc
+
+pub joiner_not : (o : Operator) → ((operator : Arithmetic) → joiner o ≡ Some operator → ⊥) → joins o ≡ false
+joiner_not (op.Arithmetic x) h = absurd (h x refl)
+joiner_not _ h = refl
+
+pub none_uncovered : (es : List Expr) (left : ℕ) → length es ≡ 0 → unless (each covers es) left ≡ None
+none_uncovered [] left h = refl
+none_uncovered (e ∷ es) left h = absurd (let no : suc (length es) ≡ 0 = h in omega arith)

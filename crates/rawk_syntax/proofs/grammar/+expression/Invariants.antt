@@ -1,4 +1,0 @@
-use Rattle.rawk_syntax.proofs.grammar.+expression.Given as goal
-
-abbrev pub decreases-expression : goal.decreases-expression
-decreases-expression l = l.depth

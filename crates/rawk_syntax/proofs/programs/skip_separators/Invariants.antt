@@ -1,6 +1,0 @@
-use Rattle.std.proofs.Common.{◌≡◌, ◌-◌}
-use Rattle.rawk_syntax.specs.Statement.{separators, separators_from}
-use Rattle.rawk_syntax.proofs.programs.skip_separators.Given as goal
-
-abbrev pub invariant-loop-turn : goal.invariant-loop-turn
-invariant-loop-turn l = separators l.fn.tokens ≡ separators_from (l._turn-end - l._turn) l.tokens

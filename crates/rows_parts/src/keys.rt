@@ -1,0 +1,67 @@
+//! `keys` and changes: the key that the innermost loop visits next, or `none`. A change is `begin KEY KEY ..`, `advance`, `end N` or
+//! `clear`; with `apply` or `there and back` before it, a step of its own, which the second takes back. `step` ends the step, and
+//! `back` takes it back.
+
+use rawk_frames::{KeysChange, KeysLeft};
+use rawk_slots::{Reversible, there_and_back};
+use rows_cases::setting_of;
+use std::alloc::{AllocError, Global};
+
+/// The next key after changes.
+pub fn changed(alloc: Global, changes: &[&[u8]]) -> Result<Vec<u8>, AllocError> {
+    let mut left = KeysLeft::new(alloc);
+    let text = text_after(alloc, &mut left, changes);
+    drop(left);
+    text
+}
+
+/// Makes the changes, and shows the next key.
+fn text_after(
+    alloc: Global,
+    left: &mut KeysLeft,
+    changes: &[&[u8]],
+) -> Result<Vec<u8>, AllocError> {
+    for change in changes {
+        make(alloc, left, change)?;
+    }
+    Vec::from_slice(alloc, left.next().unwrap_or(b"none"))
+}
+
+/// Makes one change.
+fn make(alloc: Global, left: &mut KeysLeft, change: &[u8]) -> Result<(), AllocError> {
+    match change {
+        b"step" => left.forget(),
+        b"back" => left.undo_step(),
+        b"advance" => left.advance()?,
+        b"clear" => left.clear(),
+        [b'a', b'p', b'p', b'l', b'y', b' ', change @ ..] => {
+            let change = change_of(alloc, change)?;
+            drop(left.apply(alloc, change)?);
+        }
+        _ => match change.strip_prefix(b"there and back ".as_slice()) {
+            Some(change) => there_and_back(left, alloc, change_of(alloc, change)?)?,
+            None => match change_of(alloc, change)? {
+                KeysChange::Begin(keys) => left.begin(keys)?,
+                KeysChange::End(count) => left.end(count),
+                _ => {}
+            },
+        },
+    }
+    Ok(())
+}
+
+/// The change of keys that a part is.
+fn change_of(alloc: Global, change: &[u8]) -> Result<KeysChange, AllocError> {
+    if let Some(words) = change.strip_prefix(b"begin ".as_slice()) {
+        let mut keys = Vec::new(alloc);
+        for key in words.split(|b| *b == b' ') {
+            keys.push(Vec::from_slice(alloc, key)?)?;
+        }
+        return Ok(KeysChange::Begin(keys));
+    }
+    Ok(match setting_of(change) {
+        (b"end", count) => KeysChange::End(count.unwrap_or(0)),
+        (b"advance", _) => KeysChange::Advance,
+        _ => KeysChange::Clear,
+    })
+}

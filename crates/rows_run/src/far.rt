@@ -1,0 +1,60 @@
+//! A session over a million steps: to the limit, back to point 0, and to the limit again. The answer is its transcript, and how many bytes of
+//! the input were handed out, none of them twice.
+
+ghost use Rattle.std.specs.Prelude.{◌≡◌, None, IfOk};
+
+use rawk::{BytesSink, BytesSource, Settings, debug_from};
+use std::alloc::{AllocError, Global};
+
+/// How many lines the input has: each costs three steps.
+const LINES: usize = 333_400;
+
+/// How many steps the session may take.
+const STEPS: u64 = 1_000_000;
+
+/// Bytes in memory, as a source.
+fn source_of(bytes: Vec<u8>, alloc: Global) -> BytesSource
+    ensures { result.over ≡ None }
+{
+    BytesSource::new(bytes, Vec::new(alloc), None)
+}
+
+/// Lines with a number each.
+fn input(alloc: Global) -> Result<Vec<u8>, AllocError> {
+    let mut bytes = Vec::new(alloc);
+    for _ in 0..LINES {
+        bytes.extend_from_slice(b"7\n")?;
+    }
+    Ok(bytes)
+}
+
+/// What the session answers.
+pub fn answered(alloc: Global) -> Result<Vec<u8>, AllocError> {
+    let mut source = source_of(input(alloc)?, alloc);
+    let commands = source_of(
+        Vec::from_slice(alloc, b"c\nprint s\nrc\nprint s\nc\nprint s\n")?,
+        alloc,
+    );
+    let mut sink = BytesSink::new(alloc, None);
+    let settings = Settings::new(alloc);
+    let report = debug_from(
+        alloc,
+        &settings,
+        b"{ s += $1 }",
+        &mut source,
+        commands,
+        &mut sink,
+        STEPS,
+        None,
+    );
+    drop(settings);
+    let handed = source.handed();
+    drop(source);
+    let written = Vec::from_slice(alloc, sink.bytes());
+    drop(sink);
+    let mut text = written?;
+    let status = report.status;
+    let end = format!(in alloc; "status {status}, {handed} bytes handed out")?;
+    text.extend_from_slice(end.as_bytes())?;
+    Ok(text)
+}
