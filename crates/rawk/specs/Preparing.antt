@@ -1,5 +1,5 @@
 -- A program that is ready to run, or what is reported where none is.
-use Rattle.std.specs.Prelude.{◌≡◌, ◌≢◌, ◌≤◌, true, false, List, length, Some}
+use Rattle.std.specs.Prelude.{◌≡◌, ◌≢◌, ◌≤◌, true, false, List, length}
 use Rattle.rawk_limits.specs.declared.TheConstants.{PROGRAM_BYTES}
 use Rattle.rawk_value.specs.Values.{Bytes}
 use Rattle.rawk_value.specs.declared.fault.Fault.TheVariants as fault
@@ -7,7 +7,7 @@ use Rattle.rawk_grammar.specs.declared.tree.Item.{Item}
 use Rattle.rawk_syntax.specs.declared.tree.Program.{Program}
 use Rattle.rawk_parsing.specs.declared.refusal.Refusal.{Refusal}
 use Rattle.rawk_parsing.specs.declared.refusal.RefusalKind.TheVariants.{OutOfMemory}
-use Rattle.rawk_syntax.specs.Texts.{IsProgram, IsPlain, refusal_of}
+use Rattle.rawk_syntax.specs.Texts.{IsProgram, IsPlain, IsRefusal}
 use Rattle.rawk_code.specs.Trace.{FirstValue}
 use Rattle.rawk_code.specs.Settings.{settings_fit}
 use Rattle.rawk_code.specs.Listing.{Listing}
@@ -22,9 +22,9 @@ pub record IsReady (text : Bytes) (settings : List FirstValue) (p : Program) (co
   pub fits : settings_fit p settings ≡ true
   pub compiled : CodeOf p code
 
--- A text is refused: with its refusal, or for want of memory. One that plain rules read, within the limits, is refused for want of memory alone.
+-- A text is refused: as it is refused by its parser, or for want of memory. One that plain rules read, whose names are in order and of which nothing is left out, within the limits, is refused for want of memory alone.
 pub record IsRefusedText (text : Bytes) (refusal : Refusal) : Type 0 where
-  pub exact : refusal.kind ≢ OutOfMemory → refusal_of text ≡ Some refusal
+  pub exact : refusal.kind ≢ OutOfMemory → IsRefusal text refusal
   pub plain : (items : List Item) → length text ≤ PROGRAM_BYTES → IsPlain text items → refusal.kind ≡ OutOfMemory
 
 -- what is reported where nothing runs

@@ -3,6 +3,7 @@
 ghost use Rattle.std.specs.Prelude.{◌≡◌, ◌≤◌, ℕ, ◌++◌, ◌∷◌, [], IfOk, MatchOption, OnErr, OnOk, Some, length, replicate, take};
 ghost use Rattle.std.specs.FinMap.{len};
 ghost use Rattle.rawk_arrays.specs.Walks.{texts};
+ghost use Rattle.std.specs.Bool.{OnTrue};
 ghost use Rattle.std.specs.Option.{option_copied};
 ghost use Rattle.rawk_value.specs.Values.{Bytes};
 ghost use Rattle.rawk_slots.specs.Journaled.{at_rest};
@@ -292,6 +293,14 @@ impl Arrays {
         };
         self.began = self.live;
         group
+    }
+
+    /// Whether the step has changed nothing yet.
+    #[inline]
+    pub fn is_at_rest(&self) -> bool
+        ensures { OnTrue result (self.now.start ≡ self.now.now) }
+    {
+        self.live == self.began && self.cells.is_at_rest()
     }
 
     /// What is so of all arrays. It does nothing.

@@ -5,7 +5,7 @@ use Rattle.rawk_code.specs.declared.code.Instr.{Instr}
 use Rattle.rawk_code.specs.declared.code.Instr.TheVariants.{BeginEnd, Halt}
 use Rattle.rawk_code.specs.Listing.{Listing}
 use Rattle.rawk_code.specs.Trace.{reads}
-use Rattle.rawk_code.specs.Code.{nowhere, in_turn, stmt_code, main_code, begin_code, end_at_of, IsCompiled}
+use Rattle.rawk_code.specs.Code.{nowhere, in_turn, stmt_code, main_code, begin_code, end_at_of, program_code, IsCompiled}
 use Rattle.rawk_code.specs.Valid.{IsValid}
 use Rattle.rawk_code.proofs.Ranks.{valid}
 
@@ -36,4 +36,4 @@ assembled p c0 c1 c2 code reading parts =
     }
 
 pub compiled_valid : (p : Program) (code : Listing) → IsCompiled p code → IsValid code.instrs code.record_at
-compiled_valid p code c = subst (λ l. IsValid l code.record_at) (sym c.instrs) (valid p code.record_at)
+compiled_valid p code c = subst (λ l. IsValid l code.record_at) (sym c.instrs) (subst (λ n. IsValid (program_code p) n) (sym c.record_at) (valid p))

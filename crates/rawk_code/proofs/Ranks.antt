@@ -1,29 +1,31 @@
 -- Compiled code goes back only to points.
 use Rattle.std.proofs.Common.{◌≡◌, ℕ, zero, suc, ◌+◌, ◌-◌, ◌*◌, ◌<◌, ◌≤◌, ◌⊎◌, inl, inr, Bool, true, false, List, [], ◌∷◌, ◌++◌, length, map, Option, Some, None, refl, sym, ap, ◌∙◌, subst, arith, length-append}
-use Rattle.std.specs.Prelude.{slice_get}
+use Rattle.std.specs.Prelude.{slice_get, nat_lt, ◌||◌}
 use Rattle.std.proofs.lemmas.Option.{slice_get_past}
-use Rattle.std.proofs.lemmas.Bool.{cases_lt}
+use Rattle.std.proofs.lemmas.Bool.{cases_lt, lt-ltb}
 use Rattle.rawk_syntax.specs.declared.tree.Expr.{Expr, Row_of-Link, end_of-Link, more_of-Link}
 use Rattle.rawk_syntax.specs.declared.tree.Expr.TheVariants as expr
 use Rattle.rawk_syntax.specs.declared.tree.Link.{Link}
 use Rattle.rawk_syntax.specs.declared.tree.Link.TheVariants as link
 use Rattle.rawk_syntax.specs.declared.tree.Place.{Place}
 use Rattle.rawk_syntax.specs.declared.tree.Place.TheVariants as place
-use Rattle.rawk_syntax.specs.declared.tree.Stmt.{Stmt, Row_of-Stmt, end_of-Stmt, more_of-Stmt}
+use Rattle.rawk_syntax.specs.declared.tree.Stmt.{Stmt, Row_of-Stmt, end_of-Stmt, more_of-Stmt, Row_of-Branch, end_of-Branch, more_of-Branch}
 use Rattle.rawk_syntax.specs.declared.tree.Stmt.TheVariants as stmt
 use Rattle.rawk_syntax.specs.declared.tree.Guard.{Guard}
 use Rattle.rawk_syntax.specs.declared.tree.Guard.TheVariants.{When}
 use Rattle.rawk_syntax.specs.declared.tree.Rule.{Rule}
 use Rattle.rawk_syntax.specs.declared.tree.Program.{Program}
+use Rattle.rawk_value.specs.declared.operator.Arithmetic.{Arithmetic}
+use Rattle.rawk_parsing.specs.declared.tree.Logic.{Logic}
 use Rattle.rawk_code.specs.declared.code.Around.{Around}
 use Rattle.rawk_code.specs.declared.code.Simple.{Simple}
 use Rattle.rawk_code.specs.declared.code.Operand.{Operand}
 use Rattle.rawk_code.specs.declared.code.Instr.{Instr}
 use Rattle.rawk_code.specs.declared.code.Instr.TheVariants as instr
 use Rattle.rawk_code.specs.Trace.{reads}
-use Rattle.rawk_code.specs.Code.{simple_field, simple_of, operand_of, unless_simple, pushed, joined, assign_code, store_code, expr_code, effect_code, place_code, link_code, link_codes, front_of, simples_behind, Piece, nowhere, always, in_turn, when_code, stmt_code, stmt_codes, guard_code, rule_code, records_code, main_code, begin_code, end_at_of, program_code, HasAt}
+use Rattle.rawk_code.specs.Code.{simple_field, simple_of, operand_of, unless_simple, pushed, joined, assign_code, store_code, choice_code, decide_code, change_code, step_code, expr_code, effect_code, place_code, link_code, link_codes, front_of, simples_behind, Piece, nowhere, always, in_turn, when_code, Arm, then_to, branch_to, if_code, step_around, body_around, loop_code, jump_code, test_code, stmt_code, stmt_codes, arms_of, guard_code, rule_code, records_code, main_code, begin_code, record_at_of, end_at_of, program_code, HasAt}
 use Rattle.rawk_code.specs.Valid.{rank_of, rank, Descends, IsValid}
-use Rattle.rawk_code.proofs.Runs.{has_front, has_back, has_all}
+use Rattle.rawk_code.proofs.Runs.{has_front, has_back, has_all, branches_length}
 
 module _ (code : List Instr) where
   -- where a jump from pc to p may go: to a point, or to a jump forward that goes on behind pc
@@ -84,12 +86,34 @@ module _ (code : List Instr) where
   assign_fine place.FieldCount instruction o c h f = f
   assign_fine (place.Field' p e) instruction o c h f = f
 
+  choice_fine : (test : List Instr) (from : Operand) (first second : List Instr) → Fine test → Fine first → Fine second → Fine (choice_code test from first second)
+  choice_fine test from first second ft fy fn =
+      let other = fine_cons (instr.GoOn (length second)) second (λ pc. tt) fn in
+      let both = fine_append first (instr.GoOn (length second) ∷ second) fy other in
+      fine_append test (instr.SkipIfFalse (length first + 1) from ∷ (first ++ (instr.GoOn (length second) ∷ second))) ft (fine_cons (instr.SkipIfFalse (length first + 1) from) (first ++ (instr.GoOn (length second) ∷ second)) (λ pc. tt) both)
+
+  decide_fine : (l : Logic) (test : List Instr) (from : Operand) → Fine test → Fine (decide_code l test from)
+  decide_fine l test from ft = fine_cons (instr.Decide l (length test + 1)) (test ++ instr.Truth from ∷ []) (λ pc. tt) (fine_last test (instr.Truth from) (λ pc. tt) ft)
+
+  change_fine : (op : Arithmetic) (t : Place) (read : List Instr) → Fine read → Fine (change_code op t read)
+  change_fine op (place.Global x) read f = fine_last [] (instr.After op x) (λ pc. tt) fine_none
+  change_fine op place.FieldCount read f = f
+  change_fine op (place.Field' p e) read f = f
+
+  step_fine : (op : Arithmetic) (t : Place) (read : List Instr) → Fine read → Fine (step_code op t read)
+  step_fine op (place.Global x) read f = fine_last [] (instr.StoreUpdate op x _) (λ pc. tt) fine_none
+  step_fine op place.FieldCount read f = fine_last read instr.Pop (λ pc. tt) f
+  step_fine op (place.Field' p e) read f = fine_last read instr.Pop (λ pc. tt) f
+
   mutual
     expr_fine : (e : Expr) → Fine (expr_code e)
     expr_fine (expr.Number n) = fine_last [] (instr.Push _) (λ pc. tt) fine_none
     expr_fine (expr.Text text) = fine_last [] (instr.Push _) (λ pc. tt) fine_none
     expr_fine (expr.Read p) = place_fine p
+    expr_fine (expr.Signed' s p e) = fine_last (unless_simple (simple_of e) (expr_code e)) (instr.Sign s (operand_of (simple_of e))) (λ pc. tt) (unless_fine (simple_of e) (expr_code e) (expr_fine e))
     expr_fine (expr.Chain' p first shape more) = fine_append (expr_code first) (joined (link_codes more)) (expr_fine first) (joined_fine (link_codes more) (links_fine more))
+    expr_fine (expr.Choice' p a q b r c) = choice_fine (unless_simple (simple_of a) (expr_code a)) (operand_of (simple_of a)) (expr_code b) (expr_code c) (unless_fine (simple_of a) (expr_code a) (expr_fine a)) (expr_fine b) (expr_fine c)
+    expr_fine (expr.After op p) = change_fine op p (place_code p) (place_fine p)
     expr_fine (expr.Assign' t p e) = assign_fine t instr.Assign (simple_of e) (expr_code e) (λ x from pc. tt) (expr_fine e)
     expr_fine (expr.Update' op t p e) = assign_fine t (instr.Update op) (simple_of e) (expr_code e) (λ x from pc. tt) (expr_fine e)
 
@@ -100,6 +124,7 @@ module _ (code : List Instr) where
 
     link_fine : (l : Link) → Fine (link_code l)
     link_fine (link.Combine op e) = fine_last (unless_simple (simple_of e) (expr_code e)) (instr.Combine op (operand_of (simple_of e))) (λ pc. tt) (unless_fine (simple_of e) (expr_code e) (expr_fine e))
+    link_fine (link.Decide l e) = decide_fine l (unless_simple (simple_of e) (expr_code e)) (operand_of (simple_of e)) (unless_fine (simple_of e) (expr_code e) (expr_fine e))
 
     links_fine : {m : _} → (row : Row_of-Link m) → AllFine (link_codes row)
     links_fine end_of-Link = tt
@@ -114,7 +139,10 @@ module _ (code : List Instr) where
   effect_fine (expr.Number n) = fine_last _ instr.Pop (λ pc. tt) (expr_fine (expr.Number n))
   effect_fine (expr.Text text) = fine_last _ instr.Pop (λ pc. tt) (expr_fine (expr.Text text))
   effect_fine (expr.Read p) = fine_last _ instr.Pop (λ pc. tt) (expr_fine (expr.Read p))
+  effect_fine (expr.Signed' s p e) = fine_last _ instr.Pop (λ pc. tt) (expr_fine (expr.Signed' s p e))
   effect_fine (expr.Chain' p first shape more) = fine_last _ instr.Pop (λ pc. tt) (expr_fine (expr.Chain' p first shape more))
+  effect_fine (expr.Choice' p a q b r c) = fine_last _ instr.Pop (λ pc. tt) (expr_fine (expr.Choice' p a q b r c))
+  effect_fine (expr.After op p) = step_fine op p (place_code p) (place_fine p)
   effect_fine (expr.Assign' t p e) = store_fine t instr.Store (simple_of e) (expr_code e) (λ x from pc. tt) (expr_fine e)
   effect_fine (expr.Update' op t p e) = store_fine t (instr.StoreUpdate op) (simple_of e) (expr_code e) (λ x from pc. tt) (expr_fine e)
 
@@ -166,16 +194,109 @@ module _ (code : List Instr) where
             backs_append pc t (skip ∷ a) (ft.by pc (has_front code pc t (skip ∷ a) has)) (tt, fa.by w p1 to back.1 (omega (arith, len)) safe);
       }
 
+  -- a place that is safe up to one place is safe up to one before it
+  safe_before : (t : Option ℕ) (a b : ℕ) → a ≤ b → SafeJump t b → SafeJump t a
+  safe_before None a b le safe = tt
+  safe_before (Some p) a b le safe = λ q lt. safe q (omega (arith, le, lt))
+
+  then_fine : (to : ℕ) (pa : Piece) → FinePiece pa → FinePiece (then_to to pa)
+  then_fine to pa fa =
+      record {
+        by = λ w pc end has le safe.
+            let a = pa w pc in
+            let i = instr.GoOn (to - (pc + length a + 1)) in
+            backs_append pc a (i ∷ []) (fa.by w pc end (has_front code pc a (i ∷ []) has) (omega (arith, le, length-append a (i ∷ []))) safe) (tt, tt);
+      }
+
+  abbrev AllArms : List Arm → Type 0
+  AllArms [] = Unit {0}
+  AllArms (b ∷ bs) = Fine b.test × FinePiece b.work × AllArms bs
+
+  branches_fine : (to : ℕ) (bs : List Arm) → AllArms bs → AllPieces (map (branch_to to) bs)
+  branches_fine to [] all = tt
+  branches_fine to (b ∷ bs) all = (when_fine b.test b.from (then_to to b.work) all.0 (then_fine to b.work all.1), branches_fine to bs all.2)
+
+  if_fine : (bs : List Arm) (pb : Piece) → AllArms bs → FinePiece pb → FinePiece (if_code bs pb)
+  if_fine bs pb all fb =
+      record {
+        by = λ w pc to has le safe.
+            let from = pc + length (in_turn (map (branch_to 0) bs) w pc) in
+            let b = pb w from in
+            let end = from + length b in
+            let c = in_turn (map (branch_to end) bs) w pc in
+            let same : from ≡ pc + length c = ap (λ n. pc + n) (branches_length 0 end bs w pc) in
+            let len = length-append c b in
+            let has_b = subst (λ p. HasAt code p b) (sym same) (has_back code pc c b has) in
+            backs_append pc c b ((in_turn_fine (map (branch_to end) bs) (branches_fine end bs all)).by w pc to (has_front code pc c b has) (omega (arith, le, len)) safe) (subst (λ p. Backs p b) same (fb.by w from to has_b (omega (arith, le, len, same)) safe));
+      }
+
+  loop_fine : (first : Bool) (site : ℕ) (c : List Instr) (from : Operand) (ps pb : Piece) → Fine c → FinePiece ps → FinePiece pb → FinePiece (loop_code first (instr.Point (Some site) ∷ c) from ps pb)
+  loop_fine first site c from ps pb fc fs fb =
+      record {
+        by = λ w pc to has le safe.
+            let t = instr.Point (Some site) ∷ c in
+            let start = pc + 3 + length t + 1 in
+            let wb = body_around pc w in
+            let b = pb wb start in
+            let ws = step_around pc w in
+            let sp = start + length b in
+            let s = ps ws sp in
+            let back : List Instr = instr.GoTo (pc + 3) ∷ [] in
+            let tail = instr.SkipIfFalse (length b + length s + 1) from ∷ (b ++ (s ++ back)) in
+            let e3 : pc + 1 + 1 + 1 ≡ pc + 3 = omega arith in
+            let e2 : pc + 1 + 1 ≡ pc + 2 = omega arith in
+            let has_test = subst (λ p. HasAt code p (t ++ tail)) e3 has.1.1.1 in
+            let has_tail = has_back code (pc + 3) t tail has_test in
+            let has_step = has_back code start b (s ++ back) has_tail.1 in
+            let len : length (t ++ tail) ≡ length t + (1 + (length b + (length s + 1))) = omega (arith, length-append t tail, length-append b (s ++ back), length-append s back) in
+            let point = has_test.0 in
+            let exits : SafeJump (Some (pc + 1)) (sp + length s) = λ q lt. subst (Lands q (pc + 1)) (sym has.1.0) (omega (arith, len, lt)) in
+            let agains : SafeJump (Some (pc + 2)) sp = λ q lt. subst (Lands q (pc + 2)) (sym (subst (λ p. slice_get code p ≡ Some (instr.GoOn (length t + 1 + length b))) e2 has.1.1.0)) (omega (arith, lt)) in
+            let outer : SafeJump w.again (sp + length s) = safe_before w.again (sp + length s) to (omega (arith, le, len)) safe.again in
+            let backs_step = backs_append sp s back (fs.by ws sp (sp + length s) (has_front code sp s back has_step) (omega arith) (record { exit = exits; again = outer })) (subst (Lands (sp + length s) (pc + 3)) (sym point) tt, tt) in
+            let backs_body = backs_append start b (s ++ back) (fb.by wb start sp (has_front code start b (s ++ back) has_tail.1) (omega arith) (record { exit = safe_before (Some (pc + 1)) sp (sp + length s) (omega arith) exits; again = agains })) backs_step in
+            let backs_test = backs_append (pc + 3) t tail (tt, fc.by (pc + 3 + 1) (has_front code (pc + 3 + 1) c tail has_test.1)) (tt, backs_body) in
+            (tt, (tt, (tt, subst (λ p. Backs p (t ++ tail)) (sym e3) backs_test)));
+      }
+
+  jump_fine : (site : ℕ) (target : Around → Option ℕ) → ((w : Around) (to : ℕ) → Safe w to → SafeJump (target w) to) → FinePiece (λ w at. instr.Point (Some site) ∷ jump_code (target w))
+  jump_fine site target safe_at =
+      record { by = λ w pc to has le safe. (tt, go (pc + 1) (target w) to (safe_at w to safe) (omega (arith, le))) }
+    where
+      go : (pc : ℕ) (t : Option ℕ) (to : ℕ) → SafeJump t to → pc + length (jump_code t) ≤ to → Backs pc (jump_code t)
+      go pc None to safe le = (tt, tt)
+      go pc (Some p) to safe le = (safe pc (omega (arith, le)), tt)
+
+  -- a test's code behind its point
+  tested_fine : (e : Expr) → Fine (unless_simple (simple_of e) (expr_code e))
+  tested_fine e = unless_fine (simple_of e) (expr_code e) (expr_fine e)
+
   mutual
     stmt_fine : (s : Stmt) → FinePiece (stmt_code s)
     stmt_fine (stmt.Do site e) = always_fine _ (fine_cons (instr.Point (Some site)) _ (λ pc. tt) (effect_fine e))
     stmt_fine (stmt.Print site es) =
         always_fine _ (fine_cons (instr.Point (Some site)) _ (λ pc. tt) (fine_last (joined (map expr_code (front_of es.items))) (instr.Print (length (front_of es.items)) (simples_behind es.items)) (λ pc. tt) (joined_fine _ (list_fine (front_of es.items)))))
     stmt_fine (stmt.Block' shape all) = in_turn_fine (stmt_codes all) (stmts_fine all)
+    stmt_fine (stmt.If' shape branches p other) = if_fine (arms_of branches) (stmt_code other) (arms_fine branches) (stmt_fine other)
+    stmt_fine (stmt.While' site e p body) = loop_fine false site (unless_simple (simple_of e) (expr_code e)) (operand_of (simple_of e)) (λ w at. []) (stmt_code body) (tested_fine e) (in_turn_fine [] tt) (stmt_fine body)
+    stmt_fine (stmt.DoWhile' p body site e) = loop_fine true site (unless_simple (simple_of e) (expr_code e)) (operand_of (simple_of e)) (λ w at. []) (stmt_code body) (tested_fine e) (in_turn_fine [] tt) (stmt_fine body)
+    stmt_fine (stmt.For' p first site e q step r body) =
+        in_turn_fine (stmt_code first ∷ loop_code false (test_code site e) (operand_of (simple_of e)) (stmt_code step) (stmt_code body) ∷ [])
+        (stmt_fine first, (loop_fine false site (unless_simple (simple_of e) (expr_code e)) (operand_of (simple_of e)) (stmt_code step) (stmt_code body) (tested_fine e) (stmt_fine step) (stmt_fine body), tt))
+    stmt_fine (stmt.Break site) = jump_fine site (λ w. w.exit) (λ w to s. s.exit)
+    stmt_fine (stmt.Continue site) = jump_fine site (λ w. w.again) (λ w to s. s.again)
+    stmt_fine (stmt.Next site) = always_fine _ (fine_cons (instr.Point (Some site)) _ (λ pc. tt) (fine_cons instr.NextRecord [] (λ pc. tt) fine_none))
+    stmt_fine (stmt.Exit site) = always_fine _ (fine_cons (instr.Point (Some site)) _ (λ pc. tt) (fine_cons instr.Quit [] (λ pc. tt) fine_none))
+    stmt_fine (stmt.ExitWith site e) =
+        always_fine _ (fine_append (test_code site e) _ (fine_cons (instr.Point (Some site)) _ (λ pc. tt) (tested_fine e)) (fine_cons (instr.SetStatus (operand_of (simple_of e))) _ (λ pc. tt) (fine_cons instr.Quit [] (λ pc. tt) fine_none)))
 
     stmts_fine : {m : _} → (row : Row_of-Stmt m) → AllPieces (stmt_codes row)
     stmts_fine end_of-Stmt = tt
     stmts_fine (more_of-Stmt s rest) = (stmt_fine s, stmts_fine rest)
+
+    arms_fine : {m : _} → (row : Row_of-Branch m) → AllArms (arms_of row)
+    arms_fine end_of-Branch = tt
+    arms_fine (more_of-Branch site e body rest) = (fine_cons (instr.Point (Some site)) _ (λ pc. tt) (tested_fine e), stmt_fine body, arms_fine rest)
 
   all_fine : (ss : List Stmt) → AllPieces (map stmt_code ss)
   all_fine [] = tt
@@ -275,29 +396,85 @@ module _ (code : List Instr) where
       let below = at_most (pc + 1 + k) in
       omega (arith, value)
 
-  descends : (again : ℕ) (pc : ℕ) (o : Option Instr) → slice_get code pc ≡ o → ((i : Instr) → o ≡ Some i → BackAt pc i) → Descends code again pc o
-  descends again pc None h back = tt
-  descends again pc (Some (instr.Point site)) h back = tt
-  descends again pc (Some instr.Halt) h back = tt
-  descends again pc (Some (instr.SkipIfFalse k from)) h back = (onward pc (instr.SkipIfFalse k from) h refl (pc + 1) (omega arith), onward pc (instr.SkipIfFalse k from) h refl (pc + 1 + k) (omega arith))
-  descends again pc (Some (instr.ReadRecord k)) h back = (onward pc (instr.ReadRecord k) h refl (pc + 1) (omega arith), onward pc (instr.ReadRecord k) h refl (pc + 1 + k) (omega arith))
-  descends again pc (Some (instr.GoOn k)) h back = jumps_on pc k h
-  descends again pc (Some (instr.GoTo p)) h back = lands pc (instr.GoTo p) h refl p (slice_get code p) refl (back (instr.GoTo p) refl)
-  descends again pc (Some (instr.Push from)) h back = onward pc (instr.Push from) h refl (pc + 1) (omega arith)
-  descends again pc (Some instr.Pop) h back = onward pc instr.Pop h refl (pc + 1) (omega arith)
-  descends again pc (Some instr.FieldAt) h back = onward pc instr.FieldAt h refl (pc + 1) (omega arith)
-  descends again pc (Some (instr.Combine op from)) h back = onward pc (instr.Combine op from) h refl (pc + 1) (omega arith)
-  descends again pc (Some (instr.Assign x from)) h back = onward pc (instr.Assign x from) h refl (pc + 1) (omega arith)
-  descends again pc (Some (instr.Update op x from)) h back = onward pc (instr.Update op x from) h refl (pc + 1) (omega arith)
-  descends again pc (Some (instr.Store x from)) h back = onward pc (instr.Store x from) h refl (pc + 1) (omega arith)
-  descends again pc (Some (instr.StoreUpdate op x from)) h back = onward pc (instr.StoreUpdate op x from) h refl (pc + 1) (omega arith)
-  descends again pc (Some (instr.Print m simples)) h back = onward pc (instr.Print m simples) h refl (pc + 1) (omega arith)
-  descends again pc (Some instr.BeginMain) h back = onward pc instr.BeginMain h refl (pc + 1) (omega arith)
-  descends again pc (Some instr.BeginEnd) h back = onward pc instr.BeginEnd h refl (pc + 1) (omega arith)
+  -- where each reading of a record begins there is a point; where none is read, the code ends there
+  abbrev Begins : ℕ → Type 0
+  Begins again = (slice_get code again ≡ Some (instr.Point None)) ⊎ ((slice_get code again ≡ Some instr.Halt) × (length code ≡ again + 1))
 
-pub valid : (p : Program) (again : ℕ) → IsValid (program_code p) again
-valid p again pc =
+  next_down : (again pc : ℕ) → Begins again → slice_get code pc ≡ Some instr.NextRecord → rank code again < rank code pc
+  next_down again pc (inl point) h = lands pc instr.NextRecord h refl again (Some (instr.Point None)) point tt
+  next_down again pc (inr last) h = go (cases_lt pc again)
+    where
+      go : (pc < again) ⊎ (again ≤ pc) → rank code again < rank code pc
+      go (inl lt) = onward pc instr.NextRecord h refl again lt
+      go (inr le) =
+          let top = within pc instr.NextRecord h in
+          let same : pc ≡ again = omega (arith, le, top, last.1) in
+          let both : Some instr.NextRecord ≡ Some instr.Halt = sym h ∙ ap (slice_get code) same ∙ last.0 in
+          absurd (cc)
+
+  descends : (again : ℕ) → Begins again → (pc : ℕ) (o : Option Instr) → slice_get code pc ≡ o → ((i : Instr) → o ≡ Some i → BackAt pc i) → Descends code again pc o
+  descends again begins pc None h back = tt
+  descends again begins pc (Some (instr.Point site)) h back = tt
+  descends again begins pc (Some instr.Halt) h back = tt
+  descends again begins pc (Some instr.Quit) h back = tt
+  descends again begins pc (Some instr.NextRecord) h back = next_down again pc begins h
+  descends again begins pc (Some (instr.SetStatus from)) h back = onward pc (instr.SetStatus from) h refl (pc + 1) (omega arith)
+  descends again begins pc (Some (instr.SkipIfFalse k from)) h back = (onward pc (instr.SkipIfFalse k from) h refl (pc + 1) (omega arith), onward pc (instr.SkipIfFalse k from) h refl (pc + 1 + k) (omega arith))
+  descends again begins pc (Some (instr.ReadRecord k)) h back = (onward pc (instr.ReadRecord k) h refl (pc + 1) (omega arith), onward pc (instr.ReadRecord k) h refl (pc + 1 + k) (omega arith))
+  descends again begins pc (Some (instr.GoOn k)) h back = jumps_on pc k h
+  descends again begins pc (Some (instr.GoTo p)) h back = lands pc (instr.GoTo p) h refl p (slice_get code p) refl (back (instr.GoTo p) refl)
+  descends again begins pc (Some (instr.Push from)) h back = onward pc (instr.Push from) h refl (pc + 1) (omega arith)
+  descends again begins pc (Some instr.Pop) h back = onward pc instr.Pop h refl (pc + 1) (omega arith)
+  descends again begins pc (Some instr.FieldAt) h back = onward pc instr.FieldAt h refl (pc + 1) (omega arith)
+  descends again begins pc (Some (instr.Combine op from)) h back = onward pc (instr.Combine op from) h refl (pc + 1) (omega arith)
+  descends again begins pc (Some (instr.Sign s from)) h back = onward pc (instr.Sign s from) h refl (pc + 1) (omega arith)
+  descends again begins pc (Some (instr.Decide l k)) h back = (onward pc (instr.Decide l k) h refl (pc + 1) (omega arith), onward pc (instr.Decide l k) h refl (pc + 1 + k) (omega arith))
+  descends again begins pc (Some (instr.Truth from)) h back = onward pc (instr.Truth from) h refl (pc + 1) (omega arith)
+  descends again begins pc (Some (instr.After op x)) h back = onward pc (instr.After op x) h refl (pc + 1) (omega arith)
+  descends again begins pc (Some (instr.Assign x from)) h back = onward pc (instr.Assign x from) h refl (pc + 1) (omega arith)
+  descends again begins pc (Some (instr.Update op x from)) h back = onward pc (instr.Update op x from) h refl (pc + 1) (omega arith)
+  descends again begins pc (Some (instr.Store x from)) h back = onward pc (instr.Store x from) h refl (pc + 1) (omega arith)
+  descends again begins pc (Some (instr.StoreUpdate op x from)) h back = onward pc (instr.StoreUpdate op x from) h refl (pc + 1) (omega arith)
+  descends again begins pc (Some (instr.Print m simples)) h back = onward pc (instr.Print m simples) h refl (pc + 1) (omega arith)
+  descends again begins pc (Some instr.BeginMain) h back = onward pc instr.BeginMain h refl (pc + 1) (omega arith)
+  descends again begins pc (Some instr.BeginEnd) h back = onward pc instr.BeginEnd h refl (pc + 1) (omega arith)
+
+not_both : (b : Bool) → b ≡ true → b ≡ false → ⊥
+not_both true is h = absurd (cc)
+not_both false is h = absurd (cc)
+
+-- a program that reads no record has no END action
+no_end : (rules : List Rule) (end : List Stmt) → nat_lt 0 (length rules) || nat_lt 0 (length end) ≡ false → end ≡ []
+no_end [] [] h = refl
+no_end [] (s ∷ ss) h = absurd (not_both (nat_lt 0 (length (s ∷ ss))) (lt-ltb 0 (length (s ∷ ss)) (omega arith)) h)
+no_end (r ∷ rs) end h = absurd (not_both (nat_lt 0 (length (r ∷ rs)) || nat_lt 0 (length end)) (ap (λ b. b || nat_lt 0 (length end)) (lt-ltb 0 (length (r ∷ rs)) (omega arith))) h)
+
+begins_of : (p : Program) → Begins (program_code p) (record_at_of p)
+begins_of p = go (reads p) refl
+  where
+    code : List Instr
+    code = program_code p
+
+    n : ℕ
+    n = length (begin_code p)
+
+    with_end : Bool → ℕ → List Stmt → List Instr
+    with_end b e end = main_code b p.rules.items n ++ (instr.BeginEnd ∷ (in_turn (map stmt_code end) nowhere e ++ instr.Halt ∷ []))
+
+    has : HasAt code n (with_end (reads p) (end_at_of p) p.end.items)
+    has = let zero_on : 0 + n ≡ n = omega arith in subst (λ q. HasAt code q (with_end (reads p) (end_at_of p) p.end.items)) zero_on (has_back code 0 (begin_code p) _ (has_all code []))
+
+    go : (b : Bool) → reads p ≡ b → Begins code (record_at_of p)
+    go true e = inl (subst (λ b. HasAt code n (with_end b (end_at_of p) p.end.items)) e has).1.0
+    go false e =
+        let none : p.end.items ≡ [] = no_end p.rules.items p.end.items e in
+        let short = subst (λ end. HasAt code n (with_end false (end_at_of p) end)) none (subst (λ b. HasAt code n (with_end b (end_at_of p) p.end.items)) e has) in
+        let size : length (with_end (reads p) (end_at_of p) p.end.items) ≡ 2 = ap (λ b. length (with_end b (end_at_of p) p.end.items)) e ∙ ap (λ end. length (with_end false (end_at_of p) end)) none in
+        inr (short.1.0, omega (arith, size, length-append (begin_code p) (with_end (reads p) (end_at_of p) p.end.items)))
+
+pub valid : (p : Program) → IsValid (program_code p) (record_at_of p)
+valid p pc =
     let code = program_code p in
     let backs = program_fine code p (has_all code []) in
     let same : 0 + pc ≡ pc = omega arith in
-    descends code again pc (slice_get code pc) refl (λ i h. subst (λ n. BackAt code n i) same (back_at code code 0 pc i backs h))
+    descends code (record_at_of p) (begins_of p) pc (slice_get code pc) refl (λ i h. subst (λ n. BackAt code n i) same (back_at code code 0 pc i backs h))

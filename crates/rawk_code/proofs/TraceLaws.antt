@@ -1,5 +1,5 @@
 -- The laws of the trace, by way of the code that has the same runs.
-use Rattle.std.proofs.Common.{◌≡◌, ℕ, ◌+◌, List, [], subst, arith}
+use Rattle.std.proofs.Common.{◌≡◌, ℕ, ◌+◌, List, [], refl, subst, arith}
 use Rattle.rawk_syntax.specs.declared.tree.Program.{Program}
 use Rattle.rawk_code.specs.Actions.{Given}
 use Rattle.rawk_code.specs.Trace.{FirstValue, trace, start}
@@ -18,7 +18,7 @@ abbrev first_of : Program → List FirstValue → Config
 first_of p settings = Going 0 [] [] [] InBegin (start p.names.items settings)
 
 pub trace_runs : (p : Program) (settings : List FirstValue) (given : Given) → (m : ℕ) × (steps given (program_code p) (place_of p) m (first_of p settings) ≡ Over (trace p settings given).ending (trace p settings given).run)
-trace_runs p settings given = (program_leads given (program_code p) (place_of p) p settings (has_all (program_code p) [])).by 0
+trace_runs p settings given = (program_leads given (program_code p) (place_of p) p settings refl refl (has_all (program_code p) [])).by 0
 
 pub limit_law : LimitLaw
 limit_law p settings given =

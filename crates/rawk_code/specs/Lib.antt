@@ -6,6 +6,7 @@ pub mod Listing
 pub mod Valid
 pub mod Machine
 pub mod Code
+pub mod Written
 pub mod Correct
 pub mod Steps
 pub mod Settings

@@ -6,6 +6,7 @@ use Rattle.rawk_syntax.specs.declared.tree.Rule.{Rule}
 use Rattle.rawk_syntax.specs.declared.tree.Program.{Program}
 use Rattle.rawk_value.specs.declared.value.Value.{Value}
 use Rattle.rawk_value.specs.declared.value.Value.TheVariants.{Uninitialized, Input}
+use Rattle.rawk_value.specs.declared.fault.Fault.TheVariants.{NextOutside}
 use Rattle.rawk_value.specs.Values.{Bytes}
 use Rattle.rawk_special.specs.Special.{first_specials, global_number}
 pub use Rattle.rawk_syntax.specs.Sites.{line_at}
@@ -54,12 +55,14 @@ pub record Trace : Type 0 where
 -- the end of the END actions, also after an exit
 abbrev pub last_of : Outcome (Unit {0}) → Trace
 last_of (Breaks (Stops ending) run) = record { ending = ending; run = run }
+last_of (Breaks Nexts run) = record { ending = Faulted NextOutside; run = run }
 last_of (Goes _ run) = record { ending = Ended; run = run }
 last_of (Breaks why run) = record { ending = Ended; run = run }
 
--- the END actions follow, also after an exit
+-- the END actions follow, also after an exit; `next` where no main rule runs is a fault
 abbrev pub then_end : Outcome (Unit {0}) → Effect → Trace
 then_end (Breaks (Stops ending) run) end = record { ending = ending; run = run }
+then_end (Breaks Nexts run) end = record { ending = Faulted NextOutside; run = run }
 then_end (Goes _ run) end = last_of (end run)
 then_end (Breaks why run) end = last_of (end run)
 

@@ -6,6 +6,7 @@ pub mod compiler;
 mod emit;
 pub mod fitting;
 pub mod laws;
+mod loops;
 pub mod sets;
 pub mod settings;
 

@@ -12,4 +12,3 @@ mod primaries;
 
 pub use grammar::{Wanted, expression};
 pub use lists::{place, printed};
-pub use rawk_parsing::{ParseError, Refusal, RefusalKind, tree};

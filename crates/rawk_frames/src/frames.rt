@@ -1,6 +1,7 @@
 //! Activations of functions, with their locals.
 
 ghost use Rattle.std.specs.Prelude.{◌≡◌, ◌≤◌, ◌∷◌, [], IfNone, IfSome, MatchOption, None, OnErr, OnOk, Some, drop, length, slice_get};
+ghost use Rattle.std.specs.Bool.{OnTrue};
 ghost use Rattle.std.specs.Option.{option_copied};
 ghost use Rattle.rawk_slots.specs.Journaled.{at_rest};
 ghost use Rattle.rawk_slots.specs.Stacked.{live_slots, live_values};
@@ -178,6 +179,14 @@ impl Frames {
             frames: self.frames.finish(alloc),
             locals: self.locals.finish(alloc),
         }
+    }
+
+    /// Whether the step has changed nothing yet.
+    #[inline]
+    pub fn is_at_rest(&self) -> bool
+        ensures { OnTrue result (self.now.start ≡ self.now.now) }
+    {
+        self.frames.is_at_rest() && self.locals.is_at_rest()
     }
 
     /// What is so of all activations. It does nothing.

@@ -1,6 +1,7 @@
 //! Keys that loops over arrays still visit, and flags of ranges.
 
 ghost use Rattle.std.specs.Prelude.{◌≡◌, ◌∷◌, [], OnOk, drop, length, slice_get};
+ghost use Rattle.std.specs.Bool.{OnTrue};
 ghost use Rattle.std.specs.Option.{option_copied};
 ghost use Rattle.rawk_slots.specs.Journaled.{at_rest};
 ghost use Rattle.rawk_slots.specs.Stacked.{live_values};
@@ -119,6 +120,14 @@ impl KeysLeft {
             lists: self.lists.finish(alloc),
             visited: self.visited.finish(alloc),
         }
+    }
+
+    /// Whether the step has changed nothing yet.
+    #[inline]
+    pub fn is_at_rest(&self) -> bool
+        ensures { OnTrue result (self.now.start ≡ self.now.now) }
+    {
+        self.lists.is_at_rest() && self.visited.is_at_rest()
     }
 
     /// What is so of all loops. It does nothing.

@@ -3,8 +3,7 @@ use Rattle.std.proofs.Common.{◌≡◌, ℕ, suc, ◌+◌, ◌-◌, ◌≤◌, 
 use Rattle.rawk_value.specs.Values.{Bytes}
 use Rattle.rawk_value.specs.declared.value.Value.{Value}
 use Rattle.rawk_store.specs.declared.registers.Registers.{Registers}
-use Rattle.rawk_store.specs.declared.store.Group.{Group}
-use Rattle.rawk_store.specs.declared.keeper.Kept.{Kept}
+use Rattle.rawk_store.specs.Groups.{Group, Kept}
 use Rattle.rawk_store.specs.State.{State}
 use Rattle.rawk_store.specs.Layout.{Layout, Grown, IsSound, keys, operands, state}
 use Rattle.rawk_store.specs.Saving.{saved_in}

@@ -2,12 +2,12 @@
 use Rattle.std.proofs.Common.{◌≡◌, ℕ, List, [], ◌∷◌, Option, Result, Ok, Err, refl, sym, subst}
 use Rattle.std.specs.Result.{OnErr}
 use Rattle.rawk_tape.specs.Tapes.{TapeState}
-use Rattle.rawk_store.specs.declared.store.Group.{Group}
+use Rattle.rawk_store.specs.Groups.{Group}
 use Rattle.rawk_store.specs.Layout.{Layout}
 use Rattle.rawk_code.specs.Listing.{Listing}
 use Rattle.rawk_code.specs.Actions.{SetAt}
 use Rattle.rawk_code.specs.Trace.{FirstValue}
-use Rattle.rawk_machine.specs.declared.last_move.LastMove.{LastMove}
+use Rattle.rawk_machine.specs.Last.{Last}
 use Rattle.rawk_machine.specs.Standing.{Standing}
 use Rattle.rawk_machine.specs.Kept.{unsets, FitHere, Chain}
 use Rattle.rawk_machine.specs.Stood.{standing_of}
@@ -18,7 +18,7 @@ no_groups l sets [] h = refl
 no_groups l sets (g ∷ gs) h = absurd (cc h)
 
 -- other parts, with no groups
-pub standing_as : {S : Type 0} (code : Listing) (settings : List FirstValue) (steps : ℕ) (sets : List SetAt) (point : ℕ) (tape : TapeState S) (l : Layout) (executed : ℕ) (here : List Group) (limit : Option ℕ) (last : LastMove) (change : Standing S → Standing S) (tape2 : TapeState S) (m : Layout) → here ≡ [] →
+pub standing_as : {S : Type 0} (code : Listing) (settings : List FirstValue) (steps : ℕ) (sets : List SetAt) (point : ℕ) (tape : TapeState S) (l : Layout) (executed : ℕ) (here : List Group) (limit : Option ℕ) (last : Last) (change : Standing S → Standing S) (tape2 : TapeState S) (m : Layout) → here ≡ [] →
     standing_of code settings steps sets point tape2 m executed [] [] limit last ≡ change (standing_of code settings steps sets point tape l executed [] [] limit last) →
     standing_of code settings steps sets point tape2 m executed here [] limit last ≡ change (standing_of code settings steps sets point tape l executed here [] limit last)
 standing_as {S} code settings steps sets point tape l executed here limit last change tape2 m none e =

@@ -1,9 +1,8 @@
 -- A step that is kept, or forgotten, leads to a machine that has moved on.
 use Rattle.std.proofs.Common.{◌≡◌, ℕ, ◌+◌, ◌-◌, ◌≤◌, Bool, true, false, List, [], ◌∷◌, ◌++◌, length, reverse, Option, None, Some, refl, sym, ap, ◌∙◌, subst, arith}
 use Rattle.std.proofs.lemmas.Bool.{ltb-false, ltb-true}
-use Rattle.rawk_store.specs.declared.store.Group.{Group}
-use Rattle.rawk_store.specs.declared.keeper.Kept.{Kept}
-use Rattle.rawk_store.specs.Keeping.{IsFront, room, keeps_any}
+use Rattle.rawk_store.specs.Groups.{Group, Kept}
+use Rattle.rawk_store.specs.Keeping.{IsFront, KeepsStep, room, keeps_any}
 use Rattle.rawk_store.specs.Layout.{Layout, Grown, IsSound, state}
 use Rattle.rawk_store.specs.Growth.{Grown-then_same}
 use Rattle.rawk_store.specs.Saving.{saved_in}
@@ -11,7 +10,7 @@ use Rattle.rawk_store.specs.GroupBack.{put_back}
 use Rattle.rawk_code.specs.Actions.{SetAt}
 use Rattle.rawk_machine.specs.Standing.{Past, seen}
 use Rattle.rawk_machine.specs.Kept.{moment_in, newest_first, unsets, pasts, seen_first, IsPlaced, FitHere, Chain, Few, back_in, below}
-use Rattle.rawk_machine.specs.Closing.{KeepsStep, Closes, FitAll}
+use Rattle.rawk_machine.specs.Closing.{Closes, FitAll}
 use Rattle.rawk_machine.proofs.SetLists.{ends_next}
 use Rattle.rawk_machine.proofs.Chains.{ends_with, chain_step, pasts_step, chain_front, pasts_front, length-pasts, chain-size}
 

@@ -1,8 +1,7 @@
 -- How many old values the groups hold that are kept.
 use Rattle.std.proofs.Common.{◌≡◌, ℕ, ◌+◌, ◌-◌, List, [], ◌∷◌, refl, sym, ap, ◌∙◌}
 use Rattle.std.proofs.lemmas.List.Sums.{sum_by-cons}
-use Rattle.rawk_store.specs.declared.store.Group.{Group}
-use Rattle.rawk_store.specs.declared.keeper.Kept.{Kept}
+use Rattle.rawk_store.specs.Groups.{Group, Kept}
 use Rattle.rawk_store.specs.Layout.{Layout}
 use Rattle.rawk_store.specs.GroupBack.{put_back}
 use Rattle.rawk_store.specs.Saving.{saved_in, saved_in_groups, saved_by, saved_by_all, saved_in_groups-reverse}
@@ -23,7 +22,7 @@ saved_past l sets point here [] = refl
 saved_past l sets point here (item ∷ items) =
     let m = back_in l here item in
     let s = below point sets in
-    let here_too = saved_here m s (newest_first item) ∙ saved_in_groups-reverse item.sets.items in
+    let here_too = saved_here m s (newest_first item) ∙ saved_in_groups-reverse item.sets in
     let p : Past = record { last = record { moment = moment_in m; sets = s; saved = saved_in item.step }; unset = unsets m s (newest_first item) } in
     let rest = pasts m s (point - 1) (newest_first item) items in
     sum_by-cons (λ (x : Past). x.last.saved + saved_of x.unset) p rest

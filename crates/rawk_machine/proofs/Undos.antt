@@ -3,7 +3,7 @@ use Rattle.std.proofs.Common.{◌≡◌, ℕ, ◌+◌, ◌-◌, ◌<◌, ◌≤�
 use Rattle.std.proofs.lemmas.List.{get_or-take, take_more, drop_more, drop-set, take-take, reverse-append}
 use Rattle.rawk_value.specs.declared.value.Value.{Value}
 use Rattle.rawk_record.specs.Shown.{Shown, record_back}
-use Rattle.rawk_store.specs.declared.store.Group.{Group}
+use Rattle.rawk_store.specs.Groups.{Group}
 use Rattle.rawk_store.specs.Back.{back}
 use Rattle.rawk_store.specs.Layout.{Layout}
 use Rattle.rawk_store.specs.GroupBack.{FitsIn, put_back}
@@ -36,7 +36,7 @@ done_one first now fn i x pos le is e =
 cut_set : (gs : List Group) (i : ℕ) (y : Group) → 0 < i → i ≤ length gs → drop (i - 1) (set gs (i - 1) y) ≡ y ∷ drop i gs
 cut_set gs i y pos le = let n : i - 1 + 1 ≡ i = omega arith in drop-set gs (i - 1) y (omega arith) ∙ ap (λ k. y ∷ drop k gs) n
 
-pub globals_one : (now old : List Value) (gs : List Group) (i : ℕ) (y : Group) → 0 < i → i ≤ length gs → back now y.globals.entries.items ≡ old → globals_forth now (drop (i - 1) (set gs (i - 1) y)) ≡ globals_forth old (drop i gs)
+pub globals_one : (now old : List Value) (gs : List Group) (i : ℕ) (y : Group) → 0 < i → i ≤ length gs → back now y.globals ≡ old → globals_forth now (drop (i - 1) (set gs (i - 1) y)) ≡ globals_forth old (drop i gs)
 globals_one now old gs i y pos le e = ap (globals_forth now) (cut_set gs i y pos le) ∙ ap (λ (xs : List Value). globals_forth xs (drop i gs)) e
 
 pub record_one : (now old : Shown) (gs : List Group) (i : ℕ) (y : Group) → 0 < i → i ≤ length gs → record_back now y.current ≡ old → record_forth now (drop (i - 1) (set gs (i - 1) y)) ≡ record_forth old (drop i gs)

@@ -1,19 +1,12 @@
 -- What a keeper keeps at the end of a step.
-use Rattle.std.specs.Prelude.{◌≡◌, ℕ, ◌+◌, Bool, true, false, List, [], ◌∷◌, length, Option}
-use Rattle.rawk_store.specs.declared.store.Group.{Group}
-use Rattle.rawk_store.specs.declared.keeper.Kept.{Kept}
+use Rattle.std.specs.Prelude.{◌≡◌, ℕ, Bool, true, false, List, [], ◌∷◌, reverse, Option, Some}
+use Rattle.rawk_store.specs.Back.{back}
+use Rattle.rawk_record.specs.Shown.{record_back}
+use Rattle.rawk_store.specs.Groups.{Group, Kept, Forth}
 use Rattle.rawk_store.specs.Layout.{Layout}
 use Rattle.rawk_store.specs.GroupBack.{FitsIn, put_back}
-use Rattle.rawk_store.specs.Keeping.{IsFront, room}
-
--- the step, with the groups of the sets made at the point that it left
-pub record KeepsStep (start now : Layout) (old new : List Kept) (here : List Group) (limit : Option ℕ) : Type 0 where
-  pub item : Kept
-  pub back : put_back now item.step ≡ start
-  pub fits : FitsIn item.step now
-  pub sets : item.sets.items ≡ here
-  pub front : IsFront new (item ∷ old)
-  pub count : length new ≡ room limit (length old + 1)
+use Rattle.rawk_store.specs.Keeping.{KeepsStep}
+use Rattle.rawk_machine.specs.Kept.{back_in, globals_forth, record_forth}
 
 -- the step is kept where any is, and else nothing is
 abbrev pub Closes : Bool → Layout → Layout → List Kept → List Kept → List Group → Option ℕ → Type 0
@@ -24,3 +17,13 @@ Closes false start now old new here limit = new ≡ []
 abbrev pub FitAll : Layout → List Group → Type 0
 FitAll l [] = Unit {0}
 FitAll l (g ∷ gs) = FitsIn g l × FitAll (put_back l g) gs
+
+-- back at the point before: its sets' groups stand ready, and what leads forward leads to what was there
+pub record HasGoneBack (item : Kept) (rest : List Kept) (old new : Layout) (stood ready : List Group) (kept : List Kept) (ahead : Option Forth) : Type 0 where
+  pub now : new ≡ back_in old (reverse stood) item
+  pub here : ready ≡ item.sets
+  pub left : kept ≡ rest
+  pub forth : Forth
+  pub is : ahead ≡ Some forth
+  pub globals : globals_forth (back new.globals forth.globals) forth.sets ≡ old.globals
+  pub current : record_forth (record_back new.current forth.current) forth.sets ≡ old.current

@@ -3,16 +3,15 @@ use Rattle.std.specs.Prelude.{◌≡◌, ℕ, ◌-◌, ◌<◌, ◌≤◌, nat_l
 use Rattle.rawk_value.specs.declared.value.Value.{Value}
 use Rattle.rawk_record.specs.Shown.{Shown, record_back}
 use Rattle.std.specs.Option.{option_map}
-use Rattle.rawk_store.specs.declared.store.Group.{Group}
-use Rattle.rawk_store.specs.declared.keeper.Kept.{Kept}
+use Rattle.rawk_store.specs.Groups.{Group, Kept, Forth}
 use Rattle.rawk_store.specs.Layout.{Layout, state, operands, keys}
 use Rattle.rawk_store.specs.Back.{back}
 use Rattle.rawk_store.specs.Saving.{saved_in}
 use Rattle.rawk_store.specs.GroupBack.{FitsIn, put_back}
 use Rattle.rawk_travel.specs.Moving.{phase_of, ending_of}
 use Rattle.rawk_code.specs.Actions.{SetAt}
-use Rattle.rawk_machine.specs.declared.last_move.LastMove.{LastMove}
-use Rattle.rawk_machine.specs.declared.last_move.LastMove.TheVariants as last
+use Rattle.rawk_machine.specs.Last.{Last}
+use Rattle.rawk_machine.specs.Last as last
 use Rattle.rawk_machine.specs.Standing.{Moment, Earlier, Past, Seen, seen}
 
 -- a moment, as it lies in the parts
@@ -30,7 +29,7 @@ moment_in l = record {
 
 -- the groups of one point's sets, the newest first
 abbrev pub newest_first : Kept → List Group
-newest_first item = reverse item.sets.items
+newest_first item = reverse item.sets
 
 -- the sets but for the last
 abbrev pub but_last : List SetAt → List SetAt
@@ -72,24 +71,24 @@ seen_first (p ∷ ps) = Some (seen p.last.moment.state)
 -- what was seen before the groups were put back, which lead forward now, the oldest first
 abbrev pub globals_forth : List Value → List Group → List Value
 globals_forth xs [] = xs
-globals_forth xs (g ∷ gs) = globals_forth (back xs g.globals.entries.items) gs
+globals_forth xs (g ∷ gs) = globals_forth (back xs g.globals) gs
 
 abbrev pub record_forth : Shown → List Group → Shown
 record_forth s [] = s
 record_forth s (g ∷ gs) = record_forth (record_back s g.current) gs
 
-abbrev pub seen_forth : List Value → Shown → Kept → Seen
-seen_forth globals current kept = record {
-  globals = globals_forth globals (kept.step ∷ kept.sets.items);
-  whole = (record_forth current (kept.step ∷ kept.sets.items)).text;
-  fields = (record_forth current (kept.step ∷ kept.sets.items)).fields;
+abbrev pub seen_forth : List Value → Shown → Forth → Seen
+seen_forth globals current forth = record {
+  globals = globals_forth (back globals forth.globals) forth.sets;
+  whole = (record_forth (record_back current forth.current) forth.sets).text;
+  fields = (record_forth (record_back current forth.current) forth.sets).fields;
 }
 
 -- what was seen before the last move
-abbrev pub before_of : LastMove → List Value → Shown → List Past → Option Seen
+abbrev pub before_of : Last → List Value → Shown → List Past → Option Seen
 before_of last.Nothing globals current history = None
 before_of last.On globals current history = seen_first history
-before_of (last.Back kept) globals current history = Some (seen_forth globals current kept)
+before_of (last.Back forth) globals current history = Some (seen_forth globals current forth)
 
 -- at the point of this number; so many bytes of the input are kept
 pub record IsPlaced (l : Layout) (point size : ℕ) : Type 0 where

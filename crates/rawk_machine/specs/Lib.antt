@@ -1,6 +1,7 @@
 pub mod Standing
 pub mod Reached
 pub mod InTrace
+pub mod Last
 pub mod Kept
 pub mod Closing
 pub mod Arrival

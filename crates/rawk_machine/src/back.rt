@@ -2,36 +2,32 @@
 
 ghost use Rattle.std.specs.Prelude.{◌≡◌, ◌∷◌, ◌++◌, [], List, OnOk, OnErr, length, reverse, slice_set};
 ghost use Rattle.rawk_code.specs.Actions.{SetAt};
-ghost use Rattle.rawk_store.specs.declared.store.Group.{Group};
+ghost use Rattle.rawk_store.specs.Groups.{Group, Kept};
 ghost use Rattle.rawk_store.specs.GroupBack.{FitsIn, put_back};
 ghost use Rattle.rawk_store.specs.Layout.{IsSound};
 ghost use Rattle.rawk_store.specs.Stores.{now_of, start_of};
-ghost use Rattle.rawk_machine.specs.Closing.{FitAll};
-ghost use Rattle.rawk_machine.specs.Kept.{all_back, back_in, below, globals_forth, record_forth};
+ghost use Rattle.rawk_machine.specs.Closing.{FitAll, HasGoneBack};
+ghost use Rattle.rawk_machine.specs.Kept.{all_back, below};
 
 use crate::journal::undo_all;
 use rawk_code::SetAt;
-use rawk_store::{Group, Kept, Store, Target};
+use rawk_store::{Group, Keeper, Store, Target};
 use rawk_value::Value;
 use std::alloc::{AllocError, Global};
-use std::mem;
 
-/// Goes back to the point before: takes back the sets of this point and the step that led here. The groups of the sets made at the
-/// point before then stand in `here`, and `item` leads forward again. It takes no memory and always succeeds.
-pub fn go_back(store: &mut Store, here: &mut Vec<Group>, item: &mut Kept)
+/// Goes back to the point before: takes back the sets of this point and the newest step that is kept, which led here. The groups of the sets made at the point
+/// before then stand in `here`, and the keeper leads forward again. It takes no memory and always succeeds.
+pub fn go_back<K: Keeper>(store: &mut Store, keeper: &mut K, here: &mut Vec<Group>)
     requires rest { start_of store.old ≡ now_of store.old }
     requires fits_here { FitAll (now_of store.old) (reverse here.old.items) }
-    requires fits_step { FitsIn item.old.step (all_back (now_of store.old) (reverse here.old.items)) }
-    ensures now { now_of store.new ≡ back_in (now_of store.old) (reverse here.old.items) item.old }
+    requires fits_step { (item : Kept) × (items : List Kept) × (K.kept keeper.old ≡ item ∷ items) × FitsIn item.step (all_back (now_of store.old) (reverse here.old.items)) }
+    ensures back { (item : Kept) (items : List Kept) → K.kept keeper.old ≡ item ∷ items → HasGoneBack item items (now_of store.old) (now_of store.new) here.old.items here.new.items (K.kept keeper.new) (K.forth keeper.new) }
     ensures rest { start_of store.new ≡ now_of store.new }
     ensures sound { IsSound (now_of store.new) }
-    ensures here { here.new.items ≡ item.old.sets.items }
-    ensures globals { globals_forth store.new.globals.now (item.new.step ∷ item.new.sets.items) ≡ store.old.globals.now }
-    ensures record { record_forth store.new.current.now (item.new.step ∷ item.new.sets.items) ≡ store.old.current.now }
+    ensures limit { K.limit keeper.new ≡ K.limit keeper.old }
 {
     undo_all(store, here);
-    store.undo(&mut item.step);
-    mem::swap(here, &mut item.sets);
+    keeper.put_back(store, here);
 }
 
 /// Drops the sets of a point and of later ones.

@@ -20,7 +20,7 @@ fn led_through<'a>(groups: &'a [Group], now: Option<&'a Value>, number: usize) -
 {
     let mut value = now;
     for group in groups {
-        value = led_to(&group.globals, value, number);
+        value = led_to(group.globals(), value, number);
     }
     value
 }
@@ -31,7 +31,7 @@ fn record_through(groups: &[Group]) -> Option<&Record>
 {
     let mut record = None;
     for group in groups {
-        if let Some(earlier) = &group.current {
+        if let Some(earlier) = group.record() {
             record = Some(earlier);
         }
     }
@@ -51,12 +51,17 @@ impl<R: Source + Drop, K: Keeper> Machine<R, K> {
         match &self.last {
             LastMove::Nothing => now,
             LastMove::On => match self.keeper.newest() {
-                Some(item) => led_to(&item.step.globals, now, number),
+                Some(step) => led_to(step.globals, now, number),
                 None => now,
             },
-            LastMove::Back(item) => {
-                led_through(&item.sets, led_to(&item.step.globals, now, number), number)
-            }
+            LastMove::Back => match self.keeper.ahead() {
+                Some(step) => led_through(
+                    self.keeper.ahead_sets(),
+                    led_to(step.globals, now, number),
+                    number,
+                ),
+                None => now,
+            },
         }
     }
 
@@ -68,12 +73,15 @@ impl<R: Source + Drop, K: Keeper> Machine<R, K> {
         match &self.last {
             LastMove::Nothing => None,
             LastMove::On => match self.keeper.newest() {
-                Some(item) => item.step.current.as_ref(),
+                Some(step) => step.current,
                 None => None,
             },
-            LastMove::Back(item) => match record_through(&item.sets) {
-                Some(record) => Some(record),
-                None => item.step.current.as_ref(),
+            LastMove::Back => match self.keeper.ahead() {
+                Some(step) => match record_through(self.keeper.ahead_sets()) {
+                    Some(record) => Some(record),
+                    None => step.current,
+                },
+                None => None,
             },
         }
     }

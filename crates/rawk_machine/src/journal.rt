@@ -14,10 +14,9 @@ ghost use Rattle.rawk_machine.specs.Kept.{all_back, globals_forth, record_forth}
 
 use crate::arrival::step;
 use rawk_code::Code;
-use rawk_store::{Group, Keeper, Kept, Store};
+use rawk_store::{Group, Keeper, Store};
 use rawk_tape::{Source, Tape};
 use std::alloc::{AllocError, Global};
-use std::mem;
 
 /// Ends a step, and keeps what it changed with what the sets changed that were made at the point that it left. Where memory is
 /// refused, the step is put back, and its sets' groups stand as before.
@@ -35,6 +34,7 @@ pub fn close<K: Keeper>(
     ensures here { OnOk result (here.new.items ≡ []) }
     ensures err { OnErr result (now_of store.new ≡ start_of store.old) }
     ensures same { OnErr result (K.kept keeper.new ≡ K.kept keeper.old) }
+    ensures forth { OnErr result (K.forth keeper.new ≡ K.forth keeper.old) }
     ensures stays { OnErr result (here.new.items ≡ here.old.items) }
     ensures rest { start_of store.new ≡ now_of store.new }
     ensures sound { IsSound (now_of store.new) }
@@ -49,15 +49,11 @@ pub fn close<K: Keeper>(
         here.clear();
         return Ok(());
     }
-    let step = store.finish(alloc);
-    let sets = mem::replace(here, Vec::new(alloc));
-    match keeper.keep(Kept { step, sets }) {
+    match keeper.keep(alloc, store, here) {
         Ok(()) => Ok(()),
         Err(refused) => {
-            let mut item = refused.value;
-            store.undo(&mut item.step);
-            *here = item.sets;
-            Err(AllocError)
+            store.undo_step();
+            Err(refused)
         }
     }
 }
@@ -85,6 +81,7 @@ pub fn journaled<R: Source + Drop, K: Keeper>(
     ensures here { OnOk result (here.new.items ≡ []) }
     ensures grown { OnErr result (Grown (now_of store.old) (now_of store.new)) }
     ensures same { OnErr result (K.kept keeper.new ≡ K.kept keeper.old) }
+    ensures forth { OnErr result (K.forth keeper.new ≡ K.forth keeper.old) }
     ensures stays { OnErr result (here.new.items ≡ here.old.items) }
     ensures rest { start_of store.new ≡ now_of store.new }
     ensures sound { IsSound (now_of store.new) }

@@ -58,11 +58,12 @@ impl<R: Source + Drop, K: Keeper> Model for Machine<R, K> {
 
     ghost coded = { Prim.hlevel (codes, elements_code value.the_row.coded, R.code) };
 
+    ghost use Rattle.rawk_machine.specs.Last.{last_of};
     ghost use Rattle.rawk_machine.specs.Stood.{standing_of, IsMachine};
 
-    ghost view = { λ m. standing_of m.code m.settings m.steps m.sets.items m.point m.tape (now_of m.store) m.executed (reverse m.here.items) (K.kept m.keeper) (K.limit m.keeper) m.last };
+    ghost view = { λ m. standing_of m.code m.settings m.steps m.sets.items m.point m.tape (now_of m.store) m.executed (reverse m.here.items) (K.kept m.keeper) (K.limit m.keeper) (last_of m.last (K.forth m.keeper)) };
 
-    ghost invariant = { λ m. IsMachine m.store m.tape.consumed (length m.tape.bytes) m.point m.steps m.sets.items (reverse m.here.items) (K.kept m.keeper) (K.limit m.keeper) m.last (R.over m.tape.source ≡ Some Ending.Failed) };
+    ghost invariant = { λ m. IsMachine m.store m.tape.consumed (length m.tape.bytes) m.point m.steps m.sets.items (reverse m.here.items) (K.kept m.keeper) (K.limit m.keeper) (last_of m.last (K.forth m.keeper)) (R.over m.tape.source ≡ Some Ending.Failed) };
 }
 
 /// What registers answer: at a point, or how the run ended.
@@ -195,7 +196,7 @@ impl<R: Source + Drop, K: Keeper> Machine<R, K> {
                     self.steps,
                 )?;
                 self.point += 1;
-                self.last.turn_on();
+                self.last = LastMove::On;
                 Ok(answer(&self.store.registers.now))
             }
             Some(_) => Ok(answer(&self.store.registers.now)),
@@ -213,14 +214,14 @@ impl<R: Source + Drop, K: Keeper> Machine<R, K> {
         ensures may { (gone : Bytes) (input : Input) → MayCome R.may_give self.new gone input ↔ MayCome R.may_give self.old gone input }
         ensures stood { (input : Input) → Stood self.old input → Stood self.new input }
     {
-        let Some(item) = self.keeper.take() else {
-            return false;
-        };
-        let mut item = item;
-        go_back(&mut self.store, &mut self.here, &mut item);
+        match self.keeper.newest() {
+            None => return false,
+            Some(_) => {}
+        }
+        go_back(&mut self.store, &mut self.keeper, &mut self.here);
         keep_below(&mut self.sets, self.point);
         self.tape.consume(self.store.registers.now.consumed);
-        self.last = LastMove::Back(item);
+        self.last = LastMove::Back;
         self.point -= 1;
         true
     }

@@ -6,3 +6,4 @@ pub mod Parts
 pub mod Markings
 pub mod Following
 pub mod Misuses
+pub mod Refusals

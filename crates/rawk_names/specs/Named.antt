@@ -1,5 +1,5 @@
 -- What is told of the names of a program.
-use Rattle.std.specs.Prelude.{◌≡◌, ◌<◌, ◌↔◌, ◌⊎◌, ◌==◌, ℕ, ◌-◌, Bool, true, false, ◌&&◌, if◌then◌else◌, nat_lt, List, [], ◌∷◌, length, slice_get, slice_index_or, Option, Some, None}
+use Rattle.std.specs.Prelude.{◌≡◌, ◌≢◌, ◌<◌, ◌↔◌, ◌⊎◌, ◌==◌, ℕ, ◌-◌, Bool, true, false, ◌&&◌, if◌then◌else◌, nat_lt, List, [], ◌∷◌, drop, length, slice_get, slice_index_or, Option, Some, None}
 use Rattle.rawk_ere_tree.specs.Tree.{Tree, IsWithinLimits}
 use Rattle.rawk_ere.specs.declared.error.EreError.TheVariants as ere
 use Rattle.rawk_ere.specs.PatternOf.{IsPatternOf}
@@ -76,19 +76,31 @@ abbrev pub pattern_left : ℕ → List Usage → ℕ
 pattern_left number [] = 0
 pattern_left number (u ∷ us) = if is_pattern u.what number then u.left else pattern_left number us
 
--- the place where a pattern that is none stands first
+-- the first pattern that is none: all before it are some
+abbrev pub IsFirstBad : List ArrayKey → ℕ → Type 0
+IsFirstBad patterns k = IsBadAt patterns k × AreReadable patterns k
+
+-- the place where the first pattern that is none stands first
 abbrev pub IsBadPlace : List ArrayKey → List Usage → ℕ → Type 0
-IsBadPlace patterns uses left = (k : ℕ) × IsBadAt patterns k × (left ≡ pattern_left k uses)
+IsBadPlace patterns uses left = (k : ℕ) × IsFirstBad patterns k × (left ≡ pattern_left k uses)
 
 -- of the uses that can't be the first has this place
 abbrev pub IsFirstMisuse : List Usage → ℕ → Type 0
 IsFirstMisuse uses left =
     (k : ℕ) × (u : Usage) × (slice_get uses k ≡ Some u) × (u.left ≡ left) × IsMisuse uses u.what × ((j : ℕ) (t : Usage) → j < k → slice_get uses j ≡ Some t → IsMisuse uses t.what → ⊥)
 
+-- what can be told: a bad pattern, or, where there is none, the first misuse; memory may also be refused
 abbrev pub IsRefused : Noted → NameError → Type 0
 IsRefused noted error.OutOfMemory = Unit {0}
 IsRefused noted (error.BadEre left) = IsBadPlace noted.patterns noted.uses left
-IsRefused noted (error.Misused left) = IsFirstMisuse noted.uses left
+IsRefused noted (error.Misused left) = AreReadable noted.patterns (length noted.patterns) × IsFirstMisuse noted.uses left
+
+-- a refusal is one of the program alone, and a program whose names are in order has none but for want of memory
+abbrev pub IsRefusedOnce : Type 0
+IsRefusedOnce = (noted : Noted) (a b : NameError) → a ≢ error.OutOfMemory → b ≢ error.OutOfMemory → IsRefused noted a → IsRefused noted b → a ≡ b
+
+abbrev pub IsNamedOrRefused : Type 0
+IsNamedOrRefused = (noted : Noted) (n : Known) (e : NameError) → e ≢ error.OutOfMemory → IsNamed noted n → IsRefused noted e → ⊥
 
 -- PART 3: answers
 
@@ -117,6 +129,10 @@ variable_of n v =
     else if nat_lt v SPECIALS then variable.Global (v - 1)
     else if nat_lt v (end_of_last n.signatures) then variable.Parameter v
     else variable.Global (v - 1 - (end_of_last n.signatures - SPECIALS))
+
+-- the globals that are not special, in the order in which they appear
+abbrev pub own_globals : Known → List ArrayKey
+own_globals n = drop (end_of_last n.signatures) n.variables
 
 -- PART 4: the search for a misuse
 

@@ -4,6 +4,7 @@
 mod arrays;
 mod expressions;
 mod items;
+pub mod laws;
 pub mod names;
 mod register;
 mod statements;

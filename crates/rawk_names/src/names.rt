@@ -6,13 +6,14 @@ ghost use Rattle.rawk_names.specs.Table.{place_of};
 ghost use Rattle.rawk_names.specs.Items.{program};
 ghost use Rattle.rawk_names.specs.Marking.{is_marked};
 ghost use Rattle.rawk_names.specs.Noted.{shown};
-ghost use Rattle.rawk_names.specs.Named.{AreArrays, AreReadable, IsBad, IsBadAt, IsBadPlace, IsFirst, IsNamed, IsReadable, IsRefused, NoMisuse, end_of_last, is_misuse, is_pattern, known, known_from, meaning_of, pattern_left, variable_of};
+ghost use Rattle.rawk_names.specs.Named.{AreArrays, AreReadable, IsBad, IsBadPlace, IsFirst, IsFirstBad, IsNamed, IsReadable, IsRefused, NoMisuse, end_of_last, is_misuse, is_pattern, known, known_from, meaning_of, pattern_left, variable_of};
 
 use crate::arrays::arrays;
 use crate::register::Register;
 use crate::table::Table;
 use crate::usage::{Manner, SPECIALS, Signature, Usage, What};
-use rawk_ere::{Ere, EreError};
+use rawk_ere::EreError;
+use rawk_ere::read::read;
 use rawk_grammar::tree::Item;
 use std::alloc::{AllocError, Global};
 
@@ -20,9 +21,10 @@ use std::alloc::{AllocError, Global};
 #[derive(Clone, Copy, Debug, PartialEq, Eq)]
 pub enum NameError {
     OutOfMemory,
-    /// The place of a regular expression that is none, or too large: the first one of its text.
+    /// The place of a regular expression that is none, or too large: of the first such pattern, where it stands first.
     BadEre(usize),
-    /// The place of the first misuse of a name: those of definitions come first, then those of uses in the order of the text.
+    /// The place of the first misuse of a name, where each regular expression is one: those of definitions come first, then those of
+    /// uses in the order of the text.
     Misused(usize),
 }
 
@@ -108,9 +110,9 @@ fn first_misuse(uses: &[Usage], arrays: &[bool]) -> Option<usize>
 fn is_readable(alloc: Global, pattern: &[u8]) -> Result<bool, AllocError>
     ensures { IfOk result (λ b. MatchBool b (IsReadable pattern.now) (IsBad pattern.now)) }
 {
-    match Ere::parse(alloc, pattern) {
-        Ok(ere) => {
-            drop(ere);
+    match read(alloc, pattern) {
+        Ok(tree) => {
+            drop(tree);
             Ok(true)
         }
         Err(EreError::Syntax) => Ok(false),
@@ -121,7 +123,7 @@ fn is_readable(alloc: Global, pattern: &[u8]) -> Result<bool, AllocError>
 
 /// The first pattern that is no regular expression.
 fn first_bad(alloc: Global, patterns: &Table) -> Result<Option<usize>, AllocError>
-    ensures { IfOk result (λ r. MatchOption r (AreReadable patterns.now (length patterns.now)) (λ k. IsBadAt patterns.now k)) }
+    ensures { IfOk result (λ r. MatchOption r (AreReadable patterns.now (length patterns.now)) (IsFirstBad patterns.now)) }
 {
     for number in 0..patterns.len() {
         if !is_readable(alloc, patterns.word(number))? {
@@ -294,6 +296,13 @@ impl Names {
         ensures { result ≡ is_marked self.now.arrays.items variable }
     {
         is_array_in(&self.arrays, variable)
+    }
+
+    /// The place of the first global that is not special; such globals stand behind all other variables.
+    pub fn first_own_global(&self) -> usize
+        ensures { result ≡ end_of_last self.now.signatures.items }
+    {
+        end_of_last(&self.signatures)
     }
 
     /// What a variable is.

@@ -5,7 +5,7 @@ use Rattle.std.proofs.lemmas.Bool.{cases_eq, cases_lt}
 use Rattle.std.proofs.lemmas.Option.{none-some, same_Some, slice_get_within, slice_get-get_or, get_or_from_slice_get}
 use Rattle.rawk_slots.specs.declared.saved.Saved.{Saved}
 use Rattle.rawk_slots.specs.BackLaws.{AreBelow-more, length-back}
-use Rattle.rawk_slots.specs.Back.{back, AreBelow, IsSavedAt, IsJournal, places, HasDistinctPlaces}
+use Rattle.rawk_slots.specs.Back.{back, AreBelow, IsSavedAt, IsJournal, places, AreDistinctFrom, HasAdded, HasDistinctPlaces}
 
 -- the newest is put back first
 pub back_push : {T : Type 0} (xs : List T) (es : List (Saved T)) (e : Saved T) → back xs (es ++ e ∷ []) ≡ back (set xs e.place e.old) es
@@ -41,6 +41,12 @@ pub AreBelow-at : {T : Type 0} (n : ℕ) (es : List (Saved T)) (j : ℕ) (d : Sa
 AreBelow-at n [] j d h p = absurd (omega arith)
 AreBelow-at n (e ∷ es) zero d h p = h.0
 AreBelow-at n (e ∷ es) (suc j) d h p = AreBelow-at n es j d h.1 (omega arith)
+
+pub AreBelow-from : {T : Type 0} (n b : ℕ) (es : List (Saved T)) (j : ℕ) (d : Saved T) → AreBelow n (drop b es) → b ≤ j → j < length es → (get_or es j d).place < n
+AreBelow-from n b [] j d h le p = absurd (omega arith)
+AreBelow-from n zero (e ∷ es) j d h le p = AreBelow-at n (e ∷ es) j d h p
+AreBelow-from n (suc b) (e ∷ es) zero d h le p = absurd (omega arith)
+AreBelow-from n (suc b) (e ∷ es) (suc j) d h le p = AreBelow-from n b es j d h (omega arith) (omega arith)
 
 -- one step of the loop that puts back
 pub back_drop : {T : Type 0} (xs : List T) (es : List (Saved T)) (i : ℕ) (d : Saved T) → i < length es → back xs (drop i es) ≡ set (back xs (drop (i + 1) es)) (get_or es i d).place (get_or es i d).old
@@ -118,7 +124,7 @@ entry_at (x ∷ xs) (suc i) h = entry_at xs i (omega arith)
 
 -- a journal's places are distinct
 pub distinct_places : {T : Type 0} (items : List T) (marks : List ℕ) (saved : List (Saved T)) → IsJournal items marks saved → HasDistinctPlaces saved
-distinct_places items marks saved h i j p q e =
+distinct_places items marks saved h i j _ _ p q e =
     let d = entry_at saved i p in
     let f = entry_at saved j q in
     let same : d.0.place ≡ f.0.place = sym d.2 ∙ (e ∙ f.2) in
@@ -154,9 +160,9 @@ place_at (x ∷ xs) zero e h = (omega arith, ap (λ d. d.place) (same_Some _ _ h
 place_at (x ∷ xs) (suc i) e h = let r = place_at xs i e h in (omega (arith, r.0), r.1)
 
 -- one turn of the loop that puts back: the entries lead forward again
-pub newer_next : {T : Type 0} (xs items : List T) (es saved : List (Saved T)) (i : ℕ) (e y : Saved T) (v d : T) → 0 < i → i ≤ length es → i ≤ length saved → HasDistinctPlaces es → e ≡ get_or es (i - 1) e →
+pub newer_next : {T : Type 0} (xs items : List T) (es saved : List (Saved T)) (i : ℕ) (e y : Saved T) (v d : T) (began : ℕ) → began < i → 0 < i → i ≤ length es → i ≤ length saved → AreDistinctFrom began es → e ≡ get_or es (i - 1) e →
     items ≡ back xs (drop i es) → back items (drop i saved) ≡ xs → y.place ≡ e.place → y.old ≡ get_or items e.place d → back (set items e.place v) (drop (i - 1) (set saved (i - 1) y)) ≡ xs
-newer_next {T} xs items es saved i e y v d pos le le2 distinct is done newer same old =
+newer_next {T} xs items es saved i e y v d began from pos le le2 distinct is done newer same old =
     let p = e.place in
     let w = y.old in
     let n : i - 1 + 1 ≡ i = omega arith in
@@ -164,7 +170,7 @@ newer_next {T} xs items es saved i e y v d pos le le2 distinct is done newer sam
     let other : (k : ℕ) (f : Saved T) → slice_get (drop i es) k ≡ Some f → p ≢ f.place = λ k f h eq.
     let a = place_at es (i - 1) e here in
     let b = place_at es (i + k) f (sym (get_drop i k es) ∙ h) in
-    let q : i - 1 ≡ i + k = distinct (i - 1) (i + k) a.0 b.0 (a.1 ∙ (eq ∙ sym b.1)) in
+    let q : i - 1 ≡ i + k = distinct (i - 1) (i + k) (omega (arith, from)) (omega (arith, from)) a.0 b.0 (a.1 ∙ (eq ∙ sym b.1)) in
     omega (arith, q) in
     let stays : get_or items p d ≡ get_or xs p d = ap (λ (zs : List T). get_or zs p d) done ∙ back_other xs (drop i es) p d other in
     ap (back (set items p v)) (drop-set saved (i - 1) y (omega arith) ∙ ap (λ k. y ∷ drop k saved) n)
@@ -207,3 +213,7 @@ none_next {T} es i p e is ne before k f lt h = elim (cases_eq k i) [
       λ q. ne (ap (λ (d : Saved T). d.place) same ∙ sym q)
   | inr d ↦ before k f (omega (arith, lt, d)) h
 ]
+
+-- what a step changed, behind a list
+pub added_by : {T : Type 0} (items : List T) (marks : List ℕ) (saved list longer : List (Saved T)) → IsJournal items marks saved → longer ≡ list ++ saved → HasAdded items (back items saved) list longer
+added_by items marks saved list longer h is = record { entries = saved; is = is; back = refl; below = h.below; distinct = distinct_places items marks saved h }

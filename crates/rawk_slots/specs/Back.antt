@@ -1,5 +1,5 @@
 -- Old values, and what they lead back to.
-use Rattle.std.specs.Prelude.{◌≡◌, ℕ, ◌<◌, List, [], ◌∷◌, length, map, slice_set, slice_get, slice_index, Some}
+use Rattle.std.specs.Prelude.{◌≡◌, ℕ, ◌<◌, ◌≤◌, List, [], ◌∷◌, ◌++◌, length, map, slice_set, slice_get, slice_index, Some}
 use Rattle.rawk_slots.specs.declared.saved.Saved.{Saved}
 
 -- the slots with each saved value put back at its place, the newest first
@@ -20,9 +20,21 @@ IsSavedAt {T} saved j place = (e : Saved T) × (slice_get saved j ≡ Some e) ×
 abbrev pub places : {T : Type 0} → List (Saved T) → List ℕ
 places saved = map (λ e. e.place) saved
 
+-- no place stands twice from a number on
+abbrev pub AreDistinctFrom : {T : Type 0} → ℕ → List (Saved T) → Type 0
+AreDistinctFrom began saved = (i j : ℕ) → began ≤ i → began ≤ j → i < length (places saved) → j < length (places saved) → slice_index (places saved) i ≡ slice_index (places saved) j → i ≡ j
+
 -- no place stands twice
 abbrev pub HasDistinctPlaces : {T : Type 0} → List (Saved T) → Type 0
-HasDistinctPlaces saved = (i j : ℕ) → i < length (places saved) → j < length (places saved) → slice_index (places saved) i ≡ slice_index (places saved) j → i ≡ j
+HasDistinctPlaces saved = AreDistinctFrom 0 saved
+
+-- a list behind which stands what a step changed: what is now leads so back to the start
+pub record HasAdded {T : Type 0} (items start : List T) (list longer : List (Saved T)) : Type 0 where
+  pub entries : List (Saved T)
+  pub is : longer ≡ list ++ entries
+  pub back : back items entries ≡ start
+  pub below : AreBelow (length items) entries
+  pub distinct : HasDistinctPlaces entries
 
 -- each saved place has its mark, so that no place is saved twice
 pub record IsJournal {T : Type 0} (items : List T) (marks : List ℕ) (saved : List (Saved T)) : Type 0 where

@@ -1,7 +1,7 @@
 //! Old values, each with its place.
 
-ghost use Rattle.std.specs.Prelude.{◌≡◌, ◌<◌, ◌↔◌, [], IsTrue, length, map, slice_index};
-ghost use Rattle.rawk_slots.specs.Back.{back, AreBelow, HasDistinctPlaces, IsSavedAt, places};
+ghost use Rattle.std.specs.Prelude.{◌≡◌, ◌<◌, ◌≤◌, ◌↔◌, [], IsTrue, drop, length, map, slice_index, take};
+ghost use Rattle.rawk_slots.specs.Back.{back, AreBelow, AreDistinctFrom, IsSavedAt, places};
 
 use std::mem;
 
@@ -12,16 +12,18 @@ pub struct Saved<T> {
     pub old: T,
 }
 
-/// Puts each old value back, the newest first, and leaves in the list what stood there. It takes no memory.
-pub(crate) fn swap_back<T>(items: &mut Vec<T>, saved: &mut Vec<Saved<T>>)
-    requires below { AreBelow (length items.old.items) saved.old.items }
-    requires distinct { HasDistinctPlaces saved.old.items }
-    ensures items { items.new.items ≡ back items.old.items saved.old.items }
+/// Puts the old values from a number on back, the newest first, and leaves in the list what stood there. It takes no memory.
+pub(crate) fn swap_back<T>(items: &mut Vec<T>, saved: &mut Vec<Saved<T>>, began: usize)
+    requires within { began ≤ length saved.old.items }
+    requires below { AreBelow (length items.old.items) (drop began saved.old.items) }
+    requires distinct { AreDistinctFrom began saved.old.items }
+    ensures items { items.new.items ≡ back items.old.items (drop began saved.old.items) }
     ensures places { places saved.new.items ≡ places saved.old.items }
-    ensures newer { back items.new.items saved.new.items ≡ items.old.items }
+    ensures earlier { take began saved.new.items ≡ take began saved.old.items }
+    ensures newer { back items.new.items (drop began saved.new.items) ≡ items.old.items }
 {
     let mut i = saved.len();
-    while i > 0 {
+    while i > began {
         i -= 1;
         let entry = &mut saved[i];
         mem::swap(&mut items[entry.place], &mut entry.old);

@@ -13,13 +13,13 @@ pub struct SlotGroup<T> {
     pub ghost distinct: { HasDistinctPlaces entries.items },
 }
 
-/// What stood in a slot at the time to which a group leads, from what stands there now (`newer`), for a number of a slot. It takes no memory.
-pub fn led_to<'a, T>(group: &'a SlotGroup<T>, newer: Option<&'a T>, place: usize) -> Option<&'a T>
-    ensures { (xs : List T) → place < length xs → slice_get xs place ≡ option_copied newer.entry → slice_get (back xs group.now.entries.items) place ≡ option_copied result }
+/// What stood in a slot at the time to which old values lead, from what stands there now (`newer`), for a number of a slot. It takes no memory.
+pub fn led_to<'a, T>(entries: &'a [Saved<T>], newer: Option<&'a T>, place: usize) -> Option<&'a T>
+    ensures { (xs : List T) → place < length xs → slice_get xs place ≡ option_copied newer.entry → slice_get (back xs entries.now) place ≡ option_copied result }
 {
     let mut i = 0;
-    while i < group.entries.len() {
-        let entry = &group.entries[i];
+    while i < entries.len() {
+        let entry = &entries[i];
         if entry.place == place {
             return Some(&entry.old);
         }

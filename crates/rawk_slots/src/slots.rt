@@ -1,8 +1,9 @@
 //! Slots whose content can be put back as it stood when the step began.
 
-ghost use Rattle.std.specs.Prelude.{◌≡◌, ◌<◌, ◌≤◌, ◌+◌, ◌++◌, ◌∷◌, [], ℕ, List, OnErr, OnOk, Some, length, slice_get, slice_set, take};
+ghost use Rattle.std.specs.Prelude.{◌≡◌, ◌<◌, ◌≤◌, ◌+◌, ◌++◌, ◌∷◌, [], ℕ, List, OnErr, OnOk, Some, drop, length, slice_get, slice_set, take};
+ghost use Rattle.std.specs.Bool.{OnTrue};
 ghost use Rattle.std.specs.Option.{option_copied};
-ghost use Rattle.rawk_slots.specs.Back.{back, AreBelow};
+ghost use Rattle.rawk_slots.specs.Back.{back, AreBelow, AreDistinctFrom, HasAdded};
 ghost use Rattle.rawk_slots.specs.Journaled.{Longer, at_rest};
 
 use crate::reversible::Reversible;
@@ -134,6 +135,29 @@ impl<T: Drop> Slots<T> {
         }
     }
 
+    /// Ends the step, and puts what it changed behind the first `count` old values of a list, in place of the others. It fails where memory is refused, and
+    /// then nothing has changed.
+    #[inline]
+    pub fn finish_into(&mut self, list: &mut Vec<Saved<T>>, count: usize) -> Result<(), AllocError>
+        ensures did { OnOk result (HasAdded self.old.now self.old.start (take count list.old.items) list.new.items) }
+        ensures now { OnOk result (self.new ≡ at_rest self.old.now) }
+        ensures err { OnErr result (self.new ≡ self.old) }
+        ensures same { OnErr result (list.new.items ≡ list.old.items) }
+    {
+        list.reserve(self.saved.len())?;
+        list.truncate(count);
+        list.append(&mut self.saved)?;
+        Ok(())
+    }
+
+    /// Whether the step has changed nothing yet.
+    #[inline]
+    pub fn is_at_rest(&self) -> bool
+        ensures { OnTrue result (self.now.start ≡ self.now.now) }
+    {
+        self.saved.len() == 0
+    }
+
     /// Ends the step, and forgets what it changed. The list of old values is cleared in place: it takes no memory.
     #[inline]
     pub fn forget(&mut self)
@@ -146,7 +170,7 @@ impl<T: Drop> Slots<T> {
     pub fn undo_step(&mut self)
         ensures { self.new ≡ at_rest self.old.start }
     {
-        swap_back(&mut self.items, &mut self.saved);
+        swap_back(&mut self.items, &mut self.saved, 0);
         self.saved.clear();
     }
 
@@ -157,7 +181,21 @@ impl<T: Drop> Slots<T> {
         ensures newer { back self.new.now group.new.entries.items ≡ self.old.now }
     {
         self.saved.clear();
-        swap_back(&mut self.items, &mut group.entries);
+        swap_back(&mut self.items, &mut group.entries, 0);
+    }
+
+    /// Puts back what a step that ended changed, whose old values stand in a list from a number on, and leaves the newer values there. It takes no memory and always
+    /// succeeds.
+    pub fn undo_from(&mut self, list: &mut Vec<Saved<T>>, began: usize)
+        requires within { began ≤ length list.old.items }
+        requires below { AreBelow (length self.old.now) (drop began list.old.items) }
+        requires distinct { AreDistinctFrom began list.old.items }
+        ensures now { self.new ≡ at_rest (back self.old.now (drop began list.old.items)) }
+        ensures earlier { take began list.new.items ≡ take began list.old.items }
+        ensures newer { back self.new.now (drop began list.new.items) ≡ self.old.now }
+    {
+        self.saved.clear();
+        swap_back(&mut self.items, list, began);
     }
 }
 

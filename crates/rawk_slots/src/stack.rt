@@ -2,6 +2,7 @@
 
 ghost use Rattle.std.specs.Prelude.{◌≡◌, ◌∷◌, [], OnErr, OnOk, drop, length, slice_get, slice_set, take};
 ghost use Rattle.std.specs.Option.{option_copied};
+ghost use Rattle.std.specs.Bool.{OnTrue};
 ghost use Rattle.rawk_slots.specs.Journaled.{at_rest};
 ghost use Rattle.rawk_slots.specs.Stacked.{GrownStack, IsLive, empty_stack, live_slots, live_values};
 ghost use Rattle.rawk_slots.specs.StackBack.{FitsStack, stack_back};
@@ -157,6 +158,14 @@ impl<T: Drop> Stack<T> {
         };
         self.began = self.live;
         group
+    }
+
+    /// Whether the step has changed nothing yet.
+    #[inline]
+    pub fn is_at_rest(&self) -> bool
+        ensures { OnTrue result (self.now.start ≡ self.now.now) }
+    {
+        self.live == self.began && self.slots.is_at_rest()
     }
 
     /// What is so of each stack. It does nothing.

@@ -1,1 +1,2 @@
 mod RingLemmas
+pub mod Flats

@@ -43,3 +43,24 @@ last-is xs o is = rw is (taken xs)
 pub lent : {T : Type 0} (xs : List T) (o : Option (Bor T)) → option_copied o ≡ last_item xs → MatchOption o (reverse xs ≡ []) (λ e. (rest : List T) × (reverse xs ≡ e.now ∷ rest))
 lent xs None is = (last-is xs None is).0
 lent xs (Some r) is = (reverse (take (length xs - 1) xs), last-is xs (Some r.now) is)
+
+-- the newest of the items
+pub newest_is : {T : Type 0} (xs rest : List T) (x y : T) → last_item xs ≡ Some x → reverse xs ≡ y ∷ rest → y ≡ x
+newest_is {T} xs rest x y last is = let e : reverse xs ≡ x ∷ reverse (take (length xs - 1) xs) = last-is xs (Some x) (sym last) in cc (e, is)
+
+pub others_are : {T : Type 0} (xs rest : List T) (x y : T) → last_item xs ≡ Some x → reverse xs ≡ y ∷ rest → reverse (take (length xs - 1) xs) ≡ rest
+others_are {T} xs rest x y last is = let e : reverse xs ≡ x ∷ reverse (take (length xs - 1) xs) = last-is xs (Some x) (sym last) in cc (e, is)
+
+pub newest_stands : {T : Type 0} (xs : List T) (x : T) → last_item xs ≡ Some x → reverse xs ≡ x ∷ reverse (take (length xs - 1) xs)
+newest_stands xs x last = last-is xs (Some x) (sym last)
+
+-- there is one
+pub none_missing : {T : Type 0} (xs rest : List T) (y : T) → last_item xs ≡ None → reverse xs ≡ y ∷ rest → ⊥
+none_missing {T} xs rest y last is = let e : reverse xs ≡ [] = (last-is xs None (sym last)).0 in absurd (cc (e, is))
+
+-- the last, lent, where there is one
+pub lent_some : {T : Type 0} (xs : List T) (o : Option (Bor T)) (r : Bor T) → option_copied o ≡ last_item xs → o ≡ Some r → (rest : List T) × (reverse xs ≡ r.now ∷ rest)
+lent_some {T} xs o r last is = (reverse (take (length xs - 1) xs), last-is xs (Some r.now) (sym (ap (λ (x : Option (Bor T)). option_copied x) is) ∙ last))
+
+pub lent_none : {T : Type 0} (xs : List T) (o : Option (Bor T)) → option_copied o ≡ last_item xs → o ≡ None → reverse xs ≡ []
+lent_none {T} xs o last is = (last-is xs None (sym (ap (λ (x : Option (Bor T)). option_copied x) is) ∙ last)).0

@@ -1,34 +1,91 @@
 -- What a step changed, and the way back.
-use Rattle.std.specs.Prelude.{◌≤◌, length, take}
-use Rattle.rawk_store.specs.declared.store.Group.{Group}
+use Rattle.std.specs.Prelude.{◌≡◌, ◌≤◌, Bool, List, length, take, Option, None, Some}
+use Rattle.rawk_value.specs.declared.value.Value.{Value}
+use Rattle.rawk_store.specs.declared.others.Others.{Others}
+use Rattle.rawk_store.specs.Groups.{Group}
 use Rattle.rawk_slots.specs.Back.{back, AreBelow}
+use Rattle.rawk_slots.specs.Stacked.{Stacked}
 use Rattle.rawk_slots.specs.StackBack.{FitsStack, stack_back}
+use Rattle.rawk_arrays.specs.Laid.{Laid}
+use Rattle.rawk_frames.specs.LaidFrames.{LaidFrames}
+use Rattle.rawk_frames.specs.LaidKeys.{LaidKeys}
 use Rattle.rawk_arrays.specs.ArraysBack.{FitsArrays, arrays_back}
 use Rattle.rawk_frames.specs.FramesBack.{FitsFrames, frames_back}
 use Rattle.rawk_frames.specs.KeysBack.{FitsKeys, keys_back}
 use Rattle.rawk_record.specs.Shown.{record_back}
 use Rattle.rawk_store.specs.Layout.{Layout}
 
+-- parts that few steps change, with what was saved of them put back: a part that was not changed stays
+abbrev pub arrays_in : Laid → Option Others → Laid
+arrays_in l None = l
+arrays_in l (Some o) = arrays_back l o.arrays
+
+abbrev pub frames_in : LaidFrames → Option Others → LaidFrames
+frames_in l None = l
+frames_in l (Some o) = frames_back l o.frames
+
+abbrev pub keys_in : LaidKeys → Option Others → LaidKeys
+keys_in l None = l
+keys_in l (Some o) = keys_back l o.keys
+
+abbrev pub ranges_in : List Bool → Option Others → List Bool
+ranges_in l None = l
+ranges_in l (Some o) = back l o.ranges.entries.items
+
+abbrev pub operands_in : Stacked Value → Option Others → Stacked Value
+operands_in l None = l
+operands_in l (Some o) = stack_back l o.operands
+
 -- the layout with what the group saved put back
 abbrev pub put_back : Layout → Group → Layout
 put_back l group = record {
-  globals = back l.globals group.globals.entries.items;
-  arrays = arrays_back l.arrays group.arrays;
-  frames = frames_back l.frames group.frames;
-  keys = keys_back l.keys group.keys;
-  ranges = back l.ranges group.ranges.entries.items;
-  operands = stack_back l.operands group.operands;
+  globals = back l.globals group.globals;
+  arrays = arrays_in l.arrays group.others;
+  frames = frames_in l.frames group.others;
+  keys = keys_in l.keys group.others;
+  ranges = ranges_in l.ranges group.others;
+  operands = operands_in l.operands group.others;
   current = record_back l.current group.current;
   output = take group.output l.output;
   registers = group.registers;
 }
 
+-- each place of these parts is one of the layout
+pub record OthersFit (o : Others) (l : Layout) : Type 0 where
+  pub arrays : FitsArrays o.arrays l.arrays
+  pub frames : FitsFrames o.frames l.frames
+  pub keys : FitsKeys o.keys l.keys
+  pub ranges : AreBelow (length l.ranges) o.ranges.entries.items
+  pub operands : FitsStack o.operands l.operands
+
+abbrev pub FitsOthers : Option Others → Layout → Type 0
+FitsOthers None l = Unit {0}
+FitsOthers (Some o) l = OthersFit o l
+
+-- the layout with these parts put back
+abbrev pub others_put : Layout → Option Others → Layout
+others_put l o = record {
+  globals = l.globals;
+  arrays = arrays_in l.arrays o;
+  frames = frames_in l.frames o;
+  keys = keys_in l.keys o;
+  ranges = ranges_in l.ranges o;
+  operands = operands_in l.operands o;
+  current = l.current;
+  output = l.output;
+  registers = l.registers;
+}
+
+-- what was saved of these parts leads from the one layout back to the other
+pub record OthersLead (o : Option Others) (now start : Layout) : Type 0 where
+  pub arrays : arrays_in now.arrays o ≡ start.arrays
+  pub frames : frames_in now.frames o ≡ start.frames
+  pub keys : keys_in now.keys o ≡ start.keys
+  pub ranges : ranges_in now.ranges o ≡ start.ranges
+  pub operands : operands_in now.operands o ≡ start.operands
+
 -- each place of the group is one of the layout
 pub record FitsIn (group : Group) (l : Layout) : Type 0 where
-  pub globals : AreBelow (length l.globals) group.globals.entries.items
-  pub arrays : FitsArrays group.arrays l.arrays
-  pub frames : FitsFrames group.frames l.frames
-  pub keys : FitsKeys group.keys l.keys
-  pub ranges : AreBelow (length l.ranges) group.ranges.entries.items
-  pub operands : FitsStack group.operands l.operands
+  pub globals : AreBelow (length l.globals) group.globals
+  pub others : FitsOthers group.others l
   pub output : group.output ≤ length l.output

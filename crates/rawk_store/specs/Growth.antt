@@ -1,5 +1,5 @@
 -- Slots that were added and that no program sees change no state, and putting back works over them.
-use Rattle.std.specs.Prelude.{◌≡◌, Bool, List, length, take, refl}
+use Rattle.std.specs.Prelude.{◌≡◌, Bool, List, length, take, refl, Option, None, Some}
 use Rattle.std.proofs.Common.{sym, ap, ◌∙◌, subst}
 use Rattle.rawk_value.specs.Values.{Bytes}
 use Rattle.rawk_value.specs.declared.value.Value.{Value}
@@ -7,17 +7,19 @@ use Rattle.rawk_slots.specs.Back.{back, AreBelow}
 use Rattle.rawk_slots.specs.Stacked.{Stacked, GrownStack}
 use Rattle.rawk_slots.specs.StackLaws.{live_values-grown, GrownStack-refl, GrownStack-trans, GrownStack-back, FitsStack-over, IsLive-stack_back}
 use Rattle.rawk_arrays.specs.Elements.{Elements}
-use Rattle.rawk_arrays.specs.Laid.{arrays_of}
+use Rattle.rawk_arrays.specs.Laid.{GrownArrays, arrays_of}
 use Rattle.rawk_arrays.specs.ArraysLaws.{arrays_of-grown, GrownArrays-refl, GrownArrays-trans, GrownArrays-back, FitsArrays-grown, IsLaid-back}
 use Rattle.rawk_frames.specs.Frame.{Frame}
-use Rattle.rawk_frames.specs.LaidFrames.{frames_of}
+use Rattle.rawk_frames.specs.LaidFrames.{GrownFrames, frames_of}
+use Rattle.rawk_frames.specs.LaidKeys.{GrownKeys}
 use Rattle.rawk_frames.specs.FramesLaws.{frames_of-grown, keys_of-grown, GrownFrames-refl, GrownFrames-trans, GrownFrames-back, GrownKeys-refl, GrownKeys-trans, GrownKeys-back, FitsFrames-grown, FitsKeys-grown, AreFramesLive-back, AreKeysLive-back}
 use Rattle.rawk_record.specs.Shown.{Shown, record_back}
 use Rattle.rawk_store.specs.declared.registers.Registers.{Registers}
-use Rattle.rawk_store.specs.declared.store.Group.{Group}
+use Rattle.rawk_store.specs.declared.others.Others.{Others}
+use Rattle.rawk_store.specs.Groups.{Group}
 use Rattle.rawk_store.specs.State.{State}
 use Rattle.rawk_store.specs.Layout.{Layout, Grown, IsSound, keys, operands, state}
-use Rattle.rawk_store.specs.GroupBack.{FitsIn, put_back}
+use Rattle.rawk_store.specs.GroupBack.{FitsIn, FitsOthers, arrays_in, frames_in, keys_in, operands_in, others_put, put_back, ranges_in}
 
 pub Grown-refl : (l : Layout) → Grown l l
 Grown-refl l = record {
@@ -98,35 +100,61 @@ state-grown l m g h =
     ∙ ap (λ (x : Bytes). made_of l.globals (arrays_of l.arrays) (frames_of l.frames) l.ranges l.current x m.registers) g.output
     ∙ ap (λ (x : Registers). made_of l.globals (arrays_of l.arrays) (frames_of l.frames) l.ranges l.current l.output x) g.registers
 
+arrays_in-grown : (l m : Layout) (o : Option Others) → Grown l m → FitsOthers o l → GrownArrays (arrays_in l.arrays o) (arrays_in m.arrays o)
+arrays_in-grown l m None g h = g.arrays
+arrays_in-grown l m (Some o) g h = GrownArrays-back l.arrays m.arrays o.arrays g.arrays h.arrays
+
+frames_in-grown : (l m : Layout) (o : Option Others) → Grown l m → FitsOthers o l → GrownFrames (frames_in l.frames o) (frames_in m.frames o)
+frames_in-grown l m None g h = g.frames
+frames_in-grown l m (Some o) g h = GrownFrames-back l.frames m.frames o.frames g.frames h.frames
+
+keys_in-grown : (l m : Layout) (o : Option Others) → Grown l m → FitsOthers o l → GrownKeys (keys_in l.keys o) (keys_in m.keys o)
+keys_in-grown l m None g h = g.keys
+keys_in-grown l m (Some o) g h = GrownKeys-back l.keys m.keys o.keys g.keys h.keys
+
+operands_in-grown : (l m : Layout) (o : Option Others) → Grown l m → FitsOthers o l → GrownStack (operands_in l.operands o) (operands_in m.operands o)
+operands_in-grown l m None g h = g.operands
+operands_in-grown l m (Some o) g h = GrownStack-back l.operands m.operands o.operands g.operands h.operands
+
 -- putting back, over more slots
 pub Grown-put_back : (l m : Layout) (group : Group) → Grown l m → FitsIn group l → Grown (put_back l group) (put_back m group)
 Grown-put_back l m group g h = record {
-  globals = ap (λ (xs : List Value). back xs group.globals.entries.items) g.globals;
-  arrays = GrownArrays-back l.arrays m.arrays group.arrays g.arrays h.arrays;
-  frames = GrownFrames-back l.frames m.frames group.frames g.frames h.frames;
-  keys = GrownKeys-back l.keys m.keys group.keys g.keys h.keys;
-  ranges = ap (λ (xs : List Bool). back xs group.ranges.entries.items) g.ranges;
-  operands = GrownStack-back l.operands m.operands group.operands g.operands h.operands;
+  globals = ap (λ (xs : List Value). back xs group.globals) g.globals;
+  arrays = arrays_in-grown l m group.others g h.others;
+  frames = frames_in-grown l m group.others g h.others;
+  keys = keys_in-grown l m group.others g h.others;
+  ranges = ap (λ (xs : List Bool). ranges_in xs group.others) g.ranges;
+  operands = operands_in-grown l m group.others g h.others;
   current = ap (λ (x : Shown). record_back x group.current) g.current;
   output = ap (λ (xs : Bytes). take group.output xs) g.output;
   registers = refl;
 }
 
+FitsOthers-grown : (l m : Layout) (o : Option Others) → Grown l m → FitsOthers o l → FitsOthers o m
+FitsOthers-grown l m None g h = tt
+FitsOthers-grown l m (Some o) g h = record {
+  arrays = FitsArrays-grown l.arrays m.arrays o.arrays g.arrays h.arrays;
+  frames = FitsFrames-grown l.frames m.frames o.frames g.frames h.frames;
+  keys = FitsKeys-grown l.keys m.keys o.keys g.keys h.keys;
+  ranges = subst (λ (xs : List Bool). AreBelow (length xs) o.ranges.entries.items) (sym g.ranges) h.ranges;
+  operands = FitsStack-over l.operands m.operands o.operands g.operands h.operands;
+}
+
 pub FitsIn-grown : (l m : Layout) (group : Group) → Grown l m → FitsIn group l → FitsIn group m
 FitsIn-grown l m group g h = record {
-  globals = subst (λ (xs : List Value). AreBelow (length xs) group.globals.entries.items) (sym g.globals) h.globals;
-  arrays = FitsArrays-grown l.arrays m.arrays group.arrays g.arrays h.arrays;
-  frames = FitsFrames-grown l.frames m.frames group.frames g.frames h.frames;
-  keys = FitsKeys-grown l.keys m.keys group.keys g.keys h.keys;
-  ranges = subst (λ (xs : List Bool). AreBelow (length xs) group.ranges.entries.items) (sym g.ranges) h.ranges;
-  operands = FitsStack-over l.operands m.operands group.operands g.operands h.operands;
+  globals = subst (λ (xs : List Value). AreBelow (length xs) group.globals) (sym g.globals) h.globals;
+  others = FitsOthers-grown l m group.others g h.others;
   output = rw g.output h.output;
 }
 
-pub IsSound-put_back : (l : Layout) (group : Group) → FitsIn group l → IsSound l → IsSound (put_back l group)
-IsSound-put_back l group h s = record {
-  arrays = IsLaid-back l.arrays group.arrays s.arrays;
-  frames = AreFramesLive-back l.frames group.frames h.frames;
-  keys = AreKeysLive-back l.keys group.keys h.keys;
-  operands = IsLive-stack_back l.operands group.operands h.operands;
+IsSound-others : (l : Layout) (o : Option Others) → FitsOthers o l → IsSound l → IsSound (others_put l o)
+IsSound-others l None h s = record { arrays = s.arrays; frames = s.frames; keys = s.keys; operands = s.operands }
+IsSound-others l (Some o) h s = record {
+  arrays = IsLaid-back l.arrays o.arrays s.arrays;
+  frames = AreFramesLive-back l.frames o.frames h.frames;
+  keys = AreKeysLive-back l.keys o.keys h.keys;
+  operands = IsLive-stack_back l.operands o.operands h.operands;
 }
+
+pub IsSound-put_back : (l : Layout) (group : Group) → FitsIn group l → IsSound l → IsSound (put_back l group)
+IsSound-put_back l group h s = let o = IsSound-others l group.others h.others s in record { arrays = o.arrays; frames = o.frames; keys = o.keys; operands = o.operands }

@@ -7,7 +7,9 @@ pub use Rattle.rawk_slots.specs.StackLaws
 pub mod State
 pub mod Layout
 pub mod Stores
+pub mod Groups
 pub mod GroupBack
 pub mod Keeping
 pub mod Saving
+pub mod Flat
 pub mod Growth

@@ -1,8 +1,8 @@
 -- The state of a program, and what can be assigned in it.
-use Rattle.std.specs.Prelude.{ℕ, zero, suc, ◌-◌, ℤ, pos, negsuc, int_le, ◌==◌, Bool, if◌then◌else◌, List, [], ◌∷◌, length, map, slice_index_or, slice_set, Result, Ok, Err}
+use Rattle.std.specs.Prelude.{ℕ, zero, suc, ◌-◌, ℤ, pos, negsuc, int_le, ◌==◌, Bool, if◌then◌else◌, List, length, map, slice_index_or, slice_set, Result, Ok, Err}
 use Rattle.rawk_limits.specs.declared.TheConstants.{LAST_FIELD}
 use Rattle.rawk_value.specs.declared.value.Value.{Value}
-use Rattle.rawk_value.specs.declared.value.Value.TheVariants.{Uninitialized, Number, String, Input}
+use Rattle.rawk_value.specs.declared.value.Value.TheVariants.{Uninitialized, Number, Input}
 use Rattle.rawk_value.specs.declared.fault.Fault.{Fault}
 use Rattle.rawk_value.specs.declared.fault.Fault.TheVariants.{FieldNumber}
 use Rattle.rawk_value.specs.Values.{Bytes, next_ok, is_empty, number_of, text_of}

@@ -37,6 +37,20 @@ start_of s = record {
   registers = s.registers.start;
 }
 
+-- the parts that few steps change have begun anew, and the others as before
+abbrev pub others_rested : Layout → Layout → Layout
+others_rested now start = record {
+  globals = start.globals;
+  arrays = now.arrays;
+  frames = now.frames;
+  keys = now.keys;
+  ranges = now.ranges;
+  operands = now.operands;
+  current = start.current;
+  output = start.output;
+  registers = start.registers;
+}
+
 -- nothing stands there but the registers
 abbrev pub empty_layout : Registers → Layout
 empty_layout registers = record { globals = []; arrays = no_arrays; frames = no_frames; keys = no_keys; ranges = []; operands = empty_stack; current = no_record; output = []; registers = registers }

@@ -1,23 +1,30 @@
 //! Keepers of what leads back.
 
-ghost use Rattle.std.specs.Prelude.{◌≡◌, ◌+◌, ℕ, List, [], ◌∷◌, IfErr, MatchOption, OnErr, OnOk, Option, length};
+ghost use Rattle.std.specs.Prelude.{◌≡◌, ◌∷◌, ℕ, List, [], MatchOption, OnErr, OnOk, None, Option, Some};
 ghost use Rattle.std.specs.Bool.{OnFalse};
-ghost use Rattle.rawk_store.specs.Keeping.{IsFront, keeps_any, room};
+ghost use Rattle.std.specs.Option.{option_copied};
+ghost use Rattle.rawk_store.specs.Groups.{Forth, Kept};
+ghost use Rattle.rawk_store.specs.GroupBack.{FitsIn};
+ghost use Rattle.rawk_store.specs.Keeping.{IsPutBack, KeepsStep, keeps_any};
+ghost use Rattle.rawk_store.specs.Layout.{IsSound};
 ghost use Rattle.rawk_store.specs.Saving.{Counts, saved_by_all};
-ghost use Rattle.rawk_store.specs.declared.keeper.Kept.{Kept};
+ghost use Rattle.rawk_store.specs.Stores.{now_of, start_of};
 
-use crate::saving::saved_by_all;
-use crate::store::Group;
-use std::alloc::{AllocFailed, Global};
+use crate::group::Group;
+use crate::store::Store;
+use rawk_record::Record;
+use rawk_slots::Saved;
+use rawk_value::Value;
+use std::alloc::{AllocError, Global};
 
-/// What a step changed, and what each set changed that was made at the point that the step left, in their order.
-#[derive(Drop)]
-pub struct Kept {
-    pub step: Group,
-    pub sets: Vec<Group>,
+/// What a step changed in the globals and in the record, lent: their old values, or the newer ones after the step was put back.
+#[derive(Clone, Copy)]
+pub struct StepRef<'a> {
+    pub globals: &'a [Saved<Value>],
+    pub current: Option<&'a Record>,
 }
 
-/// Keeps what steps changed, and gives the newest back.
+/// Keeps what steps changed, and puts the newest back.
 pub trait Keeper: Drop {
     // What it keeps, the newest first.
     ghost kept: { Self → List Kept };
@@ -25,31 +32,57 @@ pub trait Keeper: Drop {
     // How many steps it keeps at most, where there is a limit.
     ghost limit: { Self → Option ℕ };
 
+    // What leads forward over the step that was put back last, until one is kept.
+    ghost forth: { Self → Option Forth };
+
     /// Whether it keeps any step.
     fn keeps(&self) -> bool
         ensures limit { result ≡ keeps_any (limit self.now) }
         ensures none { OnFalse result (kept self.now ≡ []) };
 
-    /// Keeps one more step, and may let the oldest go. Where memory is refused, it hands the step back and keeps what it kept.
-    fn keep(&mut self, item: Kept) -> Result<(), AllocFailed<Kept>>
-        ensures front { OnOk result (IsFront (kept self.new) (item ∷ kept self.old)) }
-        ensures count { OnOk result (length (kept self.new) ≡ room (limit self.old) (length (kept self.old) + 1)) }
-        ensures err { OnErr result (kept self.new ≡ kept self.old) }
-        ensures back { IfErr result (λ e. e.value ≡ item) }
+    /// Ends the step in progress and keeps what it changed, with the groups of the sets that were made at the point that it left; the oldest step may go. Where
+    /// memory is refused, nothing has changed.
+    fn keep(
+        &mut self,
+        alloc: Global,
+        store: &mut Store,
+        sets: &mut Vec<Group>,
+    ) -> Result<(), AllocError>
+        ensures did { OnOk result (KeepsStep (start_of store.old) (now_of store.old) (kept self.old) (kept self.new) sets.old.items (limit self.old)) }
+        ensures now { now_of store.new ≡ now_of store.old }
+        ensures sound { IsSound (now_of store.old) }
+        ensures rest { OnOk result (start_of store.new ≡ now_of store.old) }
+        ensures taken { OnOk result (sets.new.items ≡ []) }
+        ensures open { OnErr result (start_of store.new ≡ start_of store.old) }
+        ensures stays { OnErr result (sets.new.items ≡ sets.old.items) }
+        ensures same { OnErr result (kept self.new ≡ kept self.old) }
+        ensures forth { OnErr result (forth self.new ≡ forth self.old) }
         ensures limit { limit self.new ≡ limit self.old };
 
-    /// How many old values of globals and records it keeps. It takes no memory, looks at each step that is kept, and stays at the greatest number of 128 bits.
+    /// How many old values of globals, elements and records it keeps. It takes no memory, and stays at the greatest number of 128 bits.
     fn saved(&self) -> u128
         ensures { Counts (saved_by_all (kept self.now)) result };
 
-    /// The newest step that it kept, if it keeps one. It takes no memory.
-    fn newest(&self) -> Option<&Kept>
-        ensures { MatchOption result (kept self.now ≡ []) (λ item. (rest : List Kept) × (kept self.now ≡ item.now ∷ rest)) };
+    /// The newest step that it keeps, if it keeps one. It takes no memory.
+    fn newest(&self) -> Option<StepRef<'_>>
+        ensures { MatchOption result (kept self.now ≡ []) (λ lent. (item : Kept) × (rest : List Kept) × (kept self.now ≡ item ∷ rest) × (lent.globals.now ≡ item.step.globals) × (option_copied lent.current ≡ item.step.current)) };
 
-    /// Gives back the newest step that it kept, if it keeps one. It takes no memory.
-    fn take(&mut self) -> Option<Kept>
-        ensures taken { MatchOption result ((kept self.old ≡ []) × (kept self.new ≡ [])) (λ item. kept self.old ≡ item ∷ kept self.new) }
+    /// Puts back the newest step that it keeps. The groups of the step's sets come in the place of these, which lead forward from there. Where it keeps none, the step
+    /// in progress ends. It takes no memory and always succeeds.
+    fn put_back(&mut self, store: &mut Store, sets: &mut Vec<Group>)
+        requires { (item : Kept) (rest : List Kept) → kept self.old ≡ item ∷ rest → FitsIn item.step (now_of store.old) }
+        ensures back { (item : Kept) (rest : List Kept) → kept self.old ≡ item ∷ rest → IsPutBack item rest (now_of store.old) (now_of store.new) sets.old.items sets.new.items (kept self.new) (forth self.new) }
+        ensures rest { start_of store.new ≡ now_of store.new }
+        ensures sound { IsSound (now_of store.new) }
         ensures limit { limit self.new ≡ limit self.old };
+
+    /// What leads forward over the step that was put back last, but for the groups of sets, if no step was kept since. It takes no memory.
+    fn ahead(&self) -> Option<StepRef<'_>>
+        ensures { MatchOption result (forth self.now ≡ None) (λ lent. (f : Forth) × (forth self.now ≡ Some f) × (lent.globals.now ≡ f.globals) × (option_copied lent.current ≡ f.current)) };
+
+    /// The groups of sets that lead forward behind the step that was put back last, the oldest first.
+    fn ahead_sets(&self) -> &[Group]
+        ensures { (f : Forth) → forth self.now ≡ Some f → result.now ≡ f.sets };
 }
 
 /// Forgets each step.
@@ -57,17 +90,26 @@ pub trait Keeper: Drop {
 pub struct Off;
 
 impl Keeper for Off {
-    ghost use Rattle.std.specs.Prelude.{[], Some};
+    ghost use Rattle.std.specs.Prelude.{[], None, Some};
 
     ghost kept = { λ _. [] };
 
     ghost limit = { λ _. Some 0 };
 
+    ghost forth = { λ _. None };
+
     fn keeps(&self) -> bool {
         false
     }
 
-    fn keep(&mut self, _item: Kept) -> Result<(), AllocFailed<Kept>> {
+    fn keep(
+        &mut self,
+        alloc: Global,
+        store: &mut Store,
+        sets: &mut Vec<Group>,
+    ) -> Result<(), AllocError> {
+        let _step = store.finish(alloc);
+        sets.clear();
         Ok(())
     }
 
@@ -75,59 +117,19 @@ impl Keeper for Off {
         0
     }
 
-    fn newest(&self) -> Option<&Kept> {
+    fn newest(&self) -> Option<StepRef<'_>> {
         None
     }
 
-    fn take(&mut self) -> Option<Kept> {
+    fn put_back(&mut self, store: &mut Store, _sets: &mut Vec<Group>) {
+        store.forget();
+    }
+
+    fn ahead(&self) -> Option<StepRef<'_>> {
         None
     }
-}
 
-/// Keeps every step.
-#[derive(Drop)]
-pub struct Full {
-    items: Vec<Kept>,
-}
-
-impl Full {
-    /// No step. It takes no memory.
-    pub fn new(alloc: Global) -> Self
-        ensures { result.items.items ≡ [] }
-    {
-        Full {
-            items: Vec::new(alloc),
-        }
-    }
-}
-
-impl Keeper for Full {
-    ghost use Rattle.std.specs.Prelude.{reverse, None};
-
-    ghost kept = { λ f. reverse f.items.items };
-
-    ghost limit = { λ _. None };
-
-    fn keeps(&self) -> bool {
-        true
-    }
-
-    fn keep(&mut self, item: Kept) -> Result<(), AllocFailed<Kept>> {
-        match self.items.push(item) {
-            Ok(()) => Ok(()),
-            Err(refused) => Err(refused),
-        }
-    }
-
-    fn saved(&self) -> u128 {
-        saved_by_all(&self.items)
-    }
-
-    fn newest(&self) -> Option<&Kept> {
-        self.items.last()
-    }
-
-    fn take(&mut self) -> Option<Kept> {
-        self.items.pop()
+    fn ahead_sets(&self) -> &[Group] {
+        &[]
     }
 }

@@ -2,8 +2,11 @@
 #![tactic(auto)]
 
 pub mod current;
+pub mod full;
+pub mod group;
 pub mod keeper;
 pub mod numbering;
+pub mod others;
 pub mod output;
 pub mod registers;
 pub mod ring;
@@ -12,8 +15,11 @@ pub mod store;
 pub mod target;
 
 pub use current::Current;
-pub use keeper::{Full, Keeper, Kept, Off};
+pub use full::Full;
+pub use group::Group;
+pub use keeper::{Keeper, Off, StepRef};
 pub use numbering::field_number;
+pub use others::{OperandsGroup, Others};
 pub use output::Output;
 pub use rawk_arrays::{Arrays, ArraysGroup};
 pub use rawk_frames::{
@@ -25,6 +31,6 @@ pub use rawk_record::{
 pub use rawk_slots::{Reversible, Saved, SlotGroup, Slots, Stack, StackGroup, led_to};
 pub use registers::{Bank, Ending, Phase, Registers};
 pub use ring::Ring;
-pub use saving::{saved_by_all, saved_in_groups};
-pub use store::{Cells, Group, Operands, OperandsGroup, Store};
+pub use saving::saved_in_groups;
+pub use store::{Cells, Operands, Store};
 pub use target::Target;

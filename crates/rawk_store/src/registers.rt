@@ -90,6 +90,16 @@ impl Bank {
         self.now = self.start;
     }
 
+    /// Puts back registers.
+    #[inline]
+    pub fn go_back(&mut self, earlier: Registers)
+        ensures now { self.new.now ≡ earlier }
+        ensures start { self.new.start ≡ earlier }
+    {
+        self.now = earlier;
+        self.start = earlier;
+    }
+
     /// Puts back registers, and leaves the newer ones in their place.
     pub fn undo(&mut self, earlier: &mut Registers)
         ensures now { self.new.now ≡ earlier.old }

@@ -1,10 +1,29 @@
 //! How many old values are kept.
 
-ghost use Rattle.std.specs.Prelude.{◌≡◌};
-ghost use Rattle.rawk_store.specs.Saving.{Counts, saved_by, saved_by_all, saved_in, saved_in_groups};
+ghost use Rattle.std.specs.Prelude.{◌≡◌, length};
+ghost use Rattle.rawk_store.specs.Saving.{Counts, saved_elements, saved_in, saved_in_groups, saved_in_others};
 
-use crate::keeper::Kept;
-use crate::store::Group;
+use crate::group::Group;
+use crate::others::Others;
+
+impl Others {
+    /// How many old values of elements they hold, also where an element was not there.
+    pub(crate) fn saved(&self) -> usize
+        ensures { result ≡ length self.now.arrays.slots.entries.items }
+    {
+        self.arrays.slots.entries.len()
+    }
+}
+
+/// How many old values of elements are held.
+fn saved_elements(others: &Option<Others>) -> usize
+    ensures { result ≡ saved_elements others.now }
+{
+    match others {
+        None => 0,
+        Some(group) => group.saved(),
+    }
+}
 
 impl Group {
     /// How many old values of globals, of elements and of the record it holds: one for each of them that was written, also where an element was not there. It
@@ -12,7 +31,7 @@ impl Group {
     pub fn saved(&self) -> usize
         ensures { result ≡ saved_in self.now }
     {
-        let places = self.globals.entries.len() + self.arrays.slots.entries.len();
+        let places = self.globals.entries.len() + saved_elements(&self.others);
         match &self.current {
             None => places,
             Some(_) => places + 1,
@@ -31,22 +50,13 @@ pub fn saved_in_groups(groups: &[Group]) -> u128
     count
 }
 
-impl Kept {
-    /// How many old values its groups hold together.
-    pub fn saved(&self) -> u128
-        ensures { Counts (saved_by self.now) result }
-    {
-        saved_in_groups(&self.sets).saturating_add(self.step.saved() as u128)
-    }
-}
-
-/// How many old values steps hold together, with their sets. It takes no memory, looks at each group, and stays at the greatest number of 128 bits.
-pub fn saved_by_all(items: &[Kept]) -> u128
-    ensures { Counts (saved_by_all items.now) result }
+/// How many old values of elements are held together. It takes no memory, looks at each, and stays at the greatest number of 128 bits.
+pub(crate) fn saved_in_others(all: &[Others]) -> u128
+    ensures { Counts (saved_in_others all.now) result }
 {
     let mut count: u128 = 0;
-    for item in items {
-        count = count.saturating_add(item.saved());
+    for others in all {
+        count = count.saturating_add(others.saved() as u128);
     }
     count
 }

@@ -1,20 +1,21 @@
 //! The state of a run, beside what it was when the step began.
 
-ghost use Rattle.std.specs.Prelude.{◌≡◌};
+ghost use Rattle.std.specs.Prelude.{◌≡◌, None};
+ghost use Rattle.std.specs.Bool.{OnTrue};
 ghost use Rattle.rawk_record.specs.Shown.{record_back};
 ghost use Rattle.rawk_slots.specs.Back.{back};
-ghost use Rattle.rawk_arrays.specs.ArraysBack.{arrays_back};
 ghost use Rattle.rawk_store.specs.Layout.{IsSound, state};
-ghost use Rattle.rawk_store.specs.Stores.{IsNew, IsPlainStep, now_of, start_of};
-ghost use Rattle.rawk_store.specs.GroupBack.{FitsIn, put_back};
+ghost use Rattle.rawk_store.specs.Stores.{IsNew, IsPlainStep, now_of, others_rested, start_of};
+ghost use Rattle.rawk_store.specs.GroupBack.{FitsIn, FitsOthers, OthersLead, arrays_in, others_put, put_back};
 
 use crate::current::Current;
+use crate::group::Group;
+use crate::others::Others;
 use crate::output::Output;
 use crate::registers::{Bank, Registers};
-use rawk_arrays::{Arrays, ArraysGroup};
-use rawk_frames::{Frames, FramesGroup, KeysLeft, KeysLeftGroup, Ranges, RangesGroup};
-use rawk_record::Record;
-use rawk_slots::{SlotGroup, Slots, Stack, StackGroup};
+use rawk_arrays::Arrays;
+use rawk_frames::{Frames, KeysLeft, Ranges};
+use rawk_slots::{Slots, Stack};
 use rawk_value::Value;
 use std::alloc::Global;
 
@@ -23,9 +24,6 @@ pub type Cells = Slots<Value>;
 
 /// The operand stack.
 pub type Operands = Stack<Value>;
-
-/// What a step changed in the operand stack.
-pub type OperandsGroup = StackGroup<Value>;
 
 /// The parts of the state of a run. Each part keeps what the step in progress changed in it.
 #[derive(Drop)]
@@ -39,21 +37,6 @@ pub struct Store {
     pub current: Current,
     pub output: Output,
     pub registers: Bank,
-}
-
-/// What a step changed: for each place that it wrote what stood there when it began, once.
-#[derive(Drop)]
-pub struct Group {
-    pub globals: SlotGroup<Value>,
-    pub arrays: ArraysGroup,
-    pub frames: FramesGroup,
-    pub keys: KeysLeftGroup,
-    pub ranges: RangesGroup,
-    pub operands: OperandsGroup,
-    pub current: Option<Record>,
-    /// How many bytes of output there were.
-    pub output: usize,
-    pub registers: Registers,
 }
 
 impl Store {
@@ -74,6 +57,40 @@ impl Store {
         }
     }
 
+    /// Whether the step has changed no array, activation, key that is left, range or operand.
+    #[inline]
+    pub fn is_plain(&self) -> bool
+        ensures { OnTrue result (IsPlainStep self.now) }
+    {
+        self.operands.is_at_rest()
+            && self.arrays.is_at_rest()
+            && self.frames.is_at_rest()
+            && self.keys.is_at_rest()
+            && self.ranges.is_at_rest()
+    }
+
+    /// Ends the step in the parts that few steps change, and gives what it changed there, if it changed anything. It takes no memory.
+    #[inline]
+    pub(crate) fn finish_others(&mut self, alloc: Global) -> Option<Others>
+        ensures now { now_of self.new ≡ now_of self.old }
+        ensures start { start_of self.new ≡ others_rested (now_of self.old) (start_of self.old) }
+        ensures back { OthersLead result (now_of self.old) (start_of self.old) }
+        ensures fits { FitsOthers result (now_of self.old) }
+        ensures sound { IsSound (now_of self.old) }
+    {
+        self.known();
+        if self.is_plain() {
+            return None;
+        }
+        Some(Others {
+            arrays: self.arrays.finish(alloc),
+            frames: self.frames.finish(alloc),
+            keys: self.keys.finish(alloc),
+            ranges: self.ranges.finish(alloc),
+            operands: self.operands.finish(alloc),
+        })
+    }
+
     /// Ends the step, and gives what it changed. It takes no memory.
     pub fn finish(&mut self, alloc: Global) -> Group
         ensures now { now_of self.new ≡ now_of self.old }
@@ -82,13 +99,10 @@ impl Store {
         ensures fits { FitsIn result (now_of self.old) }
         ensures sound { IsSound (now_of self.old) }
     {
+        let others = self.finish_others(alloc);
         Group {
             globals: self.globals.finish(alloc),
-            arrays: self.arrays.finish(alloc),
-            frames: self.frames.finish(alloc),
-            keys: self.keys.finish(alloc),
-            ranges: self.ranges.finish(alloc),
-            operands: self.operands.finish(alloc),
+            others,
             current: self.current.finish(alloc),
             output: self.output.finish(),
             registers: self.registers.finish(),
@@ -97,7 +111,7 @@ impl Store {
 
     /// What is so of the parts that few steps change. It does nothing.
     #[inline]
-    fn known(&self)
+    pub(crate) fn known(&self)
         ensures { IsSound (now_of self.now) }
     {
         self.arrays.known();
@@ -168,22 +182,44 @@ impl Store {
         self.registers.undo_step();
     }
 
+    /// Puts back what a step that ended changed in the parts that few steps change, and leaves the newer values there. It takes no memory and always succeeds.
+    pub(crate) fn undo_others(&mut self, others: &mut Option<Others>)
+        requires { FitsOthers others.old (now_of self.old) }
+        ensures now { now_of self.new ≡ others_put (now_of self.old) others.old }
+        ensures start { start_of self.new ≡ others_rested (now_of self.new) (start_of self.old) }
+        ensures sound { IsSound (now_of self.new) }
+        ensures newer { arrays_in self.new.arrays.now others.new ≡ self.old.arrays.now }
+    {
+        match others {
+            None => {
+                self.arrays.forget();
+                self.frames.forget();
+                self.keys.forget();
+                self.ranges.forget();
+                self.operands.forget();
+            }
+            Some(group) => {
+                self.arrays.undo(&mut group.arrays);
+                self.frames.undo(&mut group.frames);
+                self.keys.undo(&mut group.keys);
+                self.ranges.undo(&mut group.ranges);
+                self.operands.undo(&mut group.operands);
+            }
+        }
+    }
+
     /// Puts back what a step that ended changed, and leaves the newer values in the group. It takes no memory and always succeeds.
     pub fn undo(&mut self, group: &mut Group)
         requires { FitsIn group.old (now_of self.old) }
         ensures now { now_of self.new ≡ put_back (now_of self.old) group.old }
         ensures rest { start_of self.new ≡ now_of self.new }
         ensures sound { IsSound (now_of self.new) }
-        ensures newer_globals { back self.new.globals.now group.new.globals.entries.items ≡ self.old.globals.now }
-        ensures newer_arrays { arrays_back self.new.arrays.now group.new.arrays ≡ self.old.arrays.now }
+        ensures newer_globals { back self.new.globals.now group.new.globals ≡ self.old.globals.now }
+        ensures newer_arrays { arrays_in self.new.arrays.now group.new.others ≡ self.old.arrays.now }
         ensures newer_record { record_back self.new.current.now group.new.current ≡ self.old.current.now }
     {
+        self.undo_others(&mut group.others);
         self.globals.undo(&mut group.globals);
-        self.arrays.undo(&mut group.arrays);
-        self.frames.undo(&mut group.frames);
-        self.keys.undo(&mut group.keys);
-        self.ranges.undo(&mut group.ranges);
-        self.operands.undo(&mut group.operands);
         self.current.undo(&mut group.current);
         self.output.undo(group.output);
         self.registers.undo(&mut group.registers);

@@ -5,21 +5,26 @@ use Rattle.std.proofs.Math.Seq.{drop-cons}
 use Rattle.rawk_parsing.specs.declared.parse_error.ParseError.{ParseError}
 use Rattle.rawk_parsing.specs.declared.parse_error.ParseError.TheVariants.{OutOfMemory}
 use Rattle.rawk_parsing.specs.declared.tree.Assignment.{Assignment}
-use Rattle.rawk_value.specs.declared.operator.Arithmetic.{Arithmetic}
+use Rattle.rawk_syntax.specs.declared.tree.Joiner.{Joiner}
 use Rattle.rawk_parsing.specs.declared.tree.Operator.{Operator}
+use Rattle.rawk_parsing.specs.declared.tree.Sign.{Sign}
+use Rattle.rawk_parsing.specs.declared.tree.Logic.{Logic}
+use Rattle.rawk_parsing.specs.declared.tree.Change.{Change}
 use Rattle.rawk_parsing.specs.declared.tree.Operator.TheVariants as op
 use Rattle.rawk_parsing.specs.declared.tree.Name as word
 use Rattle.rawk_parsing.specs.declared.tree.Expr.{Expr, out-Expr, roll-Expr, roll-out-Expr, map-Expr, fold-roll-Expr, fold_out-Expr}
 use Rattle.rawk_parsing.specs.declared.tree.Expr.TheVariants as tree
-use Rattle.rawk_parsing.specs.declared.tree.Expr.TheVariants.{rolls-Number, rolls-Text, rolls-Of, rolls-Group, rolls-Power, rolls-Chain, rolls-Assign}
+use Rattle.rawk_parsing.specs.declared.tree.Expr.TheVariants.{rolls-Number, rolls-Text, rolls-Of, rolls-Group, rolls-Signed, rolls-Power, rolls-Chain, rolls-Logic, rolls-Choice, rolls-Before, rolls-After, rolls-Assign}
 use Rattle.rawk_parsing.specs.declared.tree.Expr.TheOpen as expr
 use Rattle.rawk_parsing.specs.declared.tree.Expr.TheOpen.{Expr-F, Place-F, Link-F}
 use Rattle.rawk_parsing.specs.declared.tree.Link.{Link, fold_out-Link}
 use Rattle.rawk_parsing.specs.declared.tree.Place.{Place, out-Place, roll-Place, roll-out-Place, map-Place, fold-roll-Place, fold_out-Place}
 use Rattle.rawk_parsing.specs.declared.tree.Place.TheVariants as spot
+use Rattle.rawk_syntax.specs.declared.tree.Place as spot_place
 use Rattle.rawk_parsing.specs.declared.tree.Place.TheVariants.{rolls-Name, rolls-Field, rolls-Element}
 use Rattle.rawk_special.specs.Special.{is_special}
-use Rattle.rawk_syntax.specs.Covered.{Judges, Cover, unless, or_then, first_of, each, joiner, joins, expr_step, place_step, link_step, covers, place_cover, covers_link}
+use Rattle.rawk_syntax.specs.Meant.{Sense, stands}
+use Rattle.rawk_syntax.specs.Covered.{Judges, Cover, unless, or_then, first_of, each, can_change, joiner_of, joins, expr_step, place_step, link_step, covers, place_cover, covers_link}
 
 -- ---- tests and refusals
 
@@ -97,114 +102,138 @@ first_stops f xs i x e h at so here = ap (first_of f) (around xs i x h at) ∙ f
 
 -- ---- expressions
 
-covers_roll : (d : Expr-F Expr Place Link) → covers (roll-Expr d) ≡ expr_step (map-Expr Expr Place Link Bool Cover Bool covers place_cover covers_link d)
+covers_roll : (m : Sense) (d : Expr-F Expr Place Link) → covers m (roll-Expr d) ≡ expr_step (map-Expr Expr Place Link Bool Cover Bool (covers m) (place_cover m) (covers_link m) d)
 unfolding covers place_cover covers_link
-covers_roll d = fold-roll-Expr Bool Cover Bool expr_step place_step link_step d
+covers_roll m d = fold-roll-Expr Bool Cover Bool expr_step (place_step m) link_step d
 
 each_mapped : {A B : Type 0} (g : B → Bool) (f : A → B) (xs : List A) → each g (map f xs) ≡ each (λ x. g (f x)) xs
 each_mapped g f [] = refl
 each_mapped g f (x ∷ xs) = ap (λ b. g (f x) && b) (each_mapped g f xs)
 
-pub number_covers : (e : Expr) (n : _) → e ≡ tree.Number n → covers e ≡ true
-number_covers e n is = ap covers (is ∙ sym (rolls-Number n)) ∙ covers_roll (expr.Number n)
+pub number_covers : (m : Sense) (e : Expr) (n : _) → e ≡ tree.Number n → covers m e ≡ true
+number_covers m e n is = ap (covers m) (is ∙ sym (rolls-Number n)) ∙ covers_roll m (expr.Number n)
 
-pub text_covers : (e : Expr) (w : List ℕ) → e ≡ tree.Text w → covers e ≡ true
-text_covers e w is = ap covers (is ∙ sym (rolls-Text w)) ∙ covers_roll (expr.Text w)
+pub text_covers : (m : Sense) (e : Expr) (w : List ℕ) → e ≡ tree.Text w → covers m e ≡ true
+text_covers m e w is = ap (covers m) (is ∙ sym (rolls-Text w)) ∙ covers_roll m (expr.Text w)
 
-pub of_covers : (e : Expr) (p : Place) → e ≡ tree.Of p → covers e ≡ (place_cover p).reads
-of_covers e p is = ap covers (is ∙ sym (rolls-Of p)) ∙ covers_roll (expr.Of p)
+pub of_covers : (m : Sense) (e : Expr) (p : Place) → e ≡ tree.Of p → covers m e ≡ (place_cover m p).reads
+of_covers m e p is = ap (covers m) (is ∙ sym (rolls-Of p)) ∙ covers_roll m (expr.Of p)
 
-pub group_covers : (e x y : Expr) → e ≡ tree.Group x → y ≡ x → covers e ≡ covers y
-group_covers e x y is same = ap covers (is ∙ sym (rolls-Group x)) ∙ covers_roll (expr.Group x) ∙ ap covers (sym same)
+pub group_covers : (m : Sense) (e x y : Expr) → e ≡ tree.Group x → y ≡ x → covers m e ≡ covers m y
+group_covers m e x y is same = ap (covers m) (is ∙ sym (rolls-Group x)) ∙ covers_roll m (expr.Group x) ∙ ap (covers m) (sym same)
 
-pub power_covers : (e x y v w : Expr) → e ≡ tree.Power x v → y ≡ x → w ≡ v → covers e ≡ (covers y && covers w)
-power_covers e x y v w is same other = ap covers (is ∙ sym (rolls-Power x v)) ∙ covers_roll (expr.Power x v) ∙ ap (λ a. a && covers v) (ap covers (sym same)) ∙ ap (λ a. covers y && a) (ap covers (sym other))
+pub signed_covers : (m : Sense) (e x y : Expr) (s : Sign) → e ≡ tree.Signed s x → y ≡ x → covers m e ≡ covers m y
+signed_covers m e x y s is same = ap (covers m) (is ∙ sym (rolls-Signed s x)) ∙ covers_roll m (expr.Signed s x) ∙ ap (covers m) (sym same)
 
-pub chain_covers : (e x y : Expr) (xs ys : List Link) → e ≡ tree.Chain x xs → y ≡ x → ys ≡ xs → covers e ≡ (covers y && each covers_link ys)
-chain_covers e x y xs ys is same all =
-    ap covers (is ∙ sym (rolls-Chain x xs)) ∙ covers_roll (expr.Chain x xs) ∙ ap (λ a. covers x && a) (each_mapped (λ b. b) covers_link xs)
-    ∙ ap (λ a. a && each covers_link xs) (ap covers (sym same)) ∙ ap (λ a. covers y && a) (ap (each covers_link) (sym all))
+pub power_covers : (m : Sense) (e x y v w : Expr) → e ≡ tree.Power x v → y ≡ x → w ≡ v → covers m e ≡ (covers m y && covers m w)
+power_covers m e x y v w is same other =
+    ap (covers m) (is ∙ sym (rolls-Power x v)) ∙ covers_roll m (expr.Power x v) ∙ ap (λ a. a && covers m v) (ap (covers m) (sym same)) ∙ ap (λ a. covers m y && a) (ap (covers m) (sym other))
 
-pub assign_covers : (e x y : Expr) (how : Assignment) (p : Place) → e ≡ tree.Assign how p x → y ≡ x → covers e ≡ ((place_cover p).sets && covers y)
-assign_covers e x y how p is same = ap covers (is ∙ sym (rolls-Assign how p x)) ∙ covers_roll (expr.Assign how p x) ∙ ap (λ a. (place_cover p).sets && a) (ap covers (sym same))
+pub chain_covers : (m : Sense) (e x y : Expr) (xs ys : List Link) → e ≡ tree.Chain x xs → y ≡ x → ys ≡ xs → covers m e ≡ (covers m y && each (covers_link m) ys)
+chain_covers m e x y xs ys is same all =
+    ap (covers m) (is ∙ sym (rolls-Chain x xs)) ∙ covers_roll m (expr.Chain x xs) ∙ ap (λ a. covers m x && a) (each_mapped (λ b. b) (covers_link m) xs)
+    ∙ ap (λ a. a && each (covers_link m) xs) (ap (covers m) (sym same)) ∙ ap (λ a. covers m y && a) (ap (each (covers_link m)) (sym all))
 
-covers_out : (e : Expr) → covers e ≡ expr_step (map-Expr Expr Place Link Bool Cover Bool covers place_cover covers_link (out-Expr e))
+pub assign_covers : (m : Sense) (e x y : Expr) (how : Assignment) (p : Place) → e ≡ tree.Assign how p x → y ≡ x → covers m e ≡ ((place_cover m p).sets && ((place_cover m p).reads && covers m y))
+assign_covers m e x y how p is same =
+    ap (covers m) (is ∙ sym (rolls-Assign how p x)) ∙ covers_roll m (expr.Assign how p x) ∙ ap (λ a. (place_cover m p).sets && ((place_cover m p).reads && a)) (ap (covers m) (sym same))
+
+pub logic_covers : (m : Sense) (e : Expr) (l : Logic) (xs ys : List Expr) → e ≡ tree.Logic l xs → ys ≡ xs → covers m e ≡ each (covers m) ys
+logic_covers m e l xs ys is all =
+    ap (covers m) (is ∙ sym (rolls-Logic l xs)) ∙ covers_roll m (expr.Logic l xs) ∙ each_mapped (λ b. b) (covers m) xs ∙ ap (each (covers m)) (sym all)
+
+pub choice_covers : (m : Sense) (e x y v w a b : Expr) → e ≡ tree.Choice x v a → y ≡ x → w ≡ v → b ≡ a → covers m e ≡ (covers m y && (covers m w && covers m b))
+choice_covers m e x y v w a b is one two three =
+    ap (covers m) (is ∙ sym (rolls-Choice x v a)) ∙ covers_roll m (expr.Choice x v a) ∙ ap (λ z. covers m z && (covers m v && covers m a)) (sym one)
+    ∙ ap (λ z. covers m y && (covers m z && covers m a)) (sym two) ∙ ap (λ z. covers m y && (covers m w && covers m z)) (sym three)
+
+pub before_covers : (m : Sense) (e : Expr) (c : Change) (p : Place) → e ≡ tree.Before c p → covers m e ≡ can_change (place_cover m p)
+before_covers m e c p is = ap (covers m) (is ∙ sym (rolls-Before c p)) ∙ covers_roll m (expr.Before c p)
+
+pub after_covers : (m : Sense) (e : Expr) (c : Change) (p : Place) → e ≡ tree.After c p → covers m e ≡ can_change (place_cover m p)
+after_covers m e c p is = ap (covers m) (is ∙ sym (rolls-After c p)) ∙ covers_roll m (expr.After c p)
+
+covers_out : (m : Sense) (e : Expr) → covers m e ≡ expr_step (map-Expr Expr Place Link Bool Cover Bool (covers m) (place_cover m) (covers_link m) (out-Expr e))
 unfolding covers place_cover covers_link
-covers_out e = fold_out-Expr Bool Cover Bool expr_step place_step link_step e
+covers_out m e = fold_out-Expr Bool Cover Bool expr_step (place_step m) link_step e
 
 -- no other expression is covered
-pub other_covers : (e : Expr) → ((n : ℤ) → e ≡ tree.Number n → ⊥) → ((w : List ℕ) → e ≡ tree.Text w → ⊥) → ((p : Place) → e ≡ tree.Of p → ⊥) → ((x : Expr) → e ≡ tree.Group x → ⊥)
-    → ((x y : Expr) → e ≡ tree.Power x y → ⊥) → ((x : Expr) (xs : List Link) → e ≡ tree.Chain x xs → ⊥) → ((how : Assignment) (p : Place) (x : Expr) → e ≡ tree.Assign how p x → ⊥) → covers e ≡ false
-other_covers e number text place group power chain assign = covers_out e ∙ go (out-Expr e) (sym (roll-out-Expr e))
+pub other_covers : (m : Sense) (e : Expr) → ((n : ℤ) → e ≡ tree.Number n → ⊥) → ((w : List ℕ) → e ≡ tree.Text w → ⊥) → ((p : Place) → e ≡ tree.Of p → ⊥) → ((x : Expr) → e ≡ tree.Group x → ⊥)
+    → ((s : Sign) (x : Expr) → e ≡ tree.Signed s x → ⊥) → ((x y : Expr) → e ≡ tree.Power x y → ⊥) → ((x : Expr) (xs : List Link) → e ≡ tree.Chain x xs → ⊥) → ((l : Logic) (xs : List Expr) → e ≡ tree.Logic l xs → ⊥) → ((x y z : Expr) → e ≡ tree.Choice x y z → ⊥) → ((c : Change) (p : Place) → e ≡ tree.Before c p → ⊥) → ((c : Change) (p : Place) → e ≡ tree.After c p → ⊥)
+    → ((how : Assignment) (p : Place) (x : Expr) → e ≡ tree.Assign how p x → ⊥) → covers m e ≡ false
+other_covers m e number text place group signed power chain logic choice before after assign = covers_out m e ∙ go (out-Expr e) (sym (roll-out-Expr e))
   where
-    go : (d : Expr-F Expr Place Link) → e ≡ roll-Expr d → expr_step (map-Expr Expr Place Link Bool Cover Bool covers place_cover covers_link d) ≡ false
+    go : (d : Expr-F Expr Place Link) → e ≡ roll-Expr d → expr_step (map-Expr Expr Place Link Bool Cover Bool (covers m) (place_cover m) (covers_link m) d) ≡ false
     go (expr.Number n) q = absurd (number n (q ∙ rolls-Number n))
     go (expr.Text w) q = absurd (text w (q ∙ rolls-Text w))
     go (expr.Of p) q = absurd (place p (q ∙ rolls-Of p))
     go (expr.Group x) q = absurd (group x (q ∙ rolls-Group x))
+    go (expr.Signed s x) q = absurd (signed s x (q ∙ rolls-Signed s x))
     go (expr.Power x y) q = absurd (power x y (q ∙ rolls-Power x y))
     go (expr.Chain x xs) q = absurd (chain x xs (q ∙ rolls-Chain x xs))
+    go (expr.Logic l xs) q = absurd (logic l xs (q ∙ rolls-Logic l xs))
+    go (expr.Choice x y z) q = absurd (choice x y z (q ∙ rolls-Choice x y z))
+    go (expr.Before c p) q = absurd (before c p (q ∙ rolls-Before c p))
+    go (expr.After c p) q = absurd (after c p (q ∙ rolls-After c p))
     go (expr.Assign how p x) q = absurd (assign how p x (q ∙ rolls-Assign how p x))
     go _ q = refl
 
 -- ---- places
 
-place_roll : (d : Place-F Expr Place Link) → place_cover (roll-Place d) ≡ place_step (map-Place Expr Place Link Bool Cover Bool covers place_cover covers_link d)
+place_roll : (m : Sense) (d : Place-F Expr Place Link) → place_cover m (roll-Place d) ≡ place_step m (map-Place Expr Place Link Bool Cover Bool (covers m) (place_cover m) (covers_link m) d)
 unfolding covers place_cover covers_link
-place_roll d = fold-roll-Place Bool Cover Bool expr_step place_step link_step d
+place_roll m d = fold-roll-Place Bool Cover Bool expr_step (place_step m) link_step d
 
-abbrev named : word.Name → Cover
-named n = record { reads = true; sets = not (is_special n.word) }
+abbrev named : Sense → word.Name → Cover
+named m n = record { reads = stands (m n.word); sets = not (is_special n.word) }
 
-pub name_cover : (p : Place) (n : word.Name) → p ≡ spot.Name n → place_cover p ≡ named n
-name_cover p n is = ap place_cover (is ∙ sym (rolls-Name n)) ∙ place_roll (expr.Name n)
+pub name_cover : (m : Sense) (p : Place) (n : word.Name) → p ≡ spot.Name n → place_cover m p ≡ named m n
+name_cover m p n is = ap (place_cover m) (is ∙ sym (rolls-Name n)) ∙ place_roll m (expr.Name n)
+
+-- what a name stands for, or that it stands for nothing
+pub name_reads : (m : Sense) (p : Place) (n : word.Name) (w : List ℕ) (o : Option spot_place.Place) → p ≡ spot.Name n → w ≡ n.word → o ≡ m w → (place_cover m p).reads ≡ stands o
+name_reads m p n w o is same found = ap (λ k. k.reads) (name_cover m p n is) ∙ ap (λ v. stands (m v)) (sym same) ∙ ap stands (sym found)
 
 abbrev numbered : Bool → Cover
 numbered b = record { reads = b; sets = false }
 
-pub field_cover : (p : Place) (x y : Expr) → p ≡ spot.Field x → y ≡ x → place_cover p ≡ numbered (covers y)
-field_cover p x y is same = ap place_cover (is ∙ sym (rolls-Field x)) ∙ place_roll (expr.Field x) ∙ ap (λ z. numbered (covers z)) (sym same)
+pub field_cover : (m : Sense) (p : Place) (x y : Expr) → p ≡ spot.Field x → y ≡ x → place_cover m p ≡ numbered (covers m y)
+field_cover m p x y is same = ap (place_cover m) (is ∙ sym (rolls-Field x)) ∙ place_roll m (expr.Field x) ∙ ap (λ z. numbered (covers m z)) (sym same)
 
-pub element_cover : (p : Place) (n : word.Name) (es : List Expr) → p ≡ spot.Element n es → place_cover p ≡ numbered false
-element_cover p n es is = ap place_cover (is ∙ sym (rolls-Element n es)) ∙ place_roll (expr.Element n es)
+pub element_cover : (m : Sense) (p : Place) (n : word.Name) (es : List Expr) → p ≡ spot.Element n es → place_cover m p ≡ numbered false
+element_cover m p n es is = ap (place_cover m) (is ∙ sym (rolls-Element n es)) ∙ place_roll m (expr.Element n es)
 
-place_out : (p : Place) → place_cover p ≡ place_step (map-Place Expr Place Link Bool Cover Bool covers place_cover covers_link (out-Place p))
+place_out : (m : Sense) (p : Place) → place_cover m p ≡ place_step m (map-Place Expr Place Link Bool Cover Bool (covers m) (place_cover m) (covers_link m) (out-Place p))
 unfolding covers place_cover covers_link
-place_out p = fold_out-Place Bool Cover Bool expr_step place_step link_step p
+place_out m p = fold_out-Place Bool Cover Bool expr_step (place_step m) link_step p
 
 -- nothing but a name can be assigned
-pub other_cover : (p : Place) → ((n : word.Name) → p ≡ spot.Name n → ⊥) → (place_cover p).sets ≡ false
-other_cover p name = ap (λ c. c.sets) (place_out p) ∙ go (out-Place p) (sym (roll-out-Place p))
+pub other_cover : (m : Sense) (p : Place) → ((n : word.Name) → p ≡ spot.Name n → ⊥) → (place_cover m p).sets ≡ false
+other_cover m p name = ap (λ c. c.sets) (place_out m p) ∙ go (out-Place p) (sym (roll-out-Place p))
   where
-    go : (d : Place-F Expr Place Link) → p ≡ roll-Place d → (place_step (map-Place Expr Place Link Bool Cover Bool covers place_cover covers_link d)).sets ≡ false
+    go : (d : Place-F Expr Place Link) → p ≡ roll-Place d → (place_step m (map-Place Expr Place Link Bool Cover Bool (covers m) (place_cover m) (covers_link m) d)).sets ≡ false
     go (expr.Name n) q = absurd (name n (q ∙ rolls-Name n))
     go (expr.Element n es) q = refl
     go (expr.Field e) q = refl
 
--- what can be assigned can be read
-pub sets_reads : (p : Place) → (place_cover p).sets ≡ true → (place_cover p).reads ≡ true
-sets_reads p h = ap (λ c. c.reads) (place_out p) ∙ go (out-Place p) (ap (λ c. c.sets) (sym (place_out p)) ∙ h)
-  where
-    go : (d : Place-F Expr Place Link) → (place_step (map-Place Expr Place Link Bool Cover Bool covers place_cover covers_link d)).sets ≡ true
-        → (place_step (map-Place Expr Place Link Bool Cover Bool covers place_cover covers_link d)).reads ≡ true
-    go (expr.Name n) g = refl
-    go (expr.Element n es) g = cc
-    go (expr.Field e) g = cc
-
 -- ---- links
 
-pub link_covers : (l : Link) → covers_link l ≡ (joins l.operator && covers l.operand)
+pub link_covers : (m : Sense) (l : Link) → covers_link m l ≡ (joins l.operator && covers m l.operand)
 unfolding covers place_cover covers_link
-link_covers l = fold_out-Link Bool Cover Bool expr_step place_step link_step l
+link_covers m l = fold_out-Link Bool Cover Bool expr_step (place_step m) link_step l
 
-pub joiner_joins : (o : Operator) (operator : Arithmetic) → joiner o ≡ Some operator → joins o ≡ true
+pub joiner_joins : (o : Operator) (j : Joiner) → joiner_of o ≡ Some j → joins o ≡ true
 joiner_joins (op.Arithmetic x) operator h = refl
+joiner_joins (op.Comparison x) operator h = refl
+joiner_joins op.Concat operator h = refl
 joiner_joins _ operator h = cc
 
-pub joiner_not : (o : Operator) → ((operator : Arithmetic) → joiner o ≡ Some operator → ⊥) → joins o ≡ false
-joiner_not (op.Arithmetic x) h = absurd (h x refl)
+pub joiner_not : (o : Operator) → ((j : Joiner) → joiner_of o ≡ Some j → ⊥) → joins o ≡ false
+joiner_not (op.Arithmetic x) h = absurd (h _ refl)
+joiner_not (op.Comparison x) h = absurd (h _ refl)
+joiner_not op.Concat h = absurd (h _ refl)
 joiner_not _ h = refl
 
-pub none_uncovered : (es : List Expr) (left : ℕ) → length es ≡ 0 → unless (each covers es) left ≡ None
-none_uncovered [] left h = refl
-none_uncovered (e ∷ es) left h = absurd (let no : suc (length es) ≡ 0 = h in omega arith)
+pub none_uncovered : (m : Sense) (es : List Expr) (left : ℕ) → length es ≡ 0 → unless (each (covers m) es) left ≡ None
+none_uncovered m [] left h = refl
+none_uncovered m (e ∷ es) left h = absurd (let no : suc (length es) ≡ 0 = h in omega arith)

@@ -1,10 +1,16 @@
 -- The steps of settling statements and items, over plain variables.
-use Rattle.std.proofs.Common.{◌≡◌, ℕ, ◌+◌, ◌<◌, List, [], ◌∷◌, ◌++◌, length, take, get_or, Result, Ok, Err, IfOk, refl, sym, ap, subst, ◌∙◌, pos}
+use Rattle.std.proofs.Common.{◌≡◌, ℕ, ◌+◌, ◌<◌, List, [], ◌∷◌, ◌++◌, length, take, get_or, Option, None, Some, Result, Ok, Err, IfOk, refl, sym, ap, subst, ◌∙◌, pos}
 use Rattle.std.proofs.lemmas.List.{take_more}
-use Rattle.std.specs.Global.{Vec}
+use Rattle.std.specs.Global.{Box, Vec}
+use Rattle.std.specs.Result.{result_map_both}
 use Rattle.rawk_parsing.specs.declared.tree.Expr as parsed
 use Rattle.rawk_grammar.specs.declared.tree.Act.TheVariants as act
 use Rattle.rawk_grammar.specs.declared.tree.Simple.{Simple}
+use Rattle.rawk_grammar.specs.declared.tree.Jump.{Jump}
+use Rattle.rawk_grammar.specs.declared.tree.Jump.TheVariants as jump
+use Rattle.rawk_grammar.specs.declared.tree.Condition.{Condition}
+use Rattle.rawk_grammar.specs.declared.tree.Branch as branching
+use Rattle.rawk_grammar.specs.declared.tree.Head.{Head}
 use Rattle.rawk_grammar.specs.declared.tree.Stmt as step
 use Rattle.rawk_grammar.specs.declared.tree.Stmt.TheVariants as from
 use Rattle.rawk_grammar.specs.declared.tree.Pattern.{Pattern}
@@ -17,106 +23,240 @@ use Rattle.rawk_grammar.specs.Statement.{simple_at}
 use Rattle.rawk_syntax.specs.declared.tree.Expr.{Expr}
 use Rattle.rawk_syntax.specs.declared.tree.Stmt.{Stmt}
 use Rattle.rawk_syntax.specs.declared.tree.Stmt.TheVariants as tree
+use Rattle.rawk_syntax.specs.declared.tree.Branch.{Branch}
 use Rattle.rawk_syntax.specs.declared.tree.Expr.TheVariants as expr
+use Rattle.rawk_syntax.specs.declared.statements.LoopHead.{LoopHead}
 use Rattle.rawk_syntax.specs.declared.tree.Rule.{Rule}
 use Rattle.rawk_syntax.specs.declared.tree.Program.{Program}
-use Rattle.rawk_syntax.specs.Settled.{Names, Settles, AnExpr, Prints}
+use Rattle.rawk_syntax.specs.Meant.{Sense}
+use Rattle.rawk_syntax.specs.Settled.{Settles, AnExpr, Prints}
 use Rattle.rawk_syntax.specs.Laid as spec
-use Rattle.rawk_syntax.specs.Laid.{Met, met, sited, rule_of, Simply, Lays, AStmt, SomeStmts, Does, Rules, IsLaidWith}
+use Rattle.rawk_syntax.specs.Laid.{sited, rule_of, Simply, Exits, Jumps, Tests, Lays, AStmt, SomeStmts, AnOther, SomeBranches, Heads, branch_with, head_with, for_with, Does, Rules, IsLaidWith}
 
 simple_is : (x : Simple) → x ≡ simple_at x.left x.act
 unfolding simple_at
 simple_is x = refl
 
-pub evaluate_lays : (text : List ℕ) (x : Simple) (e y : parsed.Expr) (s : Expr) (a b : Names) (n : ℕ) (old new : List ℕ)
-    → x.act ≡ act.Evaluate e → y ≡ e → n ≡ length old → new ≡ sited text x.left old → Settles (AnExpr y s) a b → Simply text x (tree.Do n s) (met a old) (met b new)
-evaluate_lays text x e y s a b n old new is same count lines h =
-    let g : Settles (AnExpr e s) a b = subst (λ (z : parsed.Expr). Settles (AnExpr z s) a b) same h in
+pub evaluate_lays : (means : Sense) (text : List ℕ) (x : Simple) (e y : parsed.Expr) (s : Expr) (n : ℕ) (old new : List ℕ)
+    → x.act ≡ act.Evaluate e → y ≡ e → n ≡ length old → new ≡ sited text x.left old → Settles means (AnExpr y s) → Simply text means x (tree.Do n s) old new
+evaluate_lays means text x e y s n old new is same count lines h =
+    let g : Settles means (AnExpr e s) = subst (λ (z : parsed.Expr). Settles means (AnExpr z s)) same h in
     let k : simple_at x.left (act.Evaluate e) ≡ x = sym (simple_is x ∙ ap (simple_at x.left) is) in
-    let whole : Simply text (simple_at x.left (act.Evaluate e)) (tree.Do (length old) s) (met a old) (met b (sited text x.left old)) = spec.evaluate x.left e g in
-    let counted : Simply text (simple_at x.left (act.Evaluate e)) (tree.Do n s) (met a old) (met b new) = rw (count, lines) whole in
-    subst (λ z. Simply text z (tree.Do n s) (met a old) (met b new)) k counted
+    let whole : Simply text means (simple_at x.left (act.Evaluate e)) (tree.Do (length old) s) old (sited text x.left old) = spec.evaluate x.left e g in
+    let counted : Simply text means (simple_at x.left (act.Evaluate e)) (tree.Do n s) old new = rw (count, lines) whole in
+    subst (λ z. Simply text means z (tree.Do n s) old new) k counted
 
-pub print_lays : (text : List ℕ) (x : Simple) (es ys : List parsed.Expr) (ss : Vec Expr) (a b : Names) (n : ℕ) (old new : List ℕ)
-    → x.act ≡ act.Print es → ys ≡ es → n ≡ length old → new ≡ sited text x.left old → Prints ys ss.items a b → Simply text x (tree.Print n ss) (met a old) (met b new)
-print_lays text x es ys ss a b n old new is same count lines h =
-    let g : Prints es ss.items a b = subst (λ (z : List parsed.Expr). Prints z ss.items a b) same h in
+pub print_lays : (means : Sense) (text : List ℕ) (x : Simple) (es ys : List parsed.Expr) (ss : Vec Expr) (n : ℕ) (old new : List ℕ)
+    → x.act ≡ act.Print es → ys ≡ es → n ≡ length old → new ≡ sited text x.left old → Prints means ys ss.items → Simply text means x (tree.Print n ss) old new
+print_lays means text x es ys ss n old new is same count lines h =
+    let g : Prints means es ss.items = subst (λ (z : List parsed.Expr). Prints means z ss.items) same h in
     let k : simple_at x.left (act.Print es) ≡ x = sym (simple_is x ∙ ap (simple_at x.left) is) in
-    let whole : Simply text (simple_at x.left (act.Print es)) (tree.Print (length old) ss) (met a old) (met b (sited text x.left old)) = spec.print x.left es ss g in
-    let counted : Simply text (simple_at x.left (act.Print es)) (tree.Print n ss) (met a old) (met b new) = rw (count, lines) whole in
-    subst (λ z. Simply text z (tree.Print n ss) (met a old) (met b new)) k counted
+    let whole : Simply text means (simple_at x.left (act.Print es)) (tree.Print (length old) ss) old (sited text x.left old) = spec.print x.left es ss g in
+    let counted : Simply text means (simple_at x.left (act.Print es)) (tree.Print n ss) old new = rw (count, lines) whole in
+    subst (λ z. Simply text means z (tree.Print n ss) old new) k counted
 
-pub empty_lays : (text : List ℕ) (s : step.Stmt) (ts : Vec Stmt) (m : Met) → s ≡ from.Empty → ts.items ≡ [] → Lays text (AStmt s (tree.Block ts)) m m
-empty_lays text s ts m is none = rw is (spec.empty ts none)
+pub empty_lays : (means : Sense) (text : List ℕ) (s : step.Stmt) (ts : Vec Stmt) (m : List ℕ) → s ≡ from.Empty → ts.items ≡ [] → Lays text means (AStmt s (tree.Block ts)) m m
+empty_lays means text s ts m is none = rw is (spec.empty ts none)
 
-pub simple_lays : {E : Type 0} (r : Result Stmt E) (text : List ℕ) (s : step.Stmt) (x y : Simple) (m n : Met) → s ≡ from.Simple x → y ≡ x → IfOk r (λ t. Simply text y t m n) → IfOk r (λ t. Lays text (AStmt s t) m n)
-simple_lays (Ok t) text s x y m n is same h = let g : Simply text x t m n = subst (λ z. Simply text z t m n) same h in rw is (spec.simple g)
-simple_lays (Err e) text s x y m n is same h = tt
+pub simple_lays : (means : Sense) {E : Type 0} (r : Result Stmt E) (text : List ℕ) (s : step.Stmt) (x y : Simple) (m n : List ℕ) → s ≡ from.Simple x → y ≡ x → IfOk r (λ t. Simply text means y t m n) → IfOk r (λ t. Lays text means (AStmt s t) m n)
+simple_lays means (Ok t) text s x y m n is same h = let g : Simply text means x t m n = subst (λ z. Simply text means z t m n) same h in rw is (spec.simple g)
+simple_lays means (Err e) text s x y m n is same h = tt
 
-pub block_lays : (text : List ℕ) (s : step.Stmt) (ss zs : List step.Stmt) (ts : Vec Stmt) (m n : Met) → s ≡ from.Block ss → zs ≡ ss → Lays text (SomeStmts zs ts.items) m n → Lays text (AStmt s (tree.Block ts)) m n
-block_lays text s ss zs ts m n is same h = let g : Lays text (SomeStmts ss ts.items) m n = subst (λ (z : List step.Stmt). Lays text (SomeStmts z ts.items) m n) same h in rw is (spec.block ts g)
+pub block_lays : (means : Sense) (text : List ℕ) (s : step.Stmt) (ss zs : List step.Stmt) (ts : Vec Stmt) (m n : List ℕ) → s ≡ from.Block ss → zs ≡ ss → Lays text means (SomeStmts zs ts.items) m n → Lays text means (AStmt s (tree.Block ts)) m n
+block_lays means text s ss zs ts m n is same h = let g : Lays text means (SomeStmts ss ts.items) m n = subst (λ (z : List step.Stmt). Lays text means (SomeStmts z ts.items) m n) same h in rw is (spec.block ts g)
 
-pub more_lays : (text u : List ℕ) (xs : List step.Stmt) (i : ℕ) (x y : step.Stmt) (ts zs : List Stmt) (t : Stmt) (m n o : Met)
-    → i < length xs → x ≡ get_or xs i x → y ≡ x → u ≡ text → zs ≡ ts ++ t ∷ [] → Lays text (SomeStmts (take i xs) ts) m n → Lays u (AStmt y t) n o → Lays text (SomeStmts (take (i + 1) xs) zs) m o
-more_lays text u xs i x y ts zs t m n o h at same there more g f =
-    let k : Lays text (AStmt x t) n o = subst (λ (z : step.Stmt). Lays text (AStmt z t) n o) same (subst (λ v. Lays v (AStmt y t) n o) there f) in
+pub more_lays : (means : Sense) (text u : List ℕ) (xs : List step.Stmt) (i : ℕ) (x y : step.Stmt) (ts zs : List Stmt) (t : Stmt) (m n o : List ℕ)
+    → i < length xs → x ≡ get_or xs i x → y ≡ x → u ≡ text → zs ≡ ts ++ t ∷ [] → Lays text means (SomeStmts (take i xs) ts) m n → Lays u means (AStmt y t) n o → Lays text means (SomeStmts (take (i + 1) xs) zs) m o
+more_lays means text u xs i x y ts zs t m n o h at same there more g f =
+    let k : Lays text means (AStmt x t) n o = subst (λ (z : step.Stmt). Lays text means (AStmt z t) n o) same (subst (λ v. Lays v means (AStmt y t) n o) there f) in
     let e : take (i + 1) xs ≡ take i xs ++ x ∷ [] = take_more xs i x h ∙ ap (λ z. take i xs ++ z ∷ []) (sym at) in
     rw (e, more) (spec.a_statement g k)
 
+-- ---- jumps, conditions, choices and loops
+
+pub jump_lays : (means : Sense) {E : Type 0} (r : Result Stmt E) (text : List ℕ) (s : step.Stmt) (left : ℕ) (j k : Jump) (m n : List ℕ) → s ≡ from.Jump left j → k ≡ j → IfOk r (λ t. Jumps text means left k t m n) → IfOk r (λ t. Lays text means (AStmt s t) m n)
+jump_lays means (Ok t) text s left j k m n is same h = let g : Jumps text means left j t m n = subst (λ z. Jumps text means left z t m n) same h in rw is (spec.jumping left g)
+jump_lays means (Err e) text s left j k m n is same h = tt
+
+pub breaks : (means : Sense) (text : List ℕ) (left : ℕ) (j : Jump) (n : ℕ) (old new : List ℕ) → j ≡ jump.Break → n ≡ length old → new ≡ sited text left old → Jumps text means left j (tree.Break n) old new
+breaks means text left j n old new is count lines = rw (is, count, lines) (spec.breaks left)
+
+pub continues : (means : Sense) (text : List ℕ) (left : ℕ) (j : Jump) (n : ℕ) (old new : List ℕ) → j ≡ jump.Continue → n ≡ length old → new ≡ sited text left old → Jumps text means left j (tree.Continue n) old new
+continues means text left j n old new is count lines = rw (is, count, lines) (spec.continues left)
+
+pub goes_next : (means : Sense) (text : List ℕ) (left : ℕ) (j : Jump) (n : ℕ) (old new : List ℕ) → j ≡ jump.Next → n ≡ length old → new ≡ sited text left old → Jumps text means left j (tree.Next n) old new
+goes_next means text left j n old new is count lines = rw (is, count, lines) (spec.goes_next left)
+
+pub bare_exit : (means : Sense) (site : ℕ) (o : Option parsed.Expr) → o ≡ None → Exits means site o (tree.Exit site)
+bare_exit means site o is = rw is (spec.bare site)
+
+pub status_exit : (means : Sense) (site : ℕ) (o : Option parsed.Expr) (e y : parsed.Expr) (s : Expr) → o ≡ Some e → y ≡ e → Settles means (AnExpr y s) → Exits means site o (tree.ExitWith site s)
+status_exit means site o e y s is same h = let g : Settles means (AnExpr e s) = subst (λ (z : parsed.Expr). Settles means (AnExpr z s)) same h in rw is (spec.with_status site g)
+
+pub exit_jumps : (means : Sense) {E : Type 0} (r : Result Stmt E) (text : List ℕ) (left : ℕ) (j : Jump) (o : Option parsed.Expr) (n : ℕ) (old new : List ℕ) → j ≡ jump.Exit o → n ≡ length old → new ≡ sited text left old → IfOk r (λ t. Exits means n o t) → IfOk r (λ t. Jumps text means left j t old new)
+exit_jumps means (Ok t) text left j o n old new is count lines h = let g : Exits means (length old) o t = subst (λ k. Exits means k o t) count h in rw (is, lines) (spec.exits left g)
+exit_jumps means (Err e) text left j o n old new is count lines h = tt
+
+pub missing_tests : (means : Sense) (o : Option parsed.Expr) → o ≡ None → Tests means o (expr.Number (pos 1))
+missing_tests means o is = rw is spec.missing_test
+
+pub given_tests : (means : Sense) {E : Type 0} (r : Result Expr E) (o : Option parsed.Expr) (e y : parsed.Expr) → o ≡ Some e → y ≡ e → IfOk r (λ s. Settles means (AnExpr y s)) → IfOk r (λ s. Tests means o s)
+given_tests means (Ok s) o e y is same h = let g : Settles means (AnExpr e s) = subst (λ (z : parsed.Expr). Settles means (AnExpr z s)) same h in rw is (spec.given_test g)
+given_tests means (Err f) o e y is same h = tt
+
+-- a statement that was boxed, from where it was settled
+moved : (means : Sense) (text u : List ℕ) (x y : step.Stmt) (t : Stmt) (b : Box Stmt) (m l n : List ℕ) → u ≡ text → y ≡ x → b.value ≡ t → l ≡ m → Lays u means (AStmt y t) l n → Lays text means (AStmt x b.value) m n
+moved means text u x y t b m l n there same held lines h =
+    let h1 : Lays text means (AStmt y t) l n = subst (λ v. Lays v means (AStmt y t) l n) there h in
+    let h2 : Lays text means (AStmt x t) l n = subst (λ (z : step.Stmt). Lays text means (AStmt z t) l n) same h1 in
+    let h3 : Lays text means (AStmt x b.value) l n = subst (λ (v : Stmt). Lays text means (AStmt x v) l n) (sym held) h2 in
+    subst (λ v. Lays text means (AStmt x b.value) v n) lines h3
+
+pub while_lays : (means : Sense) (text u : List ℕ) (s : step.Stmt) (c d : Condition) (x y : step.Stmt) (e : Expr) (t : Stmt) (b : Box Stmt) (k : ℕ) (m l n : List ℕ)
+    → s ≡ from.While c x → d ≡ c → y ≡ x → k ≡ length m → Settles means (AnExpr d.test e) → l ≡ sited text d.left m → u ≡ text → b.value ≡ t → Lays u means (AStmt y t) l n → Lays text means (AStmt s (tree.While k e b)) m n
+while_lays means text u s c d x y e t b k m l n is same body count h lines there held f =
+    let g : Settles means (AnExpr c.test e) = subst (λ (z : Condition). Settles means (AnExpr z.test e)) same h in
+    let from_is : l ≡ sited text c.left m = lines ∙ ap (λ (z : Condition). sited text z.left m) same in
+    rw (is, count) (spec.repeats b g (moved means text u x y t b (sited text c.left m) l n there body held from_is f))
+
+pub do_lays : (means : Sense) (text u : List ℕ) (s : step.Stmt) (c d : Condition) (x y : step.Stmt) (e : Expr) (t : Stmt) (b : Box Stmt) (k : ℕ) (m l n : List ℕ)
+    → s ≡ from.Do x c → d ≡ c → y ≡ x → k ≡ length l → Settles means (AnExpr d.test e) → n ≡ sited u d.left l → u ≡ text → b.value ≡ t → Lays text means (AStmt y t) m l → Lays text means (AStmt s (tree.DoWhile b k e)) m n
+do_lays means text u s c d x y e t b k m l n is same body count h lines there held f =
+    let g : Settles means (AnExpr c.test e) = subst (λ (z : Condition). Settles means (AnExpr z.test e)) same h in
+    let to_is : n ≡ sited text c.left l = lines ∙ ap (λ v. sited v d.left l) there ∙ ap (λ (z : Condition). sited text z.left l) same in
+    rw (is, count, to_is) (spec.repeats_behind b (moved means text text x y t b m m l refl body held refl f) g)
+
+other_moved : (means : Sense) (text u : List ℕ) (o p : Option step.Stmt) (t : Stmt) (m l n : List ℕ) → u ≡ text → p ≡ o → l ≡ m → Lays u means (AnOther p t) l n → Lays text means (AnOther o t) m n
+other_moved means text u o p t m l n there same lines h =
+    let h1 : Lays text means (AnOther p t) l n = subst (λ v. Lays v means (AnOther p t) l n) there h in
+    let h2 : Lays text means (AnOther o t) l n = subst (λ (z : Option step.Stmt). Lays text means (AnOther z t) l n) same h1 in
+    subst (λ v. Lays text means (AnOther o t) v n) lines h2
+
+pub if_lays : (means : Sense) (text u : List ℕ) (s : step.Stmt) (bs ys : List branching.Branch) (other : Option step.Stmt) (cs : Vec Branch) (b : Box Stmt) (m l n : List ℕ)
+    → s ≡ from.If bs other → ys ≡ bs → u ≡ text → Lays text means (SomeBranches ys cs.items) m l → Lays u means (AnOther other b.value) l n → Lays text means (AStmt s (tree.If cs b)) m n
+if_lays means text u s bs ys other cs b m l n is same there h f =
+    let g : Lays text means (SomeBranches bs cs.items) m l = subst (λ (z : List branching.Branch). Lays text means (SomeBranches z cs.items) m l) same h in
+    rw is (spec.choice cs b g (other_moved means text u other other b.value l l n there refl refl f))
+
+pub for_lays : (means : Sense) (text u v w : List ℕ) (s : step.Stmt) (h i : Head) (x y : step.Stmt) (e : Expr) (t : Stmt) (first step b : Box Stmt) (k : ℕ) (m n p o q : List ℕ)
+    → s ≡ from.For h x → i ≡ h → y ≡ x → k ≡ length n → u ≡ text → v ≡ text → w ≡ text → b.value ≡ t → Lays text means (AnOther i.first first.value) m n → Tests means i.test e → p ≡ sited u i.left n → Lays v means (AnOther i.last step.value) p o → Lays w means (AStmt y t) o q
+    → Lays text means (AStmt s (tree.For first k e step b)) m q
+for_lays means text u v w s h i x y e t first step b k m n p o q is same body count there_u there_v there_w held f g lines l d =
+    let f' : Lays text means (AnOther h.first first.value) m n = subst (λ (z : Head). Lays text means (AnOther z.first first.value) m n) same f in
+    let g' : Tests means h.test e = subst (λ (z : Head). Tests means z.test e) same g in
+    let from_is : p ≡ sited text h.left n = lines ∙ ap (λ x. sited x i.left n) there_u ∙ ap (λ (z : Head). sited text z.left n) same in
+    let l' : Lays text means (AnOther h.last step.value) (sited text h.left n) o = other_moved means text v h.last i.last step.value (sited text h.left n) p o there_v (ap (λ (z : Head). z.last) same) from_is l in
+    rw (is, count) (spec.counts h first step b f' g' l' (moved means text w x y t b o o q there_w body held refl d))
+
+-- the same, where the last part may be refused
+pub while_made : (means : Sense) {E : Type 0} (r : Result (Box Stmt) E) (q : Result Stmt E) (text u : List ℕ) (c : Condition) (x : step.Stmt) (e : Expr) (k : ℕ) (m l n : List ℕ)
+    → q ≡ result_map_both (tree.While k e) (λ z. z) r → k ≡ length m → Settles means (AnExpr c.test e) → l ≡ sited text c.left m → u ≡ text → IfOk r (λ b. Lays u means (AStmt x b.value) l n) → IfOk q (λ t. Lays text means (AStmt (from.While c x) t) m n)
+while_made means (Ok b) q text u c x e k m l n is count h lines there f = rw is (while_lays means text u (from.While c x) c c x x e b.value b k m l n refl refl refl count h lines there refl f)
+while_made means (Err _) q text u c x e k m l n is count h lines there f = rw is tt
+
+pub for_made : (means : Sense) {E : Type 0} (r : Result (Box Stmt) E) (q : Result Stmt E) (text u : List ℕ) (s : step.Stmt) (h i : Head) (x y : step.Stmt) (g : LoopHead) (m p o : List ℕ)
+    → q ≡ result_map_both (for_with g) (λ z. z) r → s ≡ from.For h x → i ≡ h → y ≡ x → u ≡ text → Heads text means i g m p → IfOk r (λ b. Lays u means (AStmt y b.value) p o) → IfOk q (λ t. Lays text means (AStmt s t) m o)
+for_made means (Ok b) q text u s h i x y g m p o made is same body there head turn =
+    rw made (for_lays means text text text u s h i x y g.test b.value g.first g.step b g.site m head.before (sited text i.left head.before) p o is same body head.site refl refl there refl head.first head.test refl head.step turn)
+for_made means (Err _) q text u s h i x y g m p o made is same body there head turn = rw made tt
+
+pub head_made : (means : Sense) {E : Type 0} (r : Result (Box Stmt) E) (q : Result LoopHead E) (text u v : List ℕ) (h : Head) (first : Box Stmt) (e : Expr) (k : ℕ) (m n p o : List ℕ)
+    → q ≡ result_map_both (head_with first k e) (λ z. z) r → k ≡ length n → u ≡ text → v ≡ text → Lays text means (AnOther h.first first.value) m n → Tests means h.test e → p ≡ sited u h.left n
+    → IfOk r (λ b. Lays v means (AnOther h.last b.value) p o) → IfOk q (λ g. Heads text means h g m o)
+head_made means (Ok b) q text u v h first e k m n p o made count there also f g lines turn =
+    let last : Lays text means (AnOther h.last b.value) (sited text h.left n) o = other_moved means text v h.last h.last b.value (sited text h.left n) p o also refl (lines ∙ ap (λ x. sited x h.left n) there) turn in
+    rw made (record { before = n; first = f; site = count; test = g; step = last })
+head_made means (Err _) q text u v h first e k m n p o made count there also f g lines turn = rw made tt
+
+pub branch_site : {E : Type 0} (r : Result Stmt E) (q : Result Branch E) (e : Expr) (k n : ℕ) → q ≡ result_map_both (branch_with k e) (λ z. z) r → k ≡ n → IfOk q (λ b. b.site ≡ n)
+branch_site (Ok t) q e k n is count = rw is count
+branch_site (Err _) q e k n is count = rw is tt
+
+pub branch_test : (means : Sense) {E : Type 0} (r : Result Stmt E) (q : Result Branch E) (x : parsed.Expr) (e : Expr) (k : ℕ) → q ≡ result_map_both (branch_with k e) (λ z. z) r → Settles means (AnExpr x e) → IfOk q (λ b. Settles means (AnExpr x b.test))
+branch_test means (Ok t) q x e k is h = rw is h
+branch_test means (Err _) q x e k is h = rw is tt
+
+pub branch_body : (means : Sense) {E : Type 0} (r : Result Stmt E) (q : Result Branch E) (text u : List ℕ) (s x : step.Stmt) (e : Expr) (k : ℕ) (l m n : List ℕ)
+    → q ≡ result_map_both (branch_with k e) (λ z. z) r → u ≡ text → x ≡ s → l ≡ m → IfOk r (λ t. Lays u means (AStmt x t) l n) → IfOk q (λ b. Lays text means (AStmt s b.body) m n)
+branch_body means (Ok t) q text u s x e k l m n is there same lines h =
+    let h1 : Lays text means (AStmt x t) l n = subst (λ v. Lays v means (AStmt x t) l n) there h in
+    let h2 : Lays text means (AStmt s t) l n = subst (λ (z : step.Stmt). Lays text means (AStmt z t) l n) same h1 in
+    let h3 : Lays text means (AStmt s t) m n = subst (λ v. Lays text means (AStmt s t) v n) lines h2 in
+    rw is h3
+branch_body means (Err _) q text u s x e k l m n is there same lines h = rw is tt
+
+pub absent_lays : (means : Sense) (text : List ℕ) (o : Option step.Stmt) (ts : Vec Stmt) (b : Box Stmt) (m : List ℕ) → o ≡ None → ts.items ≡ [] → b.value ≡ tree.Block ts → Lays text means (AnOther o b.value) m m
+absent_lays means text o ts b m is none held = rw (is, held) (spec.absent ts none)
+
+pub present_lays : (means : Sense) (text : List ℕ) (o : Option step.Stmt) (x y : step.Stmt) (t : Stmt) (b : Box Stmt) (m n : List ℕ) → o ≡ Some x → y ≡ x → b.value ≡ t → Lays text means (AStmt y t) m n → Lays text means (AnOther o b.value) m n
+present_lays means text o x y t b m n is same held f = let g = moved means text text x y t b m m n refl same held refl f in rw is (spec.present g)
+
+pub other_made : (means : Sense) {E : Type 0} (r : Result (Box Stmt) E) (text : List ℕ) (o : Option step.Stmt) (x y : step.Stmt) (m n : List ℕ) → o ≡ Some x → y ≡ x → IfOk r (λ b. Lays text means (AStmt y b.value) m n) → IfOk r (λ b. Lays text means (AnOther o b.value) m n)
+other_made means (Ok b) text o x y m n is same h = present_lays means text o x y b.value b m n is same refl h
+other_made means (Err _) text o x y m n is same h = tt
+
+pub more_branches : (means : Sense) (text u : List ℕ) (xs : List branching.Branch) (i : ℕ) (x y : branching.Branch) (cs zs : List Branch) (c : Branch) (m n o : List ℕ)
+    → i < length xs → x ≡ get_or xs i x → y ≡ x → u ≡ text → zs ≡ cs ++ c ∷ [] → Lays text means (SomeBranches (take i xs) cs) m n → c.site ≡ length n → Settles means (AnExpr y.condition.test c.test) → Lays u means (AStmt y.body c.body) (sited u y.condition.left n) o
+    → Lays text means (SomeBranches (take (i + 1) xs) zs) m o
+more_branches means text u xs i x y cs zs c m n o h at same there more g site test f =
+    let e : take (i + 1) xs ≡ take i xs ++ y ∷ [] = take_more xs i x h ∙ ap (λ z. take i xs ++ z ∷ []) (sym at ∙ sym same) in
+    let k : Lays text means (AStmt y.body c.body) (sited text y.condition.left n) o = subst (λ v. Lays v means (AStmt y.body c.body) (sited v y.condition.left n) o) there f in
+    rw (e, more) (spec.a_branch y c g site test k)
+
 -- ---- actions and rules
 
-pub missing_does : (text : List ℕ) (x : Action) (left : ℕ) (none : List parsed.Expr) (ss : Vec Expr) (a b : Names) (n : ℕ) (old new : List ℕ)
-    → x ≡ does.Missing left → none ≡ [] → n ≡ length old → new ≡ sited text left old → Prints none ss.items a b → Does text x (tree.Print n ss) (met a old) (met b new)
-missing_does text x left none ss a b n old new is bare count lines h =
-    let g : Prints [] ss.items a b = subst (λ (z : List parsed.Expr). Prints z ss.items a b) bare h in
+pub missing_does : (means : Sense) (text : List ℕ) (x : Action) (left : ℕ) (none : List parsed.Expr) (ss : Vec Expr) (n : ℕ) (old new : List ℕ)
+    → x ≡ does.Missing left → none ≡ [] → n ≡ length old → new ≡ sited text left old → Prints means none ss.items → Does text means x (tree.Print n ss) old new
+missing_does means text x left none ss n old new is bare count lines h =
+    let g : Prints means [] ss.items = subst (λ (z : List parsed.Expr). Prints means z ss.items) bare h in
     rw (is, count, lines) (spec.missing left ss g)
 
-pub given_does : (text : List ℕ) (x : Action) (ss zs : List step.Stmt) (ts : Vec Stmt) (m n : Met) → x ≡ does.Given ss → zs ≡ ss → Lays text (SomeStmts zs ts.items) m n → Does text x (tree.Block ts) m n
-given_does text x ss zs ts m n is same h = let g : Lays text (SomeStmts ss ts.items) m n = subst (λ (z : List step.Stmt). Lays text (SomeStmts z ts.items) m n) same h in rw is (spec.given ts g)
+pub given_does : (means : Sense) (text : List ℕ) (x : Action) (ss zs : List step.Stmt) (ts : Vec Stmt) (m n : List ℕ) → x ≡ does.Given ss → zs ≡ ss → Lays text means (SomeStmts zs ts.items) m n → Does text means x (tree.Block ts) m n
+given_does means text x ss zs ts m n is same h = let g : Lays text means (SomeStmts ss ts.items) m n = subst (λ (z : List step.Stmt). Lays text means (SomeStmts z ts.items) m n) same h in rw is (spec.given ts g)
 
-pub when_rules : (text u : List ℕ) (p : Pattern) (left : ℕ) (e y : parsed.Expr) (s : Expr) (x : Action) (t : Stmt) (a b : Names) (n : ℕ) (old new : List ℕ) (m : Met)
-    → p ≡ guard.When left e → y ≡ e → n ≡ length old → new ≡ sited text left old → u ≡ text → Settles (AnExpr y s) a b → Does u x t (met b new) m → Rules text p x (rule_of n s t) (met a old) m
-when_rules text u p left e y s x t a b n old new m is same count lines there h f =
-    let g : Settles (AnExpr e s) a b = subst (λ (z : parsed.Expr). Settles (AnExpr z s) a b) same h in
-    let k : Does text x t (met b (sited text left old)) m = subst (λ l. Does text x t (met b l) m) lines (subst (λ v. Does v x t (met b new) m) there f) in
+pub when_rules : (means : Sense) (text u : List ℕ) (p : Pattern) (left : ℕ) (e y : parsed.Expr) (s : Expr) (x : Action) (t : Stmt) (n : ℕ) (old new : List ℕ) (m : List ℕ)
+    → p ≡ guard.When left e → y ≡ e → n ≡ length old → new ≡ sited text left old → u ≡ text → Settles means (AnExpr y s) → Does u means x t new m → Rules text means p x (rule_of n s t) old m
+when_rules means text u p left e y s x t n old new m is same count lines there h f =
+    let g : Settles means (AnExpr e s) = subst (λ (z : parsed.Expr). Settles means (AnExpr z s)) same h in
+    let k : Does text means x t (sited text left old) m = subst (λ l. Does text means x t l m) lines (subst (λ v. Does v means x t new m) there f) in
     rw (is, count) (spec.when left g k)
 
 -- ---- items
 
-pub begin_laid : (text : List ℕ) (items : List Item) (x : Item) (ss zs : List step.Stmt) (ts : Vec Stmt) (m n : Met) (p q : Program)
-    → x ≡ part.Begin ss → zs ≡ ss → Lays text (SomeStmts zs ts.items) m n → q.begin.items ≡ p.begin.items ++ tree.Block ts ∷ [] → q.rules.items ≡ p.rules.items → q.end.items ≡ p.end.items
-    → IsLaidWith text items p m → IsLaidWith text (items ++ x ∷ []) q n
-begin_laid text items x ss zs ts m n p q is same h begins rules ends before =
-    let g : Lays text (SomeStmts ss ts.items) m n = subst (λ (z : List step.Stmt). Lays text (SomeStmts z ts.items) m n) same h in
+pub begin_laid : (means : Sense) (text : List ℕ) (items : List Item) (x : Item) (ss zs : List step.Stmt) (ts : Vec Stmt) (m n : List ℕ) (p q : Program)
+    → x ≡ part.Begin ss → zs ≡ ss → Lays text means (SomeStmts zs ts.items) m n → q.begin.items ≡ p.begin.items ++ tree.Block ts ∷ [] → q.rules.items ≡ p.rules.items → q.end.items ≡ p.end.items
+    → IsLaidWith text means items p m → IsLaidWith text means (items ++ x ∷ []) q n
+begin_laid means text items x ss zs ts m n p q is same h begins rules ends before =
+    let g : Lays text means (SomeStmts ss ts.items) m n = subst (λ (z : List step.Stmt). Lays text means (SomeStmts z ts.items) m n) same h in
     rw (is, begins, rules, ends) (spec.begin ts before g)
 
-pub end_laid : (text : List ℕ) (items : List Item) (x : Item) (ss zs : List step.Stmt) (ts : Vec Stmt) (m n : Met) (p q : Program)
-    → x ≡ part.End ss → zs ≡ ss → Lays text (SomeStmts zs ts.items) m n → q.begin.items ≡ p.begin.items → q.rules.items ≡ p.rules.items → q.end.items ≡ p.end.items ++ tree.Block ts ∷ []
-    → IsLaidWith text items p m → IsLaidWith text (items ++ x ∷ []) q n
-end_laid text items x ss zs ts m n p q is same h begins rules ends before =
-    let g : Lays text (SomeStmts ss ts.items) m n = subst (λ (z : List step.Stmt). Lays text (SomeStmts z ts.items) m n) same h in
+pub end_laid : (means : Sense) (text : List ℕ) (items : List Item) (x : Item) (ss zs : List step.Stmt) (ts : Vec Stmt) (m n : List ℕ) (p q : Program)
+    → x ≡ part.End ss → zs ≡ ss → Lays text means (SomeStmts zs ts.items) m n → q.begin.items ≡ p.begin.items → q.rules.items ≡ p.rules.items → q.end.items ≡ p.end.items ++ tree.Block ts ∷ []
+    → IsLaidWith text means items p m → IsLaidWith text means (items ++ x ∷ []) q n
+end_laid means text items x ss zs ts m n p q is same h begins rules ends before =
+    let g : Lays text means (SomeStmts ss ts.items) m n = subst (λ (z : List step.Stmt). Lays text means (SomeStmts z ts.items) m n) same h in
     rw (is, begins, rules, ends) (spec.ending ts before g)
 
-pub always_laid : (text u : List ℕ) (items : List Item) (x : Item) (left : ℕ) (ss zs : List step.Stmt) (ts : Vec Stmt) (a : Names) (k : ℕ) (old new : List ℕ) (n : Met) (p q : Program)
-    → x ≡ part.Always left ss → zs ≡ ss → k ≡ length old → new ≡ sited text left old → u ≡ text → Lays u (SomeStmts zs ts.items) (met a new) n
+pub always_laid : (means : Sense) (text u : List ℕ) (items : List Item) (x : Item) (left : ℕ) (ss zs : List step.Stmt) (ts : Vec Stmt) (k : ℕ) (old new : List ℕ) (n : List ℕ) (p q : Program)
+    → x ≡ part.Always left ss → zs ≡ ss → k ≡ length old → new ≡ sited text left old → u ≡ text → Lays u means (SomeStmts zs ts.items) new n
     → q.begin.items ≡ p.begin.items → q.rules.items ≡ p.rules.items ++ rule_of k (expr.Number (pos 1)) (tree.Block ts) ∷ [] → q.end.items ≡ p.end.items
-    → IsLaidWith text items p (met a old) → IsLaidWith text (items ++ x ∷ []) q n
-always_laid text u items x left ss zs ts a k old new n p q is same count lines there h begins rules ends before =
-    let f : Lays text (SomeStmts ss ts.items) (met a new) n = subst (λ (z : List step.Stmt). Lays text (SomeStmts z ts.items) (met a new) n) same (subst (λ v. Lays v (SomeStmts zs ts.items) (met a new) n) there h) in
-    let g : Lays text (SomeStmts ss ts.items) (met a (sited text left old)) n = subst (λ l. Lays text (SomeStmts ss ts.items) (met a l) n) lines f in
+    → IsLaidWith text means items p old → IsLaidWith text means (items ++ x ∷ []) q n
+always_laid means text u items x left ss zs ts k old new n p q is same count lines there h begins rules ends before =
+    let f : Lays text means (SomeStmts ss ts.items) new n = subst (λ (z : List step.Stmt). Lays text means (SomeStmts z ts.items) new n) same (subst (λ v. Lays v means (SomeStmts zs ts.items) new n) there h) in
+    let g : Lays text means (SomeStmts ss ts.items) (sited text left old) n = subst (λ l. Lays text means (SomeStmts ss ts.items) l n) lines f in
     let rules' : q.rules.items ≡ p.rules.items ++ rule_of (length old) (expr.Number (pos 1)) (tree.Block ts) ∷ [] = rules ∙ ap (λ c. p.rules.items ++ rule_of c (expr.Number (pos 1)) (tree.Block ts) ∷ []) count in
     rw (is, begins, rules', ends) (spec.always left ts before g)
 
-pub rule_laid : (text : List ℕ) (items : List Item) (x : Item) (f g : Pattern) (y : Action) (r : Rule) (m n : Met) (p q : Program)
-    → x ≡ part.Rule f y → g ≡ f → Rules text g y r m n → q.begin.items ≡ p.begin.items → q.rules.items ≡ p.rules.items ++ r ∷ [] → q.end.items ≡ p.end.items
-    → IsLaidWith text items p m → IsLaidWith text (items ++ x ∷ []) q n
-rule_laid text items x f g y r m n p q is same h begins rules ends before =
-    let k : Rules text f y r m n = subst (λ z. Rules text z y r m n) same h in
+pub rule_laid : (means : Sense) (text : List ℕ) (items : List Item) (x : Item) (f g : Pattern) (y : Action) (r : Rule) (m n : List ℕ) (p q : Program)
+    → x ≡ part.Rule f y → g ≡ f → Rules text means g y r m n → q.begin.items ≡ p.begin.items → q.rules.items ≡ p.rules.items ++ r ∷ [] → q.end.items ≡ p.end.items
+    → IsLaidWith text means items p m → IsLaidWith text means (items ++ x ∷ []) q n
+rule_laid means text items x f g y r m n p q is same h begins rules ends before =
+    let k : Rules text means f y r m n = subst (λ z. Rules text means z y r m n) same h in
     rw (is, begins, rules, ends) (spec.rule before k)
 
-pub item_laid : (text u : List ℕ) (items : List Item) (i : ℕ) (x : Item) (m n : Met) (p q : Program) → i < length items → x ≡ get_or items i x → u ≡ text
-    → IsLaidWith text (take i items) p m → ((found : List Item) → IsLaidWith u found p m → IsLaidWith u (found ++ x ∷ []) q n) → IsLaidWith text (take (i + 1) items) q n
-item_laid text u items i x m n p q h at there before next =
+pub item_laid : (means : Sense) (text u : List ℕ) (items : List Item) (i : ℕ) (x : Item) (m n : List ℕ) (p q : Program) → i < length items → x ≡ get_or items i x → u ≡ text
+    → IsLaidWith text means (take i items) p m → ((found : List Item) → IsLaidWith u means found p m → IsLaidWith u means (found ++ x ∷ []) q n) → IsLaidWith text means (take (i + 1) items) q n
+item_laid means text u items i x m n p q h at there before next =
     let e : take (i + 1) items ≡ take i items ++ x ∷ [] = take_more items i x h ∙ ap (λ y. take i items ++ y ∷ []) (sym at) in
-    let start : IsLaidWith u (take i items) p m = subst (λ v. IsLaidWith v (take i items) p m) (sym there) before in
-    rw e (subst (λ v. IsLaidWith v (take i items ++ x ∷ []) q n) there (next (take i items) start))
+    let start : IsLaidWith u means (take i items) p m = subst (λ v. IsLaidWith v means (take i items) p m) (sym there) before in
+    rw e (subst (λ v. IsLaidWith v means (take i items ++ x ∷ []) q n) there (next (take i items) start))

@@ -1,5 +1,4 @@
 pub mod Globals
-pub mod Indexes
 pub mod Coverings
 pub mod Settlements
 pub mod Gaps

@@ -5,8 +5,9 @@ use Rattle.std.specs.Global.{Box, Vec}
 use Rattle.rawk_value.specs.declared.operator.Arithmetic.{Arithmetic}
 use Rattle.rawk_value.specs.declared.operator.Arithmetic.TheVariants.{Pow}
 use Rattle.rawk_parsing.specs.declared.tree.Assignment.TheVariants as setting
-use Rattle.rawk_parsing.specs.declared.tree.Operator.{Operator}
-use Rattle.rawk_parsing.specs.declared.tree.Operator.TheVariants as op
+use Rattle.rawk_parsing.specs.declared.tree.Sign.{Sign}
+use Rattle.rawk_parsing.specs.declared.tree.Logic.{Logic}
+use Rattle.rawk_parsing.specs.declared.tree.Change.{Change}
 use Rattle.rawk_parsing.specs.declared.tree.Name as word
 use Rattle.rawk_parsing.specs.declared.tree.Expr as parsed
 use Rattle.rawk_parsing.specs.declared.tree.Expr.TheVariants as from
@@ -16,92 +17,118 @@ use Rattle.rawk_parsing.specs.declared.tree.Place.TheVariants as from_place
 use Rattle.rawk_expression.specs.Expression.{link}
 use Rattle.rawk_syntax.specs.declared.tree.Expr.{Expr}
 use Rattle.rawk_syntax.specs.declared.tree.Expr.TheVariants as tree
+use Rattle.rawk_syntax.specs.declared.tree.Joiner.{Joiner}
+use Rattle.rawk_syntax.specs.declared.tree.Joiner.TheVariants as joiner
 use Rattle.rawk_syntax.specs.declared.tree.Link.{Link}
 use Rattle.rawk_syntax.specs.declared.tree.Link.TheVariants as tree_link
 use Rattle.rawk_syntax.specs.declared.tree.Place.{Place}
 use Rattle.rawk_syntax.specs.declared.tree.Place.TheVariants as tree_place
-use Rattle.rawk_syntax.specs.Covered.{place_cover, joiner}
+use Rattle.rawk_syntax.specs.Covered.{place_cover, joiner_of}
 use Rattle.rawk_syntax.specs.Settled as spec
-use Rattle.rawk_syntax.specs.Settled.{Names, Pair, AnExpr, APlace, SomeLinks, SomeExprs, Settles}
+use Rattle.rawk_syntax.specs.Meant.{Sense}
+use Rattle.rawk_syntax.specs.Settled.{Pair, AnExpr, APlace, SomeLinks, SomeTests, SomeExprs, Settles, operator_of, neutral}
 
-pub number_settles : (e : parsed.Expr) (s : Expr) (n : ℤ) (a : Names) → e ≡ from.Number n → s ≡ tree.Number n → Settles (AnExpr e s) a a
-number_settles e s n a is same = rw (is, same) spec.number
+pub number_settles : (m : Sense) (e : parsed.Expr) (s : Expr) (n : ℤ) → e ≡ from.Number n → s ≡ tree.Number n → Settles m (AnExpr e s)
+number_settles m e s n is same = rw (is, same) spec.number
 
-pub text_settles : (e : parsed.Expr) (v w : List ℕ) (a : Names) → e ≡ from.Text v → w ≡ v → Settles (AnExpr e (tree.Text w)) a a
-text_settles e v w a is same = rw (is, same) spec.text
+pub text_settles : (m : Sense) (e : parsed.Expr) (v w : List ℕ) → e ≡ from.Text v → w ≡ v → Settles m (AnExpr e (tree.Text w))
+text_settles m e v w is same = rw (is, same) spec.text
 
-pub read_settles : (e : parsed.Expr) (p : spot.Place) (q : Place) (a b : Names) → e ≡ from.Of p → Settles (APlace p q) a b → Settles (AnExpr e (tree.Read q)) a b
-read_settles e p q a b is h = rw is (spec.read h)
+pub read_settles : (m : Sense) (e : parsed.Expr) (p : spot.Place) (q : Place) → e ≡ from.Of p → Settles m (APlace p q) → Settles m (AnExpr e (tree.Read q))
+read_settles m e p q is h = rw is (spec.read h)
 
-pub group_settles : {E : Type 0} (r : Result Expr E) (e x y : parsed.Expr) (a b : Names) → e ≡ from.Group x → y ≡ x → IfOk r (λ s. Settles (AnExpr y s) a b) → IfOk r (λ s. Settles (AnExpr e s) a b)
-group_settles (Ok s) e x y a b is same h = let g : Settles (AnExpr x s) a b = subst (λ (z : parsed.Expr). Settles (AnExpr z s) a b) same h in rw is (spec.group g)
-group_settles (Err f) e x y a b is same h = tt
+pub group_settles : (m : Sense) {E : Type 0} (r : Result Expr E) (e x y : parsed.Expr) → e ≡ from.Group x → y ≡ x → IfOk r (λ s. Settles m (AnExpr y s)) → IfOk r (λ s. Settles m (AnExpr e s))
+group_settles m (Ok s) e x y is same h = let g : Settles m (AnExpr x s) = subst (λ (z : parsed.Expr). Settles m (AnExpr z s)) same h in rw is (spec.group g)
+group_settles m (Err f) e x y is same h = tt
 
 -- the same, boxed
-boxed : (x y : parsed.Expr) (s : Expr) (value : Box Expr) (a b : Names) → y ≡ x → value.value ≡ s → Settles (AnExpr y s) a b → Settles (AnExpr x value.value) a b
-boxed x y s value a b same held h =
-    subst (λ (z : parsed.Expr). Settles (AnExpr z value.value) a b) same (subst (λ (v : Expr). Settles (AnExpr y v) a b) (sym held) h)
+boxed : (m : Sense) (x y : parsed.Expr) (s : Expr) (value : Box Expr) → y ≡ x → value.value ≡ s → Settles m (AnExpr y s) → Settles m (AnExpr x value.value)
+boxed m x y s value same held h =
+    subst (λ (z : parsed.Expr). Settles m (AnExpr z value.value)) same (subst (λ (v : Expr). Settles m (AnExpr y v)) (sym held) h)
 
-pub chain_settles : (e x y : parsed.Expr) (xs ys : List join.Link) (s : Expr) (first : Box Expr) (more : Vec Link) (a b c : Names)
-    → e ≡ from.Chain x xs → y ≡ x → ys ≡ xs → first.value ≡ s → Settles (AnExpr y s) a b → Settles (SomeLinks ys more.items) b c → Settles (AnExpr e (tree.Chain first more)) a c
-chain_settles e x y xs ys s first more a b c is same all held h g =
-    let h' : Settles (AnExpr x first.value) a b = boxed x y s first a b same held h in
-    let g' : Settles (SomeLinks xs more.items) b c = subst (λ (zs : List join.Link). Settles (SomeLinks zs more.items) b c) all g in
+pub chain_settles : (m : Sense) (e x y : parsed.Expr) (xs ys : List join.Link) (s : Expr) (first : Box Expr) (more : Vec Link)
+    → e ≡ from.Chain x xs → y ≡ x → ys ≡ xs → first.value ≡ s → Settles m (AnExpr y s) → Settles m (SomeLinks ys more.items) → Settles m (AnExpr e (tree.Chain first more))
+chain_settles m e x y xs ys s first more is same all held h g =
+    let h' : Settles m (AnExpr x first.value) = boxed m x y s first same held h in
+    let g' : Settles m (SomeLinks xs more.items) = subst (λ (zs : List join.Link). Settles m (SomeLinks zs more.items)) all g in
     rw is (spec.chain first more h' g')
 
-pub power_settles : (e x y v w : parsed.Expr) (s t : Expr) (base : Box Expr) (powers : Vec Link) (a b c : Names)
-    → e ≡ from.Power x v → y ≡ x → w ≡ v → base.value ≡ s → powers.items ≡ tree_link.Combine Pow t ∷ [] → Settles (AnExpr y s) a b → Settles (AnExpr w t) b c → Settles (AnExpr e (tree.Chain base powers)) a c
-power_settles e x y v w s t base powers a b c is same other held one h g =
-    let h' : Settles (AnExpr x base.value) a b = boxed x y s base a b same held h in
-    let g' : Settles (AnExpr v t) b c = subst (λ (z : parsed.Expr). Settles (AnExpr z t) b c) other g in
+pub signed_settles : (m : Sense) (sign : Sign) (e x y : parsed.Expr) (s : Expr) (operand : Box Expr)
+    → e ≡ from.Signed sign x → y ≡ x → operand.value ≡ s → Settles m (AnExpr y s) → Settles m (AnExpr e (tree.Signed sign operand))
+signed_settles m sign e x y s operand is same held h = rw is (spec.signed operand (boxed m x y s operand same held h))
+
+pub power_settles : (m : Sense) (e x y v w : parsed.Expr) (s t : Expr) (base : Box Expr) (powers : Vec Link)
+    → e ≡ from.Power x v → y ≡ x → w ≡ v → base.value ≡ s → powers.items ≡ tree_link.Combine (joiner.Arithmetic Pow) t ∷ [] → Settles m (AnExpr y s) → Settles m (AnExpr w t) → Settles m (AnExpr e (tree.Chain base powers))
+power_settles m e x y v w s t base powers is same other held one h g =
+    let h' : Settles m (AnExpr x base.value) = boxed m x y s base same held h in
+    let g' : Settles m (AnExpr v t) = subst (λ (z : parsed.Expr). Settles m (AnExpr z t)) other g in
     rw is (spec.power base powers h' g' one)
 
-pub assign_settles : (e x y : parsed.Expr) (p : spot.Place) (q : Place) (s : Expr) (value : Box Expr) (a b c : Names)
-    → e ≡ from.Assign setting.Plain p x → (place_cover p).sets ≡ true → y ≡ x → value.value ≡ s → Settles (APlace p q) a b → Settles (AnExpr y s) b c → Settles (AnExpr e (tree.Assign q value)) a c
-assign_settles e x y p q s value a b c is free same held h g = rw is (spec.assign value free h (boxed x y s value b c same held g))
+pub logic_settles : (m : Sense) (l : Logic) (e : parsed.Expr) (xs ys : List parsed.Expr) (s : Expr) (first : Box Expr) (more : Vec Link)
+    → e ≡ from.Logic l xs → ys ≡ xs → first.value ≡ s → s ≡ tree.Number (neutral l) → Settles m (SomeTests l ys more.items) → Settles m (AnExpr e (tree.Chain first more))
+logic_settles m l e xs ys s first more is all held one g =
+    let g' : Settles m (SomeTests l xs more.items) = subst (λ (zs : List parsed.Expr). Settles m (SomeTests l zs more.items)) all g in
+    rw is (spec.logical first more (held ∙ one) g')
 
-pub update_settles : (operator : Arithmetic) (e x y : parsed.Expr) (p : spot.Place) (q : Place) (s : Expr) (value : Box Expr) (a b c : Names)
-    → e ≡ from.Assign (setting.Update operator) p x → (place_cover p).sets ≡ true → y ≡ x → value.value ≡ s → Settles (APlace p q) a b → Settles (AnExpr y s) b c → Settles (AnExpr e (tree.Update operator q value)) a c
-update_settles operator e x y p q s value a b c is free same held h g = rw is (spec.update value free h (boxed x y s value b c same held g))
+pub choice_settles : (m : Sense) (e x y v w a b : parsed.Expr) (s t u : Expr) (first second third : Box Expr)
+    → e ≡ from.Choice x v a → y ≡ x → w ≡ v → b ≡ a → first.value ≡ s → second.value ≡ t → third.value ≡ u → Settles m (AnExpr y s) → Settles m (AnExpr w t) → Settles m (AnExpr b u) → Settles m (AnExpr e (tree.Choice first second third))
+choice_settles m e x y v w a b s t u first second third is one two three held1 held2 held3 h g f =
+    rw is (spec.choice first second third (boxed m x y s first one held1 h) (boxed m v w t second two held2 g) (boxed m a b u third three held3 f))
 
-pub name_settles : (p : spot.Place) (n : word.Name) (v : List ℕ) (s : Place) (a b : Names) → p ≡ from_place.Name n → v ≡ n.word → (s, b) ≡ spec.meant v a → Settles (APlace p s) a b
-name_settles p n v s a b is same h =
-    let whole : Settles (APlace (from_place.Name n) (spec.meant n.word a).0) a (spec.meant n.word a).1 = spec.name in
-    let e : (s, b) ≡ spec.meant n.word a = h ∙ ap (λ w. spec.meant w a) same in
-    rw is (subst (λ (m : Place × Names). Settles (APlace (from_place.Name n) m.0) a m.1) (sym e) whole)
+pub before_settles : (m : Sense) (e : parsed.Expr) (c : Change) (p : spot.Place) (q : Place) (o : Arithmetic) (one : Box Expr)
+    → e ≡ from.Before c p → o ≡ operator_of c → (place_cover m p).sets ≡ true → one.value ≡ tree.Number (pos 1) → Settles m (APlace p q) → Settles m (AnExpr e (tree.Update o q one))
+before_settles m e c p q o one is does free held h = rw (is, does) (spec.before one free h held)
 
-pub field_settles : (p : spot.Place) (x y : parsed.Expr) (s : Expr) (number : Box Expr) (a b : Names)
-    → p ≡ from_place.Field x → y ≡ x → number.value ≡ s → Settles (AnExpr y s) a b → Settles (APlace p (tree_place.Field number)) a b
-field_settles p x y s number a b is same held h = rw is (spec.field number (boxed x y s number a b same held h))
+pub after_settles : (m : Sense) (e : parsed.Expr) (c : Change) (p : spot.Place) (q : Place) (o : Arithmetic)
+    → e ≡ from.After c p → o ≡ operator_of c → (place_cover m p).sets ≡ true → Settles m (APlace p q) → Settles m (AnExpr e (tree.After o q))
+after_settles m e c p q o is does free h = rw (is, does) (spec.after free h)
 
-joiner_is : (o : Operator) (operator : Arithmetic) → Some operator ≡ joiner o → o ≡ op.Arithmetic operator
-joiner_is (op.Arithmetic x) operator h = ap op.Arithmetic (sym (let e : operator ≡ x = cc in e))
-joiner_is _ operator h = cc
+pub test_settles : (m : Sense) (l : Logic) (xs : List parsed.Expr) (i : ℕ) (x y : parsed.Expr) (ys zs : List Link) (s : Expr)
+    → i < length xs → x ≡ get_or xs i x → y ≡ x → zs ≡ ys ++ tree_link.Decide l s ∷ [] → Settles m (SomeTests l (take i xs) ys) → Settles m (AnExpr y s) → Settles m (SomeTests l (take (i + 1) xs) zs)
+test_settles m l xs i x y ys zs s h held same more g f' =
+    let f : Settles m (AnExpr x s) = subst (λ (z : parsed.Expr). Settles m (AnExpr z s)) same f' in
+    let t : take (i + 1) xs ≡ take i xs ++ x ∷ [] = take_more xs i x h ∙ ap (λ y. take i xs ++ y ∷ []) (sym held) in
+    rw (t, more) (spec.a_test g f)
+
+pub assign_settles : (m : Sense) (e x y : parsed.Expr) (p : spot.Place) (q : Place) (s : Expr) (value : Box Expr)
+    → e ≡ from.Assign setting.Plain p x → (place_cover m p).sets ≡ true → y ≡ x → value.value ≡ s → Settles m (APlace p q) → Settles m (AnExpr y s) → Settles m (AnExpr e (tree.Assign q value))
+assign_settles m e x y p q s value is free same held h g = rw is (spec.assign value free h (boxed m x y s value same held g))
+
+pub update_settles : (m : Sense) (operator : Arithmetic) (e x y : parsed.Expr) (p : spot.Place) (q : Place) (s : Expr) (value : Box Expr)
+    → e ≡ from.Assign (setting.Update operator) p x → (place_cover m p).sets ≡ true → y ≡ x → value.value ≡ s → Settles m (APlace p q) → Settles m (AnExpr y s) → Settles m (AnExpr e (tree.Update operator q value))
+update_settles m operator e x y p q s value is free same held h g = rw is (spec.update value free h (boxed m x y s value same held g))
+
+pub name_settles : (m : Sense) (p : spot.Place) (n : word.Name) (v : List ℕ) (s : Place) → p ≡ from_place.Name n → v ≡ n.word → Some s ≡ m v → Settles m (APlace p s)
+name_settles m p n v s is same h = rw is (spec.name (ap m (sym same) ∙ sym h))
+
+pub field_settles : (m : Sense) (p : spot.Place) (x y : parsed.Expr) (s : Expr) (number : Box Expr)
+    → p ≡ from_place.Field x → y ≡ x → number.value ≡ s → Settles m (AnExpr y s) → Settles m (APlace p (tree_place.Field number))
+field_settles m p x y s number is same held h = rw is (spec.field number (boxed m x y s number same held h))
 
 link_is : (x : join.Link) → x ≡ link x.operator x.operand
 unfolding link
 link_is x = refl
 
 -- one more link
-pub link_settles : (xs : List join.Link) (i : ℕ) (x : join.Link) (operator : Arithmetic) (e : parsed.Expr) (ys zs : List Link) (s : Expr) (a b c : Names)
-    → i < length xs → x ≡ get_or xs i x → Some operator ≡ joiner x.operator → e ≡ x.operand → zs ≡ ys ++ tree_link.Combine operator s ∷ []
-    → Settles (SomeLinks (take i xs) ys) a b → Settles (AnExpr e s) b c → Settles (SomeLinks (take (i + 1) xs) zs) a c
-link_settles xs i x operator e ys zs s a b c h at joins is more g f =
-    let same : x ≡ link (op.Arithmetic operator) e = link_is x ∙ ap (λ o. link o x.operand) (joiner_is x.operator operator joins) ∙ ap (link (op.Arithmetic operator)) (sym is) in
-    let t : take (i + 1) xs ≡ take i xs ++ link (op.Arithmetic operator) e ∷ [] = take_more xs i x h ∙ ap (λ y. take i xs ++ y ∷ []) (sym at ∙ same) in
-    rw (t, more) (spec.a_link operator e g f)
+pub link_settles : (m : Sense) (xs : List join.Link) (i : ℕ) (x : join.Link) (j : Joiner) (e : parsed.Expr) (ys zs : List Link) (s : Expr)
+    → i < length xs → x ≡ get_or xs i x → Some j ≡ joiner_of x.operator → e ≡ x.operand → zs ≡ ys ++ tree_link.Combine j s ∷ []
+    → Settles m (SomeLinks (take i xs) ys) → Settles m (AnExpr e s) → Settles m (SomeLinks (take (i + 1) xs) zs)
+link_settles m xs i x j e ys zs s h at joins is more g f =
+    let same : x ≡ link x.operator e = link_is x ∙ ap (link x.operator) (sym is) in
+    let t : take (i + 1) xs ≡ take i xs ++ link x.operator e ∷ [] = take_more xs i x h ∙ ap (λ y. take i xs ++ y ∷ []) (sym at ∙ same) in
+    rw (t, more) (spec.a_link x.operator j e (sym joins) g f)
 
-pub expr_settles : (xs : List parsed.Expr) (i : ℕ) (x y : parsed.Expr) (ys zs : List Expr) (s : Expr) (a b c : Names)
-    → i < length xs → x ≡ get_or xs i x → y ≡ x → zs ≡ ys ++ s ∷ [] → Settles (SomeExprs (take i xs) ys) a b → Settles (AnExpr y s) b c → Settles (SomeExprs (take (i + 1) xs) zs) a c
-expr_settles xs i x y ys zs s a b c h held same more g f' =
-    let f : Settles (AnExpr x s) b c = subst (λ (z : parsed.Expr). Settles (AnExpr z s) b c) same f' in
+pub expr_settles : (m : Sense) (xs : List parsed.Expr) (i : ℕ) (x y : parsed.Expr) (ys zs : List Expr) (s : Expr)
+    → i < length xs → x ≡ get_or xs i x → y ≡ x → zs ≡ ys ++ s ∷ [] → Settles m (SomeExprs (take i xs) ys) → Settles m (AnExpr y s) → Settles m (SomeExprs (take (i + 1) xs) zs)
+expr_settles m xs i x y ys zs s h held same more g f' =
+    let f : Settles m (AnExpr x s) = subst (λ (z : parsed.Expr). Settles m (AnExpr z s)) same f' in
     let t : take (i + 1) xs ≡ take i xs ++ x ∷ [] = take_more xs i x h ∙ ap (λ y. take i xs ++ y ∷ []) (sym held) in
     rw (t, more) (spec.an_expr g f)
 
-pub all_printed : (es : List parsed.Expr) (ss : List Expr) (a b : Names) → length es ≢ 0 → Settles (SomeExprs es ss) a b → spec.Prints es ss a b
-all_printed [] ss a b h g = absurd (h refl)
-all_printed (e ∷ es) ss a b h g = spec.all g
+pub all_printed : (m : Sense) (es : List parsed.Expr) (ss : List Expr) → length es ≢ 0 → Settles m (SomeExprs es ss) → spec.Prints m es ss
+all_printed m [] ss h g = absurd (h refl)
+all_printed m (e ∷ es) ss h g = spec.all g
 
-pub record_printed : (es : List parsed.Expr) (ss : List Expr) (number : Box Expr) (a : Names) → length es ≡ 0 → ss ≡ tree.Read (tree_place.Field number) ∷ [] → number.value ≡ tree.Number (pos 0) → spec.Prints es ss a a
-record_printed [] ss number a h is held = rw is (spec.record_alone number held)
-record_printed (e ∷ es) ss number a h is held = absurd (let no : suc (length es) ≡ 0 = h in omega arith)
+pub record_printed : (m : Sense) (es : List parsed.Expr) (ss : List Expr) (number : Box Expr) → length es ≡ 0 → ss ≡ tree.Read (tree_place.Field number) ∷ [] → number.value ≡ tree.Number (pos 0) → spec.Prints m es ss
+record_printed m [] ss number h is held = rw is (spec.record_alone number held)
+record_printed m (e ∷ es) ss number h is held = absurd (let no : suc (length es) ≡ 0 = h in omega arith)

@@ -1,6 +1,5 @@
 -- What of the parser's tree the settled tree has, and where the rest is refused.
 use Rattle.std.specs.Prelude.{◌≡◌, ◌≢◌, ℕ, Bool, true, false, not, ◌&&◌, List, [], ◌∷◌, Option, Some, None, Result, Ok, Err}
-use Rattle.rawk_value.specs.declared.operator.Arithmetic.{Arithmetic}
 use Rattle.rawk_parsing.specs.declared.refusal.RefusalKind.TheVariants.{LeftOut}
 use Rattle.rawk_parsing.specs.declared.parse_error.ParseError.{ParseError}
 use Rattle.rawk_parsing.specs.declared.parse_error.ParseError.TheVariants.{OutOfMemory, Here}
@@ -14,6 +13,9 @@ use Rattle.rawk_parsing.specs.declared.tree.Place.{Place, fold-Place}
 use Rattle.rawk_grammar.specs.declared.tree.Act.{Act}
 use Rattle.rawk_grammar.specs.declared.tree.Act.TheVariants as act
 use Rattle.rawk_grammar.specs.declared.tree.Simple.{Simple}
+use Rattle.rawk_grammar.specs.declared.tree.Jump.{Jump}
+use Rattle.rawk_grammar.specs.declared.tree.Jump.TheVariants as jump
+use Rattle.rawk_grammar.specs.declared.tree.Condition.{Condition}
 use Rattle.rawk_grammar.specs.declared.tree.Stmt.{Stmt, fold-Stmt}
 use Rattle.rawk_grammar.specs.declared.tree.Stmt.TheOpen as stmt
 use Rattle.rawk_grammar.specs.declared.tree.Stmt.TheOpen.{Stmt-F, Branch-F, Head-F}
@@ -26,6 +28,9 @@ use Rattle.rawk_grammar.specs.declared.tree.Action.TheVariants as does
 use Rattle.rawk_grammar.specs.declared.tree.Item.{Item}
 use Rattle.rawk_grammar.specs.declared.tree.Item.TheVariants as part
 use Rattle.rawk_special.specs.Special.{is_special}
+use Rattle.rawk_syntax.specs.declared.tree.Joiner.{Joiner}
+use Rattle.rawk_syntax.specs.declared.tree.Joiner.TheVariants as joiner
+use Rattle.rawk_syntax.specs.Meant.{Sense, stands}
 
 -- an answer of what is refused so, or not: memory may also be refused
 abbrev pub Judges : {A : Type 0} → Option ParseError → Result A ParseError → Type 0
@@ -58,108 +63,144 @@ each holds (x ∷ xs) = holds x && each holds xs
 
 -- ---- expressions, from what their parts are
 
--- whether the settled tree has a place, and whether it has an assignment to it
+-- whether the settled tree has a place, and whether it may be assigned
 pub record Cover : Type 0 where
   pub reads : Bool
   pub sets : Bool
 
--- the operator of a link, where it joins two numbers
-abbrev pub joiner : Operator → Option Arithmetic
-joiner (op.Arithmetic o) = Some o
-joiner _ = None
+-- the operator of a link, where the settled tree has it: matches are left out
+abbrev pub joiner_of : Operator → Option Joiner
+joiner_of (op.Arithmetic o) = Some (joiner.Arithmetic o)
+joiner_of (op.Comparison c) = Some (joiner.Comparison c)
+joiner_of op.Concat = Some joiner.Concat
+joiner_of _ = None
 
 abbrev pub joins : Operator → Bool
 joins (op.Arithmetic o) = true
+joins (op.Comparison c) = true
+joins op.Concat = true
 joins _ = false
+
+-- whether the settled tree has a place that `++`, `--` or an assignment changes
+abbrev pub can_change : Cover → Bool
+can_change p = p.sets && p.reads
 
 abbrev pub expr_step : Expr-F Bool Cover Bool → Bool
 expr_step (expr.Number n) = true
 expr_step (expr.Text w) = true
 expr_step (expr.Of p) = p.reads
 expr_step (expr.Group e) = e
+expr_step (expr.Signed s e) = e
 expr_step (expr.Power e f) = e && f
 expr_step (expr.Chain e ls) = e && each (λ b. b) ls
-expr_step (expr.Assign how p e) = p.sets && e
+expr_step (expr.Logic l es) = each (λ b. b) es
+expr_step (expr.Choice e f g) = e && (f && g)
+expr_step (expr.Before c p) = can_change p
+expr_step (expr.After c p) = can_change p
+expr_step (expr.Assign how p e) = p.sets && (p.reads && e)
 expr_step _ = false
 
--- what can be assigned is a name that is not special
-abbrev pub place_step : Place-F Bool Cover Bool → Cover
-place_step (expr.Name n) = record { reads = true; sets = not (is_special n.word) }
-place_step (expr.Field e) = record { reads = e; sets = false }
-place_step (expr.Element n es) = record { reads = false; sets = false }
+-- by what names stand for; what can be assigned is a name that is not special
+abbrev pub place_step : Sense → Place-F Bool Cover Bool → Cover
+place_step means (expr.Name n) = record { reads = stands (means n.word); sets = not (is_special n.word) }
+place_step means (expr.Field e) = record { reads = e; sets = false }
+place_step means (expr.Element n es) = record { reads = false; sets = false }
 
 abbrev pub link_step : Link-F Bool Cover Bool → Bool
 link_step l = joins l.operator && l.operand
 
 -- whether the settled tree has the expression
-unfoldable pub covers : Expr → Bool
-covers e = fold-Expr Bool Cover Bool expr_step place_step link_step e
+unfoldable pub covers : Sense → Expr → Bool
+covers means e = fold-Expr Bool Cover Bool expr_step (place_step means) link_step e
 
-unfoldable pub place_cover : Place → Cover
-place_cover p = fold-Place Bool Cover Bool expr_step place_step link_step p
+unfoldable pub place_cover : Sense → Place → Cover
+place_cover means p = fold-Place Bool Cover Bool expr_step (place_step means) link_step p
 
-unfoldable pub covers_link : Link → Bool
-covers_link l = fold-Link Bool Cover Bool expr_step place_step link_step l
+unfoldable pub covers_link : Sense → Link → Bool
+covers_link means l = fold-Link Bool Cover Bool expr_step (place_step means) link_step l
 
 -- ---- statements, from what their parts are
 
-abbrev pub act_gap : ℕ → Act → Option ParseError
-act_gap left (act.Evaluate e) = unless (covers e) left
-act_gap left (act.Print es) = unless (each covers es) left
-act_gap left _ = left_out left
+abbrev pub act_gap : Sense → ℕ → Act → Option ParseError
+act_gap means left (act.Evaluate e) = unless (covers means e) left
+act_gap means left (act.Print es) = unless (each (covers means) es) left
+act_gap means left _ = left_out left
 
-abbrev pub simple_gap : Simple → Option ParseError
-simple_gap s = act_gap s.left s.act
+abbrev pub simple_gap : Sense → Simple → Option ParseError
+simple_gap means s = act_gap means s.left s.act
 
-abbrev pub head_of : List ℕ → ℕ
-head_of [] = 0
-head_of (n ∷ ns) = n
+-- the settled tree has no `return` yet
+abbrev pub jump_gap : Sense → ℕ → Jump → Option ParseError
+jump_gap means left (jump.Exit (Some e)) = unless (covers means e) left
+jump_gap means left (jump.Return e) = left_out left
+jump_gap means left _ = None
 
--- What is left out is refused at its first token, or its first condition.
-abbrev pub stmt_step : Stmt-F (Option ParseError) ℕ ℕ → Option ParseError
-stmt_step stmt.Empty = None
-stmt_step (stmt.Simple s) = simple_gap s
-stmt_step (stmt.Block gs) = first_of (λ g. g) gs
-stmt_step (stmt.Jump left j) = left_out left
-stmt_step (stmt.If conditions other) = left_out (head_of conditions)
-stmt_step (stmt.While c body) = left_out c.left
-stmt_step (stmt.Do body c) = left_out c.left
-stmt_step (stmt.For condition body) = left_out condition
-stmt_step (stmt.ForIn left x y body) = left_out left
+abbrev pub condition_gap : Sense → Condition → Option ParseError
+condition_gap means c = unless (covers means c.test) c.left
 
-abbrev pub branch_step : Branch-F (Option ParseError) ℕ ℕ → ℕ
-branch_step b = b.condition.left
+-- a condition that may be missing
+abbrev pub test_gap : Sense → ℕ → Option Expr → Option ParseError
+test_gap means left None = None
+test_gap means left (Some e) = unless (covers means e) left
 
-abbrev pub head_step : Head-F (Option ParseError) ℕ ℕ → ℕ
-head_step h = h.left
+-- the refusal of a part that may be missing
+abbrev pub if_there : Option (Option ParseError) → Option ParseError
+if_there None = None
+if_there (Some g) = g
+
+-- What is left out is refused in the order of the text, at its first token or its condition.
+abbrev pub stmt_step : Sense → Stmt-F (Option ParseError) (Option ParseError) (Option ParseError) → Option ParseError
+stmt_step means stmt.Empty = None
+stmt_step means (stmt.Simple s) = simple_gap means s
+stmt_step means (stmt.Block gs) = first_of (λ g. g) gs
+stmt_step means (stmt.Jump left j) = jump_gap means left j
+stmt_step means (stmt.If branches other) = or_then (first_of (λ g. g) branches) (if_there other)
+stmt_step means (stmt.While c body) = or_then (condition_gap means c) body
+stmt_step means (stmt.Do body c) = or_then body (condition_gap means c)
+stmt_step means (stmt.For head body) = or_then head body
+stmt_step means (stmt.ForIn left x y body) = left_out left
+
+abbrev pub branch_step : Sense → Branch-F (Option ParseError) (Option ParseError) (Option ParseError) → Option ParseError
+branch_step means b = or_then (condition_gap means b.condition) b.body
+
+abbrev pub head_step : Sense → Head-F (Option ParseError) (Option ParseError) (Option ParseError) → Option ParseError
+head_step means h = or_then (if_there h.first) (or_then (test_gap means h.left h.test) (if_there h.last))
 
 -- the refusal of the first part of a statement that is left out, if there is one
-unfoldable pub gap : Stmt → Option ParseError
-gap s = fold-Stmt (Option ParseError) ℕ ℕ stmt_step branch_step head_step s
+unfoldable pub gap : Sense → Stmt → Option ParseError
+gap means s = fold-Stmt (Option ParseError) (Option ParseError) (Option ParseError) (stmt_step means) (branch_step means) (head_step means) s
 
-unfoldable pub branch_place : Branch → ℕ
-branch_place b = fold-Branch (Option ParseError) ℕ ℕ stmt_step branch_step head_step b
+unfoldable pub branch_gap : Sense → Branch → Option ParseError
+branch_gap means b = fold-Branch (Option ParseError) (Option ParseError) (Option ParseError) (stmt_step means) (branch_step means) (head_step means) b
 
-unfoldable pub head_place : Head → ℕ
-head_place h = fold-Head (Option ParseError) ℕ ℕ stmt_step branch_step head_step h
+unfoldable pub head_gap : Sense → Head → Option ParseError
+head_gap means h = fold-Head (Option ParseError) (Option ParseError) (Option ParseError) (stmt_step means) (branch_step means) (head_step means) h
+
+abbrev pub other_gap : Sense → Option Stmt → Option ParseError
+other_gap means None = None
+other_gap means (Some s) = gap means s
+
+-- what stands in the parentheses of a `for`, in the order of the text
+abbrev pub head_parts_gap : Sense → Head → Option ParseError
+head_parts_gap means h = or_then (other_gap means h.first) (or_then (test_gap means h.left h.test) (other_gap means h.last))
 
 -- ---- items
 
-abbrev pub action_gap : Action → Option ParseError
-action_gap (does.Missing left) = None
-action_gap (does.Given ss) = first_of gap ss
+abbrev pub action_gap : Sense → Action → Option ParseError
+action_gap means (does.Missing left) = None
+action_gap means (does.Given ss) = first_of (gap means) ss
 
-abbrev pub rule_gap : Pattern → Action → Option ParseError
-rule_gap (guard.When left e) a = or_then (unless (covers e) left) (action_gap a)
-rule_gap (guard.Range left e f) a = left_out left
+abbrev pub rule_gap : Sense → Pattern → Action → Option ParseError
+rule_gap means (guard.When left e) a = or_then (unless (covers means e) left) (action_gap means a)
+rule_gap means (guard.Range left e f) a = left_out left
 
-abbrev pub item_gap : Item → Option ParseError
-item_gap (part.Begin ss) = first_of gap ss
-item_gap (part.End ss) = first_of gap ss
-item_gap (part.Always left ss) = first_of gap ss
-item_gap (part.Rule p a) = rule_gap p a
-item_gap (part.Function left n ns ss) = left_out left
+abbrev pub item_gap : Sense → Item → Option ParseError
+item_gap means (part.Begin ss) = first_of (gap means) ss
+item_gap means (part.End ss) = first_of (gap means) ss
+item_gap means (part.Always left ss) = first_of (gap means) ss
+item_gap means (part.Rule p a) = rule_gap means p a
+item_gap means (part.Function left n ns ss) = left_out left
 
 -- the refusal of the first part of a program that is left out, if there is one
-abbrev pub program_gap : List Item → Option ParseError
-program_gap items = first_of item_gap items
+abbrev pub program_gap : Sense → List Item → Option ParseError
+program_gap means items = first_of (item_gap means) items

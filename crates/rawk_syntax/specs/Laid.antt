@@ -1,10 +1,15 @@
 -- How the settled tree of statements and items comes from the parser's, with the sites of their points.
-use Rattle.std.specs.Prelude.{◌≡◌, ℕ, pos, List, [], ◌∷◌, ◌++◌, length}
-use Rattle.std.specs.Global.{Vec}
+use Rattle.std.specs.Prelude.{◌≡◌, ℕ, pos, List, [], ◌∷◌, ◌++◌, length, Option, None, Some}
+use Rattle.std.specs.Global.{Box, Vec}
 use Rattle.rawk_lexer.specs.Lines.{line_of}
 use Rattle.rawk_parsing.specs.declared.tree.Expr as parsed
 use Rattle.rawk_grammar.specs.declared.tree.Act.TheVariants as act
 use Rattle.rawk_grammar.specs.declared.tree.Simple.{Simple}
+use Rattle.rawk_grammar.specs.declared.tree.Jump.{Jump}
+use Rattle.rawk_grammar.specs.declared.tree.Jump.TheVariants as jump
+use Rattle.rawk_grammar.specs.declared.tree.Condition.{Condition}
+use Rattle.rawk_grammar.specs.declared.tree.Branch as branching
+use Rattle.rawk_grammar.specs.declared.tree.Head.{Head}
 use Rattle.rawk_grammar.specs.declared.tree.Stmt as step
 use Rattle.rawk_grammar.specs.declared.tree.Stmt.TheVariants as from
 use Rattle.rawk_grammar.specs.declared.tree.Pattern.{Pattern}
@@ -18,79 +23,133 @@ use Rattle.rawk_syntax.specs.declared.tree.Expr.{Expr}
 use Rattle.rawk_syntax.specs.declared.tree.Expr.TheVariants as expr
 use Rattle.rawk_syntax.specs.declared.tree.Stmt.{Stmt}
 use Rattle.rawk_syntax.specs.declared.tree.Stmt.TheVariants as tree
+use Rattle.rawk_syntax.specs.declared.tree.Branch.{Branch}
+use Rattle.rawk_syntax.specs.declared.statements.LoopHead.{LoopHead}
 use Rattle.rawk_syntax.specs.declared.tree.Guard.TheVariants as tree_guard
 use Rattle.rawk_syntax.specs.declared.tree.Rule.{Rule}
 use Rattle.rawk_syntax.specs.declared.tree.Program.{Program}
-use Rattle.rawk_syntax.specs.Settled.{Names, Settles, AnExpr, Prints}
-
--- what was met so far: the program's own names, and the lines of the sites in the order of the text
-pub record Met : Type 0 where
-  pub names : Names
-  pub lines : List ℕ
-
-abbrev pub met : Names → List ℕ → Met
-met names lines = record { names = names; lines = lines }
+use Rattle.rawk_names.specs.Named.{Known}
+use Rattle.rawk_syntax.specs.Meant.{Sense, sense, global_words}
+use Rattle.rawk_syntax.specs.Settled.{Settles, AnExpr, Prints}
 
 -- one site more, at a place of the text
 abbrev pub sited : List ℕ → ℕ → List ℕ → List ℕ
 sited text left lines = lines ++ line_of text left ∷ []
 
--- A simple statement, whose site is the next one. A text is what the places are in.
-pub data Simply (text : List ℕ) : Simple → Stmt → Met → Met → Type 0 where
-  evaluate : {s : Expr} {a b : Names} {lines : List ℕ} (left : ℕ) (e : parsed.Expr)
-      → Settles (AnExpr e s) a b → Simply text (simple_at left (act.Evaluate e)) (tree.Do (length lines) s) (met a lines) (met b (sited text left lines))
-  print : {a b : Names} {lines : List ℕ} (left : ℕ) (es : List parsed.Expr) (ss : Vec Expr)
-      → Prints es ss.items a b → Simply text (simple_at left (act.Print es)) (tree.Print (length lines) ss) (met a lines) (met b (sited text left lines))
+-- A simple statement, whose site is the next one, with the lines of the sites before and after it. A text is what the places are in.
+pub data Simply (text : List ℕ) (means : Sense) : Simple → Stmt → List ℕ → List ℕ → Type 0 where
+  evaluate : {s : Expr} {lines : List ℕ} (left : ℕ) (e : parsed.Expr)
+      → Settles means (AnExpr e s) → Simply text means (simple_at left (act.Evaluate e)) (tree.Do (length lines) s) lines (sited text left lines)
+  print : {lines : List ℕ} (left : ℕ) (es : List parsed.Expr) (ss : Vec Expr)
+      → Prints means es ss.items → Simply text means (simple_at left (act.Print es)) (tree.Print (length lines) ss) lines (sited text left lines)
 
--- a statement or several, and what they are settled as
+-- an `exit` with its site, and a status where one is given
+pub data Exits (means : Sense) : ℕ → Option parsed.Expr → Stmt → Type 0 where
+  bare : (site : ℕ) → Exits means site None (tree.Exit site)
+  with_status : {e : parsed.Expr} {s : Expr} (site : ℕ) → Settles means (AnExpr e s) → Exits means site (Some e) (tree.ExitWith site s)
+
+-- A jump, whose site is the next one.
+pub data Jumps (text : List ℕ) (means : Sense) : ℕ → Jump → Stmt → List ℕ → List ℕ → Type 0 where
+  breaks : {lines : List ℕ} (left : ℕ) → Jumps text means left jump.Break (tree.Break (length lines)) lines (sited text left lines)
+  continues : {lines : List ℕ} (left : ℕ) → Jumps text means left jump.Continue (tree.Continue (length lines)) lines (sited text left lines)
+  goes_next : {lines : List ℕ} (left : ℕ) → Jumps text means left jump.Next (tree.Next (length lines)) lines (sited text left lines)
+  exits : {o : Option parsed.Expr} {t : Stmt} {lines : List ℕ} (left : ℕ) → Exits means (length lines) o t → Jumps text means left (jump.Exit o) t lines (sited text left lines)
+
+-- the condition of a `for`: a missing one is the number 1
+pub data Tests (means : Sense) : Option parsed.Expr → Expr → Type 0 where
+  missing_test : Tests means None (expr.Number (pos 1))
+  given_test : {e : parsed.Expr} {s : Expr} → Settles means (AnExpr e s) → Tests means (Some e) s
+
+-- a statement, several, one that may be missing, or branches, and what they are settled as
 pub data Pair : Type 0 where
   AStmt : step.Stmt → Stmt → Pair
   SomeStmts : List step.Stmt → List Stmt → Pair
+  AnOther : Option step.Stmt → Stmt → Pair
+  SomeBranches : List branching.Branch → List Branch → Pair
 
--- With what was met before and after, the one is settled as the other.
-pub data Lays (text : List ℕ) : Pair → Met → Met → Type 0 where
-  empty : {m : Met} (ts : Vec Stmt) → ts.items ≡ [] → Lays text (AStmt from.Empty (tree.Block ts)) m m
-  simple : {s : Simple} {t : Stmt} {m n : Met} → Simply text s t m n → Lays text (AStmt (from.Simple s) t) m n
-  block : {ss : List step.Stmt} {m n : Met} (ts : Vec Stmt) → Lays text (SomeStmts ss ts.items) m n → Lays text (AStmt (from.Block ss) (tree.Block ts)) m n
-  no_statement : {m : Met} → Lays text (SomeStmts [] []) m m
-  a_statement : {ss : List step.Stmt} {ts : List Stmt} {s : step.Stmt} {t : Stmt} {m n o : Met}
-      → Lays text (SomeStmts ss ts) m n → Lays text (AStmt s t) n o → Lays text (SomeStmts (ss ++ s ∷ []) (ts ++ t ∷ [])) m o
+-- With the lines of the sites before and after, the one is settled as the other.
+pub data Lays (text : List ℕ) (means : Sense) : Pair → List ℕ → List ℕ → Type 0 where
+  empty : {m : List ℕ} (ts : Vec Stmt) → ts.items ≡ [] → Lays text means (AStmt from.Empty (tree.Block ts)) m m
+  simple : {s : Simple} {t : Stmt} {m n : List ℕ} → Simply text means s t m n → Lays text means (AStmt (from.Simple s) t) m n
+  block : {ss : List step.Stmt} {m n : List ℕ} (ts : Vec Stmt) → Lays text means (SomeStmts ss ts.items) m n → Lays text means (AStmt (from.Block ss) (tree.Block ts)) m n
+  jumping : {j : Jump} {t : Stmt} {m n : List ℕ} (left : ℕ) → Jumps text means left j t m n → Lays text means (AStmt (from.Jump left j) t) m n
+  -- branches, and then the `else`
+  choice : {bs : List branching.Branch} {other : Option step.Stmt} {m n o : List ℕ} (cs : Vec Branch) (t : Box Stmt)
+      → Lays text means (SomeBranches bs cs.items) m n → Lays text means (AnOther other t.value) n o → Lays text means (AStmt (from.If bs other) (tree.If cs t)) m o
+  -- the condition, and then the body
+  repeats : {c : Condition} {s : step.Stmt} {e : Expr} {m n : List ℕ} (t : Box Stmt)
+      → Settles means (AnExpr c.test e) → Lays text means (AStmt s t.value) (sited text c.left m) n → Lays text means (AStmt (from.While c s) (tree.While (length m) e t)) m n
+  -- the body, and then the condition
+  repeats_behind : {c : Condition} {s : step.Stmt} {e : Expr} {m n : List ℕ} (t : Box Stmt)
+      → Lays text means (AStmt s t.value) m n → Settles means (AnExpr c.test e) → Lays text means (AStmt (from.Do s c) (tree.DoWhile t (length n) e)) m (sited text c.left n)
+  -- the beginning, the condition, the step, the body
+  counts : {s : step.Stmt} {e : Expr} {m n o p : List ℕ} (h : Head) (first step t : Box Stmt)
+      → Lays text means (AnOther h.first first.value) m n → Tests means h.test e → Lays text means (AnOther h.last step.value) (sited text h.left n) o → Lays text means (AStmt s t.value) o p
+      → Lays text means (AStmt (from.For h s) (tree.For first (length n) e step t)) m p
+  absent : {m : List ℕ} (ts : Vec Stmt) → ts.items ≡ [] → Lays text means (AnOther None (tree.Block ts)) m m
+  present : {s : step.Stmt} {t : Stmt} {m n : List ℕ} → Lays text means (AStmt s t) m n → Lays text means (AnOther (Some s) t) m n
+  no_branch : {m : List ℕ} → Lays text means (SomeBranches [] []) m m
+  a_branch : {bs : List branching.Branch} {cs : List Branch} {m n o : List ℕ} (b : branching.Branch) (c : Branch)
+      → Lays text means (SomeBranches bs cs) m n → c.site ≡ length n → Settles means (AnExpr b.condition.test c.test) → Lays text means (AStmt b.body c.body) (sited text b.condition.left n) o
+      → Lays text means (SomeBranches (bs ++ b ∷ []) (cs ++ c ∷ [])) m o
+  no_statement : {m : List ℕ} → Lays text means (SomeStmts [] []) m m
+  a_statement : {ss : List step.Stmt} {ts : List Stmt} {s : step.Stmt} {t : Stmt} {m n o : List ℕ}
+      → Lays text means (SomeStmts ss ts) m n → Lays text means (AStmt s t) n o → Lays text means (SomeStmts (ss ++ s ∷ []) (ts ++ t ∷ [])) m o
+
+-- what stands in the parentheses of a `for`: the beginning, the condition, the step
+pub record Heads (text : List ℕ) (means : Sense) (h : Head) (settled : LoopHead) (m o : List ℕ) : Type 0 where
+  pub before : List ℕ
+  pub first : Lays text means (AnOther h.first settled.first.value) m before
+  pub site : settled.site ≡ length before
+  pub test : Tests means h.test settled.test
+  pub step : Lays text means (AnOther h.last settled.step.value) (sited text h.left before) o
+
+-- nodes from their parts, the last one last
+abbrev pub branch_with : ℕ → Expr → Stmt → Branch
+branch_with site test body = record { site = site; test = test; body = body }
+
+abbrev pub head_with : Box Stmt → ℕ → Expr → Box Stmt → LoopHead
+head_with first site test step = record { first = first; site = site; test = test; step = step }
+
+abbrev pub for_with : LoopHead → Box Stmt → Stmt
+for_with head body = tree.For head.first head.site head.test head.step body
 
 -- the action of a rule with a pattern: a missing one prints the record, and its site is directly behind the pattern
-pub data Does (text : List ℕ) : Action → Stmt → Met → Met → Type 0 where
-  missing : {a b : Names} {lines : List ℕ} (left : ℕ) (ss : Vec Expr)
-      → Prints [] ss.items a b → Does text (does.Missing left) (tree.Print (length lines) ss) (met a lines) (met b (sited text left lines))
-  given : {ss : List step.Stmt} {m n : Met} (ts : Vec Stmt) → Lays text (SomeStmts ss ts.items) m n → Does text (does.Given ss) (tree.Block ts) m n
+pub data Does (text : List ℕ) (means : Sense) : Action → Stmt → List ℕ → List ℕ → Type 0 where
+  missing : {lines : List ℕ} (left : ℕ) (ss : Vec Expr)
+      → Prints means [] ss.items → Does text means (does.Missing left) (tree.Print (length lines) ss) lines (sited text left lines)
+  given : {ss : List step.Stmt} {m n : List ℕ} (ts : Vec Stmt) → Lays text means (SomeStmts ss ts.items) m n → Does text means (does.Given ss) (tree.Block ts) m n
 
 abbrev pub rule_of : ℕ → Expr → Stmt → Rule
 rule_of site test action = record { site = site; guard = tree_guard.When test; action = action }
 
 -- a rule with a pattern, whose first site is that of its test
-pub data Rules (text : List ℕ) : Pattern → Action → Rule → Met → Met → Type 0 where
-  when : {e : parsed.Expr} {s : Expr} {x : Action} {t : Stmt} {a b : Names} {lines : List ℕ} {m : Met} (left : ℕ)
-      → Settles (AnExpr e s) a b → Does text x t (met b (sited text left lines)) m → Rules text (guard.When left e) x (rule_of (length lines) s t) (met a lines) m
+pub data Rules (text : List ℕ) (means : Sense) : Pattern → Action → Rule → List ℕ → List ℕ → Type 0 where
+  when : {e : parsed.Expr} {s : Expr} {x : Action} {t : Stmt} {lines n : List ℕ} (left : ℕ)
+      → Settles means (AnExpr e s) → Does text means x t (sited text left lines) n → Rules text means (guard.When left e) x (rule_of (length lines) s t) lines n
 
 -- the items of a program, in the order of the text
-pub data Sorts (text : List ℕ) : List Item → List Stmt → List Rule → List Stmt → Met → Type 0 where
-  no_item : Sorts text [] [] [] [] (met [] [])
-  begin : {items : List Item} {begins ends : List Stmt} {rules : List Rule} {ss : List step.Stmt} {m n : Met} (ts : Vec Stmt)
-      → Sorts text items begins rules ends m → Lays text (SomeStmts ss ts.items) m n
-      → Sorts text (items ++ part.Begin ss ∷ []) (begins ++ tree.Block ts ∷ []) rules ends n
-  ending : {items : List Item} {begins ends : List Stmt} {rules : List Rule} {ss : List step.Stmt} {m n : Met} (ts : Vec Stmt)
-      → Sorts text items begins rules ends m → Lays text (SomeStmts ss ts.items) m n
-      → Sorts text (items ++ part.End ss ∷ []) begins rules (ends ++ tree.Block ts ∷ []) n
+pub data Sorts (text : List ℕ) (means : Sense) : List Item → List Stmt → List Rule → List Stmt → List ℕ → Type 0 where
+  no_item : Sorts text means [] [] [] [] []
+  begin : {items : List Item} {begins ends : List Stmt} {rules : List Rule} {ss : List step.Stmt} {m n : List ℕ} (ts : Vec Stmt)
+      → Sorts text means items begins rules ends m → Lays text means (SomeStmts ss ts.items) m n
+      → Sorts text means (items ++ part.Begin ss ∷ []) (begins ++ tree.Block ts ∷ []) rules ends n
+  ending : {items : List Item} {begins ends : List Stmt} {rules : List Rule} {ss : List step.Stmt} {m n : List ℕ} (ts : Vec Stmt)
+      → Sorts text means items begins rules ends m → Lays text means (SomeStmts ss ts.items) m n
+      → Sorts text means (items ++ part.End ss ∷ []) begins rules (ends ++ tree.Block ts ∷ []) n
   -- a missing pattern is the number 1, and its site is at the brace
-  always : {items : List Item} {begins ends : List Stmt} {rules : List Rule} {ss : List step.Stmt} {a : Names} {lines : List ℕ} {n : Met} (left : ℕ) (ts : Vec Stmt)
-      → Sorts text items begins rules ends (met a lines) → Lays text (SomeStmts ss ts.items) (met a (sited text left lines)) n
-      → Sorts text (items ++ part.Always left ss ∷ []) begins (rules ++ rule_of (length lines) (expr.Number (pos 1)) (tree.Block ts) ∷ []) ends n
-  rule : {items : List Item} {begins ends : List Stmt} {rules : List Rule} {p : Pattern} {x : Action} {r : Rule} {m n : Met}
-      → Sorts text items begins rules ends m → Rules text p x r m n
-      → Sorts text (items ++ part.Rule p x ∷ []) begins (rules ++ r ∷ []) ends n
+  always : {items : List Item} {begins ends : List Stmt} {rules : List Rule} {ss : List step.Stmt} {lines n : List ℕ} (left : ℕ) (ts : Vec Stmt)
+      → Sorts text means items begins rules ends lines → Lays text means (SomeStmts ss ts.items) (sited text left lines) n
+      → Sorts text means (items ++ part.Always left ss ∷ []) begins (rules ++ rule_of (length lines) (expr.Number (pos 1)) (tree.Block ts) ∷ []) ends n
+  rule : {items : List Item} {begins ends : List Stmt} {rules : List Rule} {p : Pattern} {x : Action} {r : Rule} {m n : List ℕ}
+      → Sorts text means items begins rules ends m → Rules text means p x r m n
+      → Sorts text means (items ++ part.Rule p x ∷ []) begins (rules ++ r ∷ []) ends n
 
--- The program's parts are those of these items of the text, and these names and lines of sites were met.
-abbrev pub IsLaidWith : List ℕ → List Item → Program → Met → Type 0
-IsLaidWith text items p m = Sorts text items p.begin.items p.rules.items p.end.items m
+-- The program's parts are those of these items of the text, and these are the lines of its sites.
+abbrev pub IsLaidWith : List ℕ → Sense → List Item → Program → List ℕ → Type 0
+IsLaidWith text means items p lines = Sorts text means items p.begin.items p.rules.items p.end.items lines
 
--- The program is that of these items: its names in the order of their first appearance, its sites in the order of the text.
-abbrev pub IsLaid : List ℕ → List Item → Program → Type 0
-IsLaid text items p = IsLaidWith text items p (met p.names.items p.lines.items)
+-- The program is that of these items, by what is known of their names: its sites are in the order of the text.
+pub record IsLaid (text : List ℕ) (names : Known) (items : List Item) (p : Program) : Type 0 where
+  pub sorted : IsLaidWith text (sense names 0) items p p.lines.items
+  pub named : p.names.items ≡ global_words names

@@ -1,5 +1,5 @@
+pub mod Meant
 pub mod Covered
-pub mod Indexed
 pub mod Settled
 pub mod Sites
 pub mod Laid

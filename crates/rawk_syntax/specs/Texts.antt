@@ -1,5 +1,5 @@
 -- Whole texts.
-use Rattle.std.specs.Prelude.{◌≡◌, ◌≢◌, ℕ, ◌+◌, ◌-◌, ◌≤◌, nat_lt, if◌then◌else◌, List, length, Option, Some, None, option_map, Result, Ok, Err}
+use Rattle.std.specs.Prelude.{◌≡◌, ◌≢◌, ◌⊎◌, ℕ, ◌+◌, ◌-◌, ◌<◌, ◌≤◌, List, length, None, Some, Result, Ok, Err}
 use Rattle.rawk_limits.specs.declared.TheConstants.{OPEN_CONSTRUCTS, PROGRAM_BYTES}
 use Rattle.rawk_lexer.specs.Lines.{line_of}
 use Rattle.rawk_parsing.specs.declared.refusal.Refusal.{Refusal}
@@ -11,61 +11,113 @@ use Rattle.rawk_grammar.specs.declared.tree.Item.{Item}
 use Rattle.rawk_grammar.specs.Items.{program}
 use Rattle.rawk_grammar.specs.Texts as grammar
 use Rattle.rawk_grammar.specs.Plain as plain
+use Rattle.rawk_names.specs.declared.names.NameError.{NameError}
+use Rattle.rawk_names.specs.declared.names.NameError.TheVariants as misused
+use Rattle.rawk_names.specs.Items as naming
+use Rattle.rawk_names.specs.Named.{Known, IsNamed, IsRefused}
 use Rattle.rawk_syntax.specs.declared.tree.Program.{Program}
+use Rattle.rawk_syntax.specs.Meant.{sense}
 use Rattle.rawk_syntax.specs.Covered.{program_gap}
 use Rattle.rawk_syntax.specs.Laid.{IsLaid}
+
+-- ---- programs
 
 -- by the grammar the text has these items, within the limit of open constructs
 abbrev pub IsText : List ℕ → List Item → Type 0
 IsText text items = grammar.IsText (OPEN_CONSTRUCTS + 1) items text
 
+-- The names of the items are in order, and the program is theirs by what is known of these.
+pub record IsSettled (text : List ℕ) (items : List Item) (p : Program) : Type 0 where
+  pub names : Known
+  pub named : IsNamed (naming.program items) names
+  pub laid : IsLaid text names items p
+
 -- The program is that of items that the text has by the grammar, within the limit of open constructs.
 pub record IsReading (text : List ℕ) (p : Program) : Type 0 where
   pub items : List Item
   pub derived : IsText text items
-  pub settled : IsLaid text items p
+  pub settled : IsSettled text items p
 
 -- The same, and the text is within the limit of bytes.
 pub record IsProgram (text : List ℕ) (p : Program) : Type 0 where
   pub short : length text ≤ PROGRAM_BYTES
   pub reading : IsReading text p
 
--- The text has these items by plain rules alone, within the limits, and the settled tree has all that is in them.
+-- The text has these items by plain rules alone, within the limits; their names are in order, and the settled tree has all that is in them.
 pub record IsPlain (text : List ℕ) (items : List Item) : Type 0 where
   pub derived : plain.IsPlainText (OPEN_CONSTRUCTS + 1) items text
-  pub covered : program_gap items ≡ None
+  pub names : Known
+  pub named : IsNamed (naming.program items) names
+  pub covered : program_gap (sense names 0) items ≡ None
 
 -- the answer is a program of these items, or memory was refused
 abbrev pub IsSettledAs : List ℕ → List Item → Result Program ParseError → Type 0
-IsSettledAs text items (Ok p) = IsLaid text items p
+IsSettledAs text items (Ok p) = IsSettled text items p
 IsSettledAs text items (Err e) = e ≡ refused.OutOfMemory
 
 abbrev pub IsRead : List ℕ → List Item → Result Program Refusal → Type 0
-IsRead text items (Ok p) = IsLaid text items p
+IsRead text items (Ok p) = IsSettled text items p
 IsRead text items (Err refusal) = refusal.kind ≡ kinds.OutOfMemory
 
 -- ---- refusals
 
-abbrev pub flaw_in : Outcome (List Item) → Option ParseError
-flaw_in (Ok r) = program_gap r.0
-flaw_in (Err e) = Some e
+-- what is told of names: a bad regular expression, or a misuse
+abbrev pub told_of : NameError → ParseError
+told_of misused.OutOfMemory = refused.OutOfMemory
+told_of (misused.BadEre left) = refused.Here kinds.BadEre left
+told_of (misused.Misused left) = refused.Here kinds.NameMisused left
 
--- why and where a text is refused, if it is: by the parser as a function, or at the first part that is left out
-unfoldable pub flaw : List ℕ → Option ParseError
-flaw text = flaw_in (program (OPEN_CONSTRUCTS + 1) text)
+-- the names of the items are refused so
+pub record IsMisnamed (items : List Item) (e : ParseError) : Type 0 where
+  pub why : NameError
+  pub some : why ≢ misused.OutOfMemory
+  pub misnamed : IsRefused (naming.program items) why
+  pub is : e ≡ told_of why
+
+-- their names are in order, and this is the first part of them that is left out
+pub record IsLeftOut (items : List Item) (e : ParseError) : Type 0 where
+  pub names : Known
+  pub named : IsNamed (naming.program items) names
+  pub gap : program_gap (sense names 0) items ≡ Some e
+
+-- items are refused by their names, or else for what the settled tree does not have
+abbrev pub AreFlawed : List Item → ParseError → Type 0
+AreFlawed items e = IsMisnamed items e ⊎ IsLeftOut items e
+
+-- what the parser as a function gives is refused so
+abbrev pub IsFlawOf : Outcome (List Item) → ParseError → Type 0
+IsFlawOf (Ok r) e = AreFlawed r.0 e
+IsFlawOf (Err f) e = f ≡ e
+
+abbrev pub IsFlawIn : List ℕ → ParseError → Type 0
+IsFlawIn text e = IsFlawOf (program (OPEN_CONSTRUCTS + 1) text) e
+
+-- a text that is too long is refused at its first byte past the limit
+abbrev pub IsTooLong : List ℕ → ParseError → Type 0
+IsTooLong text e = (PROGRAM_BYTES < length text) × (e ≡ refused.Here kinds.TooDeep (length text - PROGRAM_BYTES))
+
+-- why and where a text is refused: for its size, else by the grammar, else by its names, else at the first part that is left out
+abbrev pub IsFlaw : List ℕ → ParseError → Type 0
+IsFlaw text e = IsTooLong text e ⊎ ((length text ≤ PROGRAM_BYTES) × IsFlawIn text e)
 
 -- a refusal with its line; want of memory has none
 abbrev pub told : List ℕ → ParseError → Refusal
 told text refused.OutOfMemory = record { kind = kinds.OutOfMemory; line = 0 }
 told text (refused.Here kind left) = record { kind = kind; line = line_of text left }
 
--- the refusal of a text, if it is refused: a text that is too long is refused at its first byte past the limit
-abbrev pub refusal_of : List ℕ → Option Refusal
-refusal_of text =
-    if nat_lt PROGRAM_BYTES (length text) then Some (told text (refused.Here kinds.TooDeep (length text - PROGRAM_BYTES)))
-    else option_map (told text) (flaw text)
+-- the text is refused, with this kind and line
+abbrev pub IsRefusal : List ℕ → Refusal → Type 0
+IsRefusal text refusal = (e : ParseError) × IsFlaw text e × (refusal ≡ told text e)
 
--- an answer of what is refused so, or not: memory may also be refused
-abbrev pub Answers : Option Refusal → Result Program Refusal → Type 0
-Answers refusal (Ok p) = refusal ≡ None
-Answers refusal (Err e) = e.kind ≢ kinds.OutOfMemory → refusal ≡ Some e
+-- an answer tells a flaw, if there is one: memory may also be refused
+abbrev pub Tells : {A : Type 0} → (ParseError → Type 0) → Result A ParseError → Type 0
+Tells Flaw (Ok a) = (e : ParseError) → Flaw e → ⊥
+Tells Flaw (Err e) = e ≢ refused.OutOfMemory → Flaw e
+
+abbrev pub Answers : List ℕ → Result Program Refusal → Type 0
+Answers text (Ok p) = (e : ParseError) → IsFlaw text e → ⊥
+Answers text (Err refusal) = refusal.kind ≢ kinds.OutOfMemory → IsRefusal text refusal
+
+-- a text is refused in one way at most
+abbrev pub IsRefusedOnce : Type 0
+IsRefusedOnce = (text : List ℕ) (a b : Refusal) → IsRefusal text a → IsRefusal text b → a ≡ b

@@ -4,38 +4,42 @@ ghost use Rattle.std.specs.Prelude.{◌≡◌, List, [], ◌∷◌, ◌++◌, If
 ghost use Rattle.rawk_grammar.specs.declared.tree.Item as part;
 ghost use Rattle.rawk_syntax.specs.Covered as cover;
 ghost use Rattle.rawk_syntax.specs.Covered.{Judges};
-ghost use Rattle.rawk_syntax.specs.Laid.{met, sited, Lays, SomeStmts, Does, Rules, IsLaidWith, IsLaid};
+ghost use Rattle.rawk_names.specs.Named.{known};
+ghost use Rattle.rawk_syntax.specs.Meant.{global_words, sense, sense_of};
+ghost use Rattle.rawk_syntax.specs.Laid.{sited, Lays, SomeStmts, Does, Rules, IsLaidWith, IsLaid};
 
 use crate::expressions::{left_out, settle_expr, settle_printed};
 use crate::growth::push;
 use crate::lines::Sites;
-use crate::names::Names;
+use crate::scope::Scope;
 use crate::statements::settle_statements;
 use crate::tree::{Expr, Guard, Program, Rule, Stmt};
 use rawk_grammar::tree::{Action, Item, Pattern};
+use rawk_names::Names;
 use rawk_parsing::ParseError;
-use std::alloc::Global;
+use rawk_value::Bytes;
+use std::alloc::{AllocError, Global};
 
 /// What a rule with a pattern does. A missing action prints the record.
 fn settle_action(
     alloc: Global,
     sites: &mut Sites<'_>,
-    names: &mut Names,
+    scope: &Scope<'_>,
     action: &Action,
 ) -> Result<Stmt, ParseError>
     ensures text { sites.new.text ≡ sites.old.text }
-    ensures settled { IfOk result (λ t. Does sites.old.text.now action.now t (met names.old sites.old.lines.items) (met names.new sites.new.lines.items)) }
-    ensures judged { Judges (cover.action_gap action.now) result }
+    ensures settled { IfOk result (λ t. Does sites.old.text.now (sense_of scope.now) action.now t sites.old.lines.items sites.new.lines.items) }
+    ensures judged { Judges (cover.action_gap (sense_of scope.now) action.now) result }
 {
     match action {
         Action::Missing(left) => {
             let site = sites.lines.len();
             sites.add(*left)?;
-            let record = settle_printed(alloc, names, *left, &[])?;
+            let record = settle_printed(alloc, scope, *left, &[])?;
             Ok(Stmt::Print(site, record))
         }
         Action::Given(steps) => {
-            let steps = settle_statements(alloc, sites, names, steps.as_slice())?;
+            let steps = settle_statements(alloc, sites, scope, steps.as_slice())?;
             Ok(Stmt::Block(steps))
         }
     }
@@ -45,20 +49,20 @@ fn settle_action(
 fn settle_rule(
     alloc: Global,
     sites: &mut Sites<'_>,
-    names: &mut Names,
+    scope: &Scope<'_>,
     pattern: &Pattern,
     action: &Action,
 ) -> Result<Rule, ParseError>
     ensures text { sites.new.text ≡ sites.old.text }
-    ensures settled { IfOk result (λ r. Rules sites.old.text.now pattern.now action.now r (met names.old sites.old.lines.items) (met names.new sites.new.lines.items)) }
-    ensures judged { Judges (cover.rule_gap pattern.now action.now) result }
+    ensures settled { IfOk result (λ r. Rules sites.old.text.now (sense_of scope.now) pattern.now action.now r sites.old.lines.items sites.new.lines.items) }
+    ensures judged { Judges (cover.rule_gap (sense_of scope.now) pattern.now action.now) result }
 {
     match pattern {
         Pattern::When(left, test) => {
             let site = sites.lines.len();
             sites.add(*left)?;
-            let guard = Guard::When(settle_expr(alloc, names, *left, test.get())?);
-            let action = settle_action(alloc, sites, names, action)?;
+            let guard = Guard::When(settle_expr(alloc, scope, *left, test.get())?);
+            let action = settle_action(alloc, sites, scope, action)?;
             Ok(Rule {
                 site,
                 guard,
@@ -73,28 +77,28 @@ fn settle_rule(
 fn settle_item(
     alloc: Global,
     sites: &mut Sites<'_>,
-    names: &mut Names,
+    scope: &Scope<'_>,
     program: &mut Program,
     item: &Item,
 ) -> Result<(), ParseError>
     ensures text { sites.new.text ≡ sites.old.text }
-    ensures settled { OnOk result ((items : List part.Item) → IsLaidWith sites.old.text.now items program.old (met names.old sites.old.lines.items)
-        → IsLaidWith sites.old.text.now (items ++ item.now ∷ []) program.new (met names.new sites.new.lines.items)) }
-    ensures judged { Judges (cover.item_gap item.now) result }
+    ensures settled { OnOk result ((items : List part.Item) → IsLaidWith sites.old.text.now (sense_of scope.now) items program.old sites.old.lines.items
+        → IsLaidWith sites.old.text.now (sense_of scope.now) (items ++ item.now ∷ []) program.new sites.new.lines.items) }
+    ensures judged { Judges (cover.item_gap (sense_of scope.now) item.now) result }
 {
     match item {
         Item::Begin(steps) => {
-            let steps = settle_statements(alloc, sites, names, steps.as_slice())?;
+            let steps = settle_statements(alloc, sites, scope, steps.as_slice())?;
             push(&mut program.begin, Stmt::Block(steps))?;
         }
         Item::End(steps) => {
-            let steps = settle_statements(alloc, sites, names, steps.as_slice())?;
+            let steps = settle_statements(alloc, sites, scope, steps.as_slice())?;
             push(&mut program.end, Stmt::Block(steps))?;
         }
         Item::Always(left, steps) => {
             let site = sites.lines.len();
             sites.add(*left)?;
-            let steps = settle_statements(alloc, sites, names, steps.as_slice())?;
+            let steps = settle_statements(alloc, sites, scope, steps.as_slice())?;
             push(
                 &mut program.rules,
                 Rule {
@@ -105,7 +109,7 @@ fn settle_item(
             )?;
         }
         Item::Rule(pattern, action) => {
-            let rule = settle_rule(alloc, sites, names, pattern.get(), action)?;
+            let rule = settle_rule(alloc, sites, scope, pattern.get(), action)?;
             push(&mut program.rules, rule)?;
         }
         Item::Function(left, _, _, _) => return Err(left_out(*left)),
@@ -113,12 +117,29 @@ fn settle_item(
     Ok(())
 }
 
-/// The program of the items of a text. What the settled tree does not have yet is refused as left out, at the place of its statement,
-/// condition, pattern or item.
-pub fn settle(alloc: Global, text: &[u8], items: &[Item]) -> Result<Program, ParseError>
-    ensures settled { IfOk result (λ p. IsLaid text.now items.now p) }
-    ensures judged { Judges (cover.program_gap items.now) result }
+/// The names of the globals that are not special, in the order in which they appear.
+fn global_words(alloc: Global, names: &Names) -> Result<Vec<Bytes>, AllocError>
+    ensures { IfOk result (λ words. words.items ≡ global_words (known names.now)) }
 {
+    let mut words = Vec::new(alloc);
+    for variable in names.first_own_global()..names.variable_count() {
+        words.push(Bytes::from_slice(alloc, names.variable_name(variable))?)?;
+    }
+    Ok(words)
+}
+
+/// The program of the items of a text, by their names. What the settled tree does not have yet is refused as left out, at the place of
+/// its statement, condition, pattern or item.
+pub fn settle(
+    alloc: Global,
+    text: &[u8],
+    names: &Names,
+    items: &[Item],
+) -> Result<Program, ParseError>
+    ensures settled { IfOk result (λ p. IsLaid text.now (known names.now) items.now p) }
+    ensures judged { Judges (cover.program_gap (sense (known names.now) 0) items.now) result }
+{
+    let words = global_words(alloc, names)?;
     let mut program = Program {
         names: Vec::new(alloc),
         begin: Vec::new(alloc),
@@ -127,11 +148,11 @@ pub fn settle(alloc: Global, text: &[u8], items: &[Item]) -> Result<Program, Par
         lines: Vec::new(alloc),
     };
     let mut sites = Sites::new(alloc, text);
-    let mut names = Names::new(alloc);
+    let scope = Scope { names, number: 0 };
     for item in items {
-        settle_item(alloc, &mut sites, &mut names, &mut program, item)?;
+        settle_item(alloc, &mut sites, &scope, &mut program, item)?;
     }
-    program.names = names.into_names();
+    program.names = words;
     program.lines = sites.lines;
     Ok(program)
 }

@@ -1,17 +1,23 @@
 //! Statements: each gets the sites of its points.
 
-ghost use Rattle.std.specs.Prelude.{◌≡◌, map, IfOk};
+ghost use Rattle.std.specs.Prelude.{◌≡◌, ◌++◌, ◌∷◌, [], length, IfOk};
+ghost use Rattle.std.specs.Result.{result_map_both};
+ghost use Rattle.rawk_grammar.specs.declared.tree.Jump.TheVariants as jump;
+ghost use Rattle.rawk_grammar.specs.declared.tree.Stmt.TheVariants as from;
+ghost use Rattle.rawk_syntax.specs.declared.tree.Stmt.TheVariants as tree;
 ghost use Rattle.rawk_syntax.specs.Covered as cover;
 ghost use Rattle.rawk_syntax.specs.Covered.{Judges};
-ghost use Rattle.rawk_syntax.specs.Laid.{met, Simply, Lays, AStmt, SomeStmts};
+ghost use Rattle.rawk_syntax.specs.Meant.{sense_of};
+ghost use Rattle.rawk_syntax.specs.Settled.{Settles, AnExpr};
+ghost use Rattle.rawk_syntax.specs.Laid.{sited, Simply, Exits, Jumps, Tests, Lays, AStmt, SomeStmts, SomeBranches, AnOther, Heads, branch_with, head_with, for_with};
 
 use crate::expressions::{left_out, settle_expr, settle_printed};
-use crate::growth::push;
+use crate::growth::{boxed, push};
 use crate::lines::Sites;
-use crate::names::Names;
-use crate::tree::Stmt;
+use crate::scope::Scope;
+use crate::tree::{Branch, Expr, Stmt};
 use rawk_grammar::tree as parsed;
-use rawk_grammar::tree::{Act, Branch, Simple};
+use rawk_grammar::tree::{Act, Condition, Jump, Simple};
 use rawk_items::Boxed;
 use rawk_parsing::ParseError;
 use std::alloc::Global;
@@ -20,36 +26,85 @@ use std::alloc::Global;
 fn settle_simple(
     alloc: Global,
     sites: &mut Sites<'_>,
-    names: &mut Names,
+    scope: &Scope<'_>,
     simple: &Simple,
 ) -> Result<Stmt, ParseError>
     ensures text { sites.new.text ≡ sites.old.text }
-    ensures settled { IfOk result (λ t. Simply sites.old.text.now simple.now t (met names.old sites.old.lines.items) (met names.new sites.new.lines.items)) }
-    ensures judged { Judges (cover.simple_gap simple.now) result }
+    ensures settled { IfOk result (λ t. Simply sites.old.text.now (sense_of scope.now) simple.now t sites.old.lines.items sites.new.lines.items) }
+    ensures judged { Judges (cover.simple_gap (sense_of scope.now) simple.now) result }
 {
     let site = sites.lines.len();
     sites.add(simple.left)?;
     match &simple.act {
         Act::Evaluate(e) => {
-            let e = settle_expr(alloc, names, simple.left, e.get())?;
+            let e = settle_expr(alloc, scope, simple.left, e.get())?;
             Ok(Stmt::Do(site, e))
         }
         Act::Print(list) => {
-            let list = settle_printed(alloc, names, simple.left, list.as_slice())?;
+            let list = settle_printed(alloc, scope, simple.left, list.as_slice())?;
             Ok(Stmt::Print(site, list))
         }
         Act::Printf(_) | Act::Delete(_) => Err(left_out(simple.left)),
     }
 }
 
-/// The place of the first condition of an `if`.
-fn place_of_branches(branches: &[Boxed<Branch>]) -> usize
-    ensures { result ≡ cover.head_of (map cover.branch_place branches.now) }
+/// An `exit` with its site and, where one is given, its status.
+fn settle_exit(
+    alloc: Global,
+    scope: &Scope<'_>,
+    site: usize,
+    left: usize,
+    status: &Option<Boxed<rawk_parsing::tree::Expr>>,
+) -> Result<Stmt, ParseError>
+    ensures settled { IfOk result (λ t. Exits (sense_of scope.now) site status.now t) }
+    ensures judged { Judges (cover.jump_gap (sense_of scope.now) left (jump.Exit status.now)) result }
 {
-    match branches {
-        [first, ..] => first.get().condition.get().left,
-        [] => 0,
+    match status {
+        None => Ok(Stmt::Exit(site)),
+        Some(e) => {
+            let e = settle_expr(alloc, scope, left, e.get())?;
+            Ok(Stmt::ExitWith(site, e))
+        }
     }
+}
+
+/// A jump, whose site is added. The settled tree has no `return` yet.
+fn settle_jump(
+    alloc: Global,
+    sites: &mut Sites<'_>,
+    scope: &Scope<'_>,
+    left: usize,
+    jump: &Jump,
+) -> Result<Stmt, ParseError>
+    ensures text { sites.new.text ≡ sites.old.text }
+    ensures settled { IfOk result (λ t. Jumps sites.old.text.now (sense_of scope.now) left jump.now t sites.old.lines.items sites.new.lines.items) }
+    ensures judged { Judges (cover.jump_gap (sense_of scope.now) left jump.now) result }
+{
+    let site = sites.lines.len();
+    sites.add(left)?;
+    match jump {
+        Jump::Next => Ok(Stmt::Next(site)),
+        Jump::Break => Ok(Stmt::Break(site)),
+        Jump::Continue => Ok(Stmt::Continue(site)),
+        Jump::Exit(status) => settle_exit(alloc, scope, site, left, status),
+        Jump::Return(_) => Err(left_out(left)),
+    }
+}
+
+/// A condition, whose site is added; the site was the next one.
+fn settle_condition(
+    alloc: Global,
+    sites: &mut Sites<'_>,
+    scope: &Scope<'_>,
+    condition: &Condition,
+) -> Result<Expr, ParseError>
+    ensures text { sites.new.text ≡ sites.old.text }
+    ensures settled { IfOk result (λ e. Settles (sense_of scope.now) (AnExpr condition.now.test e)) }
+    ensures sited { IfOk result (λ e. sites.new.lines.items ≡ sited sites.old.text.now condition.now.left sites.old.lines.items) }
+    ensures judged { Judges (cover.condition_gap (sense_of scope.now) condition.now) result }
+{
+    sites.add(condition.left)?;
+    settle_expr(alloc, scope, condition.left, condition.test.get())
 }
 
 /// A statement, whose sites are added.
@@ -57,27 +112,272 @@ fn place_of_branches(branches: &[Boxed<Branch>]) -> usize
 fn settle_statement(
     alloc: Global,
     sites: &mut Sites<'_>,
-    names: &mut Names,
+    scope: &Scope<'_>,
     s: &parsed::Stmt,
 ) -> Result<Stmt, ParseError>
     ensures text { sites.new.text ≡ sites.old.text }
-    ensures settled { IfOk result (λ t. Lays sites.old.text.now (AStmt s.now t) (met names.old sites.old.lines.items) (met names.new sites.new.lines.items)) }
-    ensures judged { Judges (cover.gap s.now) result }
+    ensures settled { IfOk result (λ t. Lays sites.old.text.now (sense_of scope.now) (AStmt s.now t) sites.old.lines.items sites.new.lines.items) }
+    ensures judged { Judges (cover.gap (sense_of scope.now) s.now) result }
 {
     match s {
         parsed::Stmt::Empty => Ok(Stmt::Block(Vec::new(alloc))),
-        parsed::Stmt::Simple(simple) => settle_simple(alloc, sites, names, simple.get()),
+        parsed::Stmt::Simple(simple) => settle_simple(alloc, sites, scope, simple.get()),
         parsed::Stmt::Block(all) => {
-            let all = settle_statements(alloc, sites, names, all.as_slice())?;
+            let all = settle_statements(alloc, sites, scope, all.as_slice())?;
             Ok(Stmt::Block(all))
         }
-        parsed::Stmt::Jump(left, _) => Err(left_out(*left)),
-        parsed::Stmt::If(branches, _) => Err(left_out(place_of_branches(branches.as_slice()))),
-        parsed::Stmt::While(condition, _) => Err(left_out(condition.get().left)),
-        parsed::Stmt::Do(_, condition) => Err(left_out(condition.get().left)),
-        parsed::Stmt::For(head, _) => Err(left_out(head.get().left)),
+        parsed::Stmt::Jump(left, jump) => settle_jump(alloc, sites, scope, *left, jump.get()),
+        parsed::Stmt::If(branches, other) => {
+            let branches = settle_branches(alloc, sites, scope, branches.as_slice())?;
+            let otherwise = settle_other(alloc, sites, scope, other)?;
+            Ok(Stmt::If(branches, otherwise))
+        }
+        parsed::Stmt::While(condition, body) => settle_while(
+            alloc,
+            sites,
+            scope,
+            condition.get(),
+            body.get(),
+        ),
+        parsed::Stmt::Do(body, condition) => settle_do(
+            alloc,
+            sites,
+            scope,
+            body.get(),
+            condition.get(),
+        ),
+        parsed::Stmt::For(head, body) => {
+            let head = settle_head(alloc, sites, scope, head.get())?;
+            let turn = settle_body(alloc, sites, scope, body.get());
+            for_of(head, turn)
+        }
         parsed::Stmt::ForIn(left, _, _, _) => Err(left_out(*left)),
     }
+}
+
+/// A `while` of these parts, if its body was settled.
+fn while_of(
+    site: usize,
+    test: Expr,
+    body: Result<Box<Stmt>, ParseError>,
+) -> Result<Stmt, ParseError>
+    ensures { result ≡ result_map_both (tree.While site test) (λ e. e) body }
+{
+    match body {
+        Ok(body) => Ok(Stmt::While(site, test, body)),
+        Err(e) => {
+            drop(test);
+            Err(e)
+        }
+    }
+}
+
+/// A `while`, whose sites are added.
+#[cycle(statements)]
+fn settle_while(
+    alloc: Global,
+    sites: &mut Sites<'_>,
+    scope: &Scope<'_>,
+    condition: &Condition,
+    body: &parsed::Stmt,
+) -> Result<Stmt, ParseError>
+    ensures text { sites.new.text ≡ sites.old.text }
+    ensures settled { IfOk result (λ t. Lays sites.old.text.now (sense_of scope.now) (AStmt (from.While condition.now body.now) t) sites.old.lines.items sites.new.lines.items) }
+    ensures judged { Judges (cover.or_then (cover.condition_gap (sense_of scope.now) condition.now) (cover.gap (sense_of scope.now) body.now)) result }
+{
+    let site = sites.lines.len();
+    let test = settle_condition(alloc, sites, scope, condition)?;
+    let body = settle_body(alloc, sites, scope, body);
+    while_of(site, test, body)
+}
+
+/// A `do`, whose sites are added.
+#[cycle(statements)]
+fn settle_do(
+    alloc: Global,
+    sites: &mut Sites<'_>,
+    scope: &Scope<'_>,
+    body: &parsed::Stmt,
+    condition: &Condition,
+) -> Result<Stmt, ParseError>
+    ensures text { sites.new.text ≡ sites.old.text }
+    ensures settled { IfOk result (λ t. Lays sites.old.text.now (sense_of scope.now) (AStmt (from.Do body.now condition.now) t) sites.old.lines.items sites.new.lines.items) }
+    ensures judged { Judges (cover.or_then (cover.gap (sense_of scope.now) body.now) (cover.condition_gap (sense_of scope.now) condition.now)) result }
+{
+    let body = settle_body(alloc, sites, scope, body)?;
+    let site = sites.lines.len();
+    let test = settle_condition(alloc, sites, scope, condition)?;
+    Ok(Stmt::DoWhile(body, site, test))
+}
+
+/// What stands in the parentheses of a `for`.
+#[derive(Drop)]
+struct LoopHead {
+    first: Box<Stmt>,
+    site: usize,
+    test: Expr,
+    step: Box<Stmt>,
+}
+
+/// A `for` of these parts, if its body was settled.
+fn for_of(head: LoopHead, body: Result<Box<Stmt>, ParseError>) -> Result<Stmt, ParseError>
+    ensures { result ≡ result_map_both (for_with head) (λ e. e) body }
+{
+    match body {
+        Ok(body) => Ok(Stmt::For(head.first, head.site, head.test, head.step, body)),
+        Err(e) => {
+            drop(head);
+            Err(e)
+        }
+    }
+}
+
+/// The parentheses of a `for`, if its step was settled.
+fn head_of(
+    first: Box<Stmt>,
+    site: usize,
+    test: Expr,
+    step: Result<Box<Stmt>, ParseError>,
+) -> Result<LoopHead, ParseError>
+    ensures { result ≡ result_map_both (head_with first site test) (λ e. e) step }
+{
+    match step {
+        Ok(step) => Ok(LoopHead {
+            first,
+            site,
+            test,
+            step,
+        }),
+        Err(e) => {
+            drop(test);
+            drop(first);
+            Err(e)
+        }
+    }
+}
+
+/// What stands in the parentheses of a `for` that counts, whose sites are added.
+#[cycle(statements)]
+fn settle_head(
+    alloc: Global,
+    sites: &mut Sites<'_>,
+    scope: &Scope<'_>,
+    head: &parsed::Head,
+) -> Result<LoopHead, ParseError>
+    ensures text { sites.new.text ≡ sites.old.text }
+    ensures settled { IfOk result (λ h. Heads sites.old.text.now (sense_of scope.now) head.now h sites.old.lines.items sites.new.lines.items) }
+    ensures judged { Judges (cover.head_parts_gap (sense_of scope.now) head.now) result }
+{
+    let first = settle_other(alloc, sites, scope, &head.first)?;
+    let site = sites.lines.len();
+    let test = settle_test(alloc, sites, scope, head.left, &head.test)?;
+    let step = settle_other(alloc, sites, scope, &head.last);
+    head_of(first, site, test, step)
+}
+
+/// A statement that is the body of another.
+#[cycle(statements)]
+fn settle_body(
+    alloc: Global,
+    sites: &mut Sites<'_>,
+    scope: &Scope<'_>,
+    s: &parsed::Stmt,
+) -> Result<Box<Stmt>, ParseError>
+    ensures text { sites.new.text ≡ sites.old.text }
+    ensures settled { IfOk result (λ b. Lays sites.old.text.now (sense_of scope.now) (AStmt s.now b.value) sites.old.lines.items sites.new.lines.items) }
+    ensures judged { Judges (cover.gap (sense_of scope.now) s.now) result }
+{
+    Ok(boxed(alloc, settle_statement(alloc, sites, scope, s)?)?)
+}
+
+/// The condition of a `for`, whose site is added; a missing one is the number 1.
+fn settle_test(
+    alloc: Global,
+    sites: &mut Sites<'_>,
+    scope: &Scope<'_>,
+    left: usize,
+    test: &Option<Boxed<rawk_parsing::tree::Expr>>,
+) -> Result<Expr, ParseError>
+    ensures text { sites.new.text ≡ sites.old.text }
+    ensures settled { IfOk result (λ e. Tests (sense_of scope.now) test.now e) }
+    ensures sited { IfOk result (λ e. sites.new.lines.items ≡ sited sites.old.text.now left sites.old.lines.items) }
+    ensures judged { Judges (cover.test_gap (sense_of scope.now) left test.now) result }
+{
+    sites.add(left)?;
+    match test {
+        None => Ok(Expr::Number(1)),
+        Some(e) => settle_expr(alloc, scope, left, e.get()),
+    }
+}
+
+/// A statement that may be missing: then it does nothing.
+#[cycle(statements)]
+fn settle_other(
+    alloc: Global,
+    sites: &mut Sites<'_>,
+    scope: &Scope<'_>,
+    other: &Option<Boxed<parsed::Stmt>>,
+) -> Result<Box<Stmt>, ParseError>
+    ensures text { sites.new.text ≡ sites.old.text }
+    ensures settled { IfOk result (λ t. Lays sites.old.text.now (sense_of scope.now) (AnOther other.now t.value) sites.old.lines.items sites.new.lines.items) }
+    ensures judged { Judges (cover.other_gap (sense_of scope.now) other.now) result }
+{
+    match other {
+        None => Ok(boxed(alloc, Stmt::Block(Vec::new(alloc)))?),
+        Some(s) => settle_body(alloc, sites, scope, s.get()),
+    }
+}
+
+/// A branch of these parts, if its body was settled.
+fn branch_of(site: usize, test: Expr, body: Result<Stmt, ParseError>) -> Result<Branch, ParseError>
+    ensures { result ≡ result_map_both (branch_with site test) (λ e. e) body }
+{
+    match body {
+        Ok(body) => Ok(Branch { site, test, body }),
+        Err(e) => {
+            drop(test);
+            Err(e)
+        }
+    }
+}
+
+/// A branch of an `if`, whose sites are added.
+#[cycle(statements)]
+fn settle_branch(
+    alloc: Global,
+    sites: &mut Sites<'_>,
+    scope: &Scope<'_>,
+    branch: &parsed::Branch,
+) -> Result<Branch, ParseError>
+    ensures text { sites.new.text ≡ sites.old.text }
+    ensures site { IfOk result (λ b. b.site ≡ length sites.old.lines.items) }
+    ensures test { IfOk result (λ b. Settles (sense_of scope.now) (AnExpr branch.now.condition.test b.test)) }
+    ensures body { IfOk result (λ b. Lays sites.old.text.now (sense_of scope.now) (AStmt branch.now.body b.body) (sited sites.old.text.now branch.now.condition.left sites.old.lines.items) sites.new.lines.items) }
+    ensures judged { Judges (cover.branch_gap (sense_of scope.now) branch.now) result }
+{
+    let site = sites.lines.len();
+    let test = settle_condition(alloc, sites, scope, branch.condition.get())?;
+    let body = settle_statement(alloc, sites, scope, branch.body.get());
+    branch_of(site, test, body)
+}
+
+/// The branches of an `if`, whose sites are added.
+#[cycle(statements)]
+fn settle_branches(
+    alloc: Global,
+    sites: &mut Sites<'_>,
+    scope: &Scope<'_>,
+    all: &[Boxed<parsed::Branch>],
+) -> Result<Vec<Branch>, ParseError>
+    ensures text { sites.new.text ≡ sites.old.text }
+    ensures settled { IfOk result (λ v. Lays sites.old.text.now (sense_of scope.now) (SomeBranches all.now v.items) sites.old.lines.items sites.new.lines.items) }
+    ensures judged { Judges (cover.first_of (cover.branch_gap (sense_of scope.now)) all.now) result }
+{
+    let mut settled = Vec::new(alloc);
+    for b in all {
+        push(&mut settled, settle_branch(alloc, sites, scope, b.get())?)?;
+    }
+    Ok(settled)
 }
 
 /// Statements one after another, whose sites are added.
@@ -85,18 +385,18 @@ fn settle_statement(
 pub fn settle_statements(
     alloc: Global,
     sites: &mut Sites<'_>,
-    names: &mut Names,
+    scope: &Scope<'_>,
     all: &[Boxed<parsed::Stmt>],
 ) -> Result<Vec<Stmt>, ParseError>
     ensures text { sites.new.text ≡ sites.old.text }
-    ensures settled { IfOk result (λ v. Lays sites.old.text.now (SomeStmts all.now v.items) (met names.old sites.old.lines.items) (met names.new sites.new.lines.items)) }
-    ensures judged { Judges (cover.first_of cover.gap all.now) result }
+    ensures settled { IfOk result (λ v. Lays sites.old.text.now (sense_of scope.now) (SomeStmts all.now v.items) sites.old.lines.items sites.new.lines.items) }
+    ensures judged { Judges (cover.first_of (cover.gap (sense_of scope.now)) all.now) result }
 {
     let mut settled = Vec::new(alloc);
     for s in all {
         push(
             &mut settled,
-            settle_statement(alloc, sites, names, s.get())?,
+            settle_statement(alloc, sites, scope, s.get())?,
         )?;
     }
     Ok(settled)

@@ -1,6 +1,16 @@
 //! The tree of a program. Names are numbers, what the text leaves out is filled in, and each place where a point is reached has its site.
 
-use rawk_value::{Arithmetic, Bytes};
+use rawk_parsing::tree::{Logic, Sign};
+use rawk_value::{Arithmetic, Bytes, Comparison};
+
+/// What joins two values.
+#[derive(Clone, Copy, Debug, PartialEq, Eq)]
+pub enum Joiner {
+    Arithmetic(Arithmetic),
+    Comparison(Comparison),
+    /// two operands side by side
+    Concat,
+}
 
 /// An expression (POSIX awk, Expressions in awk).
 #[cycle(expressions)]
@@ -10,18 +20,26 @@ pub enum Expr {
     Text(Bytes),
     /// the value of a place
     Read(Place),
+    /// a sign or `!` before an operand
+    Signed(Sign, Box<Expr>),
     /// an operand, and more of them from left to right
     Chain(Box<Expr>, Vec<Link>),
+    /// the second where the first is true, and else the third
+    Choice(Box<Expr>, Box<Expr>, Box<Expr>),
     Assign(Place, Box<Expr>),
     /// `+=`
     Update(Arithmetic, Place, Box<Expr>),
+    /// `++` and `--` behind a place, which add 1 or take it away
+    After(Arithmetic, Place),
 }
 
 /// A right operand, with its operator.
 #[cycle(expressions)]
 #[derive(Drop)]
 pub enum Link {
-    Combine(Arithmetic, Expr),
+    Combine(Joiner, Expr),
+    /// `&&` and `||`
+    Decide(Logic, Expr),
 }
 
 /// What can be read and assigned.
@@ -35,7 +53,8 @@ pub enum Place {
     Field(Box<Expr>),
 }
 
-/// A statement. Its first number is the site of its point.
+/// A statement. Its number is the site of its point.
+#[cycle(statements)]
 #[derive(Drop)]
 pub enum Stmt {
     Do(usize, Expr),
@@ -43,6 +62,29 @@ pub enum Stmt {
     Print(usize, Vec<Expr>),
     /// one after another
     Block(Vec<Stmt>),
+    /// the branches that `else if` joins, and what is done where none is taken; a missing `else` does nothing
+    If(Vec<Branch>, Box<Stmt>),
+    /// the condition with its site, and the body
+    While(usize, Expr, Box<Stmt>),
+    /// the body, and behind it the condition with its site
+    DoWhile(Box<Stmt>, usize, Expr),
+    /// the beginning, the condition with its site, the step and the body; a missing condition is the number 1, what else is missing does nothing
+    For(Box<Stmt>, usize, Expr, Box<Stmt>, Box<Stmt>),
+    Break(usize),
+    Continue(usize),
+    Next(usize),
+    Exit(usize),
+    /// with a status
+    ExitWith(usize, Expr),
+}
+
+/// A condition of an `if` with its site, and what is done where it holds.
+#[cycle(statements)]
+#[derive(Drop)]
+pub struct Branch {
+    pub site: usize,
+    pub test: Expr,
+    pub body: Stmt,
 }
 
 /// When a main rule runs.

@@ -8,3 +8,4 @@ pub mod Readings
 pub mod Travels
 pub mod Plains
 pub mod AtOnces
+pub mod Turns

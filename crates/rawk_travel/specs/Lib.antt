@@ -1,6 +1,7 @@
 pub mod Moving
 pub mod Reading
 pub mod Borrowed
+pub mod Lent
 pub mod Travel
 pub mod Gets
 pub mod Line

@@ -4,6 +4,7 @@
 mod act;
 mod at_once;
 mod borrowed;
+mod made;
 mod print;
 mod reading;
 mod transfer;

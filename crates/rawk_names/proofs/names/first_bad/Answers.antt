@@ -7,4 +7,4 @@ pub returns-then-not-branch : goal.returns-then-not-branch
 returns-then-not-branch c =
     let no : c.in_ok-is_readable.field-0 ≡ false = grind (arith, common_steps, c.if-not-branch.true) in
     let h : c.loop-number.number < length c.args.patterns.now = grind (arith, c.loop-number-test.true, c.len-number-end.ensures) in
-    bad_at c.args.patterns.now c.loop-number.number c.word.result.now c.in_ok-is_readable.field-0 h c.word.ensures no c.in_ok-is_readable.ensures
+    (bad_at c.args.patterns.now c.loop-number.number c.word.result.now c.in_ok-is_readable.field-0 h c.word.ensures no c.in_ok-is_readable.ensures, c.loop-number.invariant)

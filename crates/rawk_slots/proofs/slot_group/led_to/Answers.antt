@@ -6,28 +6,28 @@ use Rattle.rawk_slots.proofs.slot_group.led_to.Goals as goal
 
 pub loop-i-preserved : goal.loop-i-preserved
 loop-i-preserved g c =
-    let es = c.args.group.now.entries.items in
-    let e = c.index-entry.result.now in
-    let inside : c.loop-i.i < length es = omega (arith, c.loop-i-test.true, c.len.ensures, c.args.group.now.entries.ok.0) in
-    let there : slice_get es c.loop-i.i ≡ Some e = slice_get-get_or es c.loop-i.i e inside ∙ ap (λ (x : Saved g.row.T.Denot). Some x) (sym c.index-entry.ensures) in
+    let es = c.args.entries.now in
+    let e = c.index-entries-i.result in
+    let inside : c.loop-i.i < length es = omega (arith, c.loop-i-test.true) in
+    let there : slice_get es c.loop-i.i ≡ Some e = slice_get-get_or es c.loop-i.i e inside ∙ ap (λ (x : Saved g.row.T.Denot). Some x) (sym c.index-entries-i.is) in
     none_next es c.loop-i.i c.args.place e there c.if-entry-place.false c.loop-i.invariant
 
 pub loop-i-init : goal.loop-i-init
 loop-i-init g c = λ k f lt h. absurd (omega (arith, lt))
 
 pub loop-i-smaller : goal.loop-i-smaller
-loop-i-smaller g c = omega (arith, c.loop-i-test.true, c.len.ensures, c.args.group.now.entries.ok.0)
+loop-i-smaller g c = omega (arith, c.loop-i-test.true)
 
 pub returns-then-entry-place : goal.returns-then-entry-place
 returns-then-entry-place g c = λ xs inside_all is.
-    let es = c.args.group.now.entries.items in
-    let e = c.index-entry.result.now in
-    let inside : c.loop-i.i < length es = omega (arith, c.loop-i-test.true, c.len.ensures, c.args.group.now.entries.ok.0) in
-    let there : slice_get es c.loop-i.i ≡ Some e = slice_get-get_or es c.loop-i.i e inside ∙ ap (λ (x : Saved g.row.T.Denot). Some x) (sym c.index-entry.ensures) in
+    let es = c.args.entries.now in
+    let e = c.index-entries-i.result in
+    let inside : c.loop-i.i < length es = omega (arith, c.loop-i-test.true) in
+    let there : slice_get es c.loop-i.i ≡ Some e = slice_get-get_or es c.loop-i.i e inside ∙ ap (λ (x : Saved g.row.T.Denot). Some x) (sym c.index-entries-i.is) in
     back_found xs es c.loop-i.i e c.args.place there c.if-entry-place.true inside_all c.loop-i.invariant
 
 pub returns : goal.returns
 returns g c = λ xs inside_all is.
-    let es = c.args.group.now.entries.items in
+    let es = c.args.entries.now in
     let past = c.loop-i-test.false in
-    back_missing xs es c.args.place (λ k f h. c.loop-i.invariant k f (let w = slice_get_within es k f h in omega (arith, w, past, c.len.ensures, c.args.group.now.entries.ok.0)) h) ∙ is
+    back_missing xs es c.args.place (λ k f h. c.loop-i.invariant k f (let w = slice_get_within es k f h in omega (arith, w, past)) h) ∙ is

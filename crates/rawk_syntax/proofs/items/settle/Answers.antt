@@ -2,7 +2,8 @@ use Rattle.std.proofs.Common.{◌∙◌, ap, refl}
 use Rattle.std.proofs.lemmas.Result.{err_from_is_err_and}
 use Rattle.rawk_syntax.specs.Covered.{item_gap, program_gap}
 use Rattle.rawk_syntax.specs.Laid as spec
-use Rattle.rawk_syntax.specs.Laid.{met}
+use Rattle.rawk_names.specs.Named.{known}
+use Rattle.rawk_syntax.specs.Meant.{sense}
 use Rattle.rawk_syntax.proofs.Coverings.{exits, first_more, first_stops}
 use Rattle.rawk_syntax.proofs.Layings.{item_laid}
 use Rattle.rawk_syntax.proofs.items.settle.Goals as goal
@@ -10,20 +11,20 @@ use Rattle.rawk_syntax.proofs.items.settle.Goals as goal
 pub loop-item-init : goal.loop-item-init
 loop-item-init c = record {
   text = c.new-sites.ensures.text;
-  settled = rw (c.new-2.ensures.items, c.new-3.ensures.items, c.new-4.ensures.items, c.new-names.ensures, c.new-sites.ensures.lines) spec.no_item;
+  settled = rw (c.new-2.ensures.items, c.new-3.ensures.items, c.new-4.ensures.items, c.new-sites.ensures.lines) spec.no_item;
   judged = refl;
 }
 
 pub loop-item-preserved : goal.loop-item-preserved
 loop-item-preserved c = record {
   text = ap (λ v. v.now) c.settle_item.ensures.text ∙ c.loop-item.invariant.text;
-  settled = item_laid c.args.text.now c.loop-item.sites.text.now c.args.items.now c.loop-item.item-index c.item-item.result (met c.loop-item.names c.loop-item.sites.lines.items) (met c.settle_item.new.names c.settle_item.new.sites.lines.items) c.loop-item.program c.settle_item.new.program
+  settled = item_laid (sense (known c.args.names.now) 0) c.args.text.now c.loop-item.sites.text.now c.args.items.now c.loop-item.item-index c.item-item.result c.loop-item.sites.lines.items c.settle_item.new.sites.lines.items c.loop-item.program c.settle_item.new.program
       c.loop-item-test.true c.item-item.is c.loop-item.invariant.text c.loop-item.invariant.settled c.in_ok-settle_item.ensures.settled;
-  judged = first_more item_gap c.args.items.now c.loop-item.item-index c.item-item.result c.loop-item-test.true c.item-item.is c.loop-item.invariant.judged c.in_ok-settle_item.ensures.judged;
+  judged = first_more (item_gap (sense (known c.args.names.now) 0)) c.args.items.now c.loop-item.item-index c.item-item.result c.loop-item-test.true c.item-item.is c.loop-item.invariant.judged c.in_ok-settle_item.ensures.judged;
 }
 
 pub returns-in_err-settle_item-clause-judged : goal.returns-in_err-settle_item-clause-judged
 returns-in_err-settle_item-clause-judged c =
-    let p = err_from_is_err_and c.from_residual.result c.from_residual.ensures.1 in
-    exits c.from_residual.result (program_gap c.args.items.now) c.in_err-settle_item.field-0.0 p.0 p.1 p.2
-    (λ ne. first_stops item_gap c.args.items.now c.loop-item.item-index c.item-item.result c.in_err-settle_item.field-0.0 c.loop-item-test.true c.item-item.is c.loop-item.invariant.judged (c.in_err-settle_item.ensures.judged ne))
+    let p = err_from_is_err_and c.from_residual-in_err-settle_item.result c.from_residual-in_err-settle_item.ensures.1 in
+    exits c.from_residual-in_err-settle_item.result (program_gap (sense (known c.args.names.now) 0) c.args.items.now) c.in_err-settle_item.field-0.0 p.0 p.1 p.2
+    (λ ne. first_stops (item_gap (sense (known c.args.names.now) 0)) c.args.items.now c.loop-item.item-index c.item-item.result c.in_err-settle_item.field-0.0 c.loop-item-test.true c.item-item.is c.loop-item.invariant.judged (c.in_err-settle_item.ensures.judged ne))

@@ -3,14 +3,14 @@ use Rattle.rawk_syntax.proofs.Readings.{read_exact, read_found, read_plain, refu
 use Rattle.rawk_syntax.proofs.parsing.read.Goals as goal
 
 pub returns-clause-exact : goal.returns-clause-exact
-returns-clause-exact c = read_exact c.args.text.now c.new-tokens.result c.in_ok-items.items c.as_slice.result.now c.program.new.tokens c.settle-settled.result c.new-tokens.ensures c.in_ok-items.ensures.exact c.as_slice.ensures c.settle-settled.ensures.judged
+returns-clause-exact c = read_exact c.args.text.now c.new-tokens.result c.in_ok-items.items c.as_slice.result.now c.program.new.tokens c.settle_items-settled.result c.new-tokens.ensures c.in_ok-items.ensures.exact c.as_slice.ensures c.settle_items-settled.ensures.exact
 
 pub returns-clause-found : goal.returns-clause-found
-returns-clause-found c = read_found c.args.text.now c.new-tokens.result c.in_ok-items.items c.as_slice.result.now c.settle-settled.result c.new-tokens.ensures c.in_ok-items.ensures.found c.as_slice.ensures c.settle-settled.ensures.settled
+returns-clause-found c = read_found c.args.text.now c.new-tokens.result c.in_ok-items.items c.as_slice.result.now c.settle_items-settled.result c.new-tokens.ensures c.in_ok-items.ensures.found c.as_slice.ensures c.settle_items-settled.ensures.found
 
 pub returns-clause-plain : goal.returns-clause-plain
 returns-clause-plain c = λ its plain.
-    read_plain c.args.text.now c.new-tokens.result c.in_ok-items.items c.as_slice.result.now its c.settle-settled.result c.new-tokens.ensures c.in_ok-items.ensures.plain c.as_slice.ensures c.settle-settled.ensures.settled c.settle-settled.ensures.judged plain
+    read_plain c.args.text.now c.new-tokens.result c.in_ok-items.items c.as_slice.result.now its c.settle_items-settled.result c.new-tokens.ensures c.in_ok-items.ensures.plain c.as_slice.ensures c.settle_items-settled.ensures.found c.settle_items-settled.ensures.exact plain
 
 pub returns-in_err-items-clause-exact : goal.returns-in_err-items-clause-exact
 returns-in_err-items-clause-exact c =

@@ -1,9 +1,10 @@
-use Rattle.std.proofs.Common.{◌≡◌, ℕ, ◌-◌, ◌∙◌, [], ap, refl, arith, length, drop, reverse, Some}
+use Rattle.std.proofs.Common.{◌≡◌, ℕ, ◌-◌, ◌∙◌, [], ap, refl, arith, length, drop, reverse, Some, None}
 use Rattle.rawk_value.specs.Values.{Bytes}
 use Rattle.rawk_tape.specs.Tapes.{TapeState}
 use Rattle.rawk_store.specs.Layout.{Layout}
 use Rattle.rawk_store.specs.Stores.{now_of}
 use Rattle.rawk_machine.specs.Standing.{Standing, dropped}
+use Rattle.rawk_machine.specs.Last.{last_of}
 use Rattle.rawk_machine.specs.Stood.{standing_of}
 use Rattle.rawk_machine.proofs.Gives.{no_groups, standing_as, chain_as}
 use Rattle.rawk_machine.proofs.machine.Machine+R+Off.drop_front.Goals as goal
@@ -35,7 +36,7 @@ returns-then-size-eq0-clause-dropped g c =
     let n = c.forget-size.result in
     let tape = c.forget-size.new.self in
     let none = no_groups l i.sets.items (reverse i.here.items) (ap (λ (m : Standing g.row.R.Denot). m.unset) c.self.view_is ∙ c.requires) in
-    let standing = λ (t : TapeState g.row.R.Denot) (x : Layout). standing_of i.code i.settings i.steps i.sets.items i.point t x i.executed (reverse i.here.items) [] (Some 0) i.last in
+    let standing = λ (t : TapeState g.row.R.Denot) (x : Layout). standing_of i.code i.settings i.steps i.sets.items i.point t x i.executed (reverse i.here.items) [] (Some 0) (last_of i.last None) in
     let less : tape.consumed ≡ i.tape.consumed - n = omega (arith, c.forget-size.ensures.consumed) in
     let same : i.store.registers.now.consumed ≡ i.store.registers.now.consumed - n = omega (arith, c.if-size-eq0.true) in
     let new : TapeState g.row.R.Denot = record { source = i.tape.source; bytes = drop n i.tape.bytes; consumed = i.tape.consumed - n } in
@@ -44,7 +45,7 @@ returns-then-size-eq0-clause-dropped g c =
     ∙ ap (λ (b : Bytes). standing (record { source = i.tape.source; bytes = b; consumed = tape.consumed }) l) c.forget-size.ensures.bytes
     ∙ ap (λ (k : ℕ). standing (record { source = i.tape.source; bytes = drop n i.tape.bytes; consumed = k }) l) less
     ∙ ap (λ (k : ℕ). standing new (at k)) same
-    ∙ standing_as i.code i.settings i.steps i.sets.items i.point i.tape l i.executed (reverse i.here.items) (Some 0) i.last (dropped n) new (at (i.store.registers.now.consumed - n)) none refl
+    ∙ standing_as i.code i.settings i.steps i.sets.items i.point i.tape l i.executed (reverse i.here.items) (Some 0) (last_of i.last None) (dropped n) new (at (i.store.registers.now.consumed - n)) none refl
     ∙ ap (dropped n) c.self.view_is
 
 pub invariant_of-self-2 : goal.invariant_of-self-2
@@ -77,7 +78,7 @@ returns-clause-dropped g c =
     let n = c.forget-size.result in
     let tape = c.forget-size.new.self in
     let none = no_groups l i.sets.items (reverse i.here.items) (ap (λ (m : Standing g.row.R.Denot). m.unset) c.self.view_is ∙ c.requires) in
-    let standing = λ (t : TapeState g.row.R.Denot) (x : Layout). standing_of i.code i.settings i.steps i.sets.items i.point t x i.executed (reverse i.here.items) [] (Some 0) i.last in
+    let standing = λ (t : TapeState g.row.R.Denot) (x : Layout). standing_of i.code i.settings i.steps i.sets.items i.point t x i.executed (reverse i.here.items) [] (Some 0) (last_of i.last None) in
     let less : tape.consumed ≡ i.tape.consumed - n = omega (arith, c.forget-size.ensures.consumed) in
     let same : c.consumed-consumed.result - n ≡ i.store.registers.now.consumed - n = ap (λ k. k - n) (c.consumed-consumed.ensures.value ∙ v.consumed) in
     let new : TapeState g.row.R.Denot = record { source = i.tape.source; bytes = drop n i.tape.bytes; consumed = i.tape.consumed - n } in
@@ -86,5 +87,5 @@ returns-clause-dropped g c =
     ∙ ap (λ (b : Bytes). standing (record { source = i.tape.source; bytes = b; consumed = tape.consumed }) (at (c.consumed-consumed.result - n))) c.forget-size.ensures.bytes
     ∙ ap (λ (k : ℕ). standing (record { source = i.tape.source; bytes = drop n i.tape.bytes; consumed = k }) (at (c.consumed-consumed.result - n))) less
     ∙ ap (λ (k : ℕ). standing new (at k)) same
-    ∙ standing_as i.code i.settings i.steps i.sets.items i.point i.tape l i.executed (reverse i.here.items) (Some 0) i.last (dropped n) new (at (i.store.registers.now.consumed - n)) none refl
+    ∙ standing_as i.code i.settings i.steps i.sets.items i.point i.tape l i.executed (reverse i.here.items) (Some 0) (last_of i.last None) (dropped n) new (at (i.store.registers.now.consumed - n)) none refl
     ∙ ap (dropped n) c.self.view_is

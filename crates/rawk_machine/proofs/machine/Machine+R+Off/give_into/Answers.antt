@@ -1,9 +1,10 @@
-use Rattle.std.proofs.Common.{◌≡◌, ◌∙◌, [], ap, sym, subst, refl, reverse, ◌++◌, Some}
+use Rattle.std.proofs.Common.{◌≡◌, ◌∙◌, [], ap, sym, subst, refl, reverse, ◌++◌, Some, None}
 use Rattle.rawk_value.specs.Values.{Bytes}
 use Rattle.rawk_store.specs.Journaled.{Journaled}
 use Rattle.rawk_store.specs.Layout.{Layout}
 use Rattle.rawk_store.specs.Stores.{now_of, start_of}
 use Rattle.rawk_machine.specs.Standing.{Standing, IsAt}
+use Rattle.rawk_machine.specs.Last.{last_of}
 use Rattle.rawk_machine.specs.Stood.{standing_of}
 use Rattle.rawk_machine.specs.Drops.{at_given}
 use Rattle.rawk_machine.proofs.Gives.{no_groups, standing_as, chain_as}
@@ -38,8 +39,8 @@ returns-clause-rest g c =
     let l = now_of i.store in
     let none = no_groups l i.sets.items (reverse i.here.items) (ap (λ (m : Standing g.row.R.Denot). m.unset) c.self.view_is ∙ c.requires) in
     let change = λ (m : Standing g.row.R.Denot). (record m { state = record m.state { output = [] } }) in
-    ap (λ (j : Journaled Bytes). standing_of i.code i.settings i.steps i.sets.items i.point i.tape (record l { output = j.now }) i.executed (reverse i.here.items) [] (Some 0) i.last) c.give.ensures.rest
-    ∙ standing_as i.code i.settings i.steps i.sets.items i.point i.tape l i.executed (reverse i.here.items) (Some 0) i.last change i.tape (record l { output = [] }) none refl
+    ap (λ (j : Journaled Bytes). standing_of i.code i.settings i.steps i.sets.items i.point i.tape (record l { output = j.now }) i.executed (reverse i.here.items) [] (Some 0) (last_of i.last None)) c.give.ensures.rest
+    ∙ standing_as i.code i.settings i.steps i.sets.items i.point i.tape l i.executed (reverse i.here.items) (Some 0) (last_of i.last None) change i.tape (record l { output = [] }) none refl
     ∙ ap change c.self.view_is
 
 pub returns-clause-stands : goal.returns-clause-stands
@@ -48,9 +49,9 @@ returns-clause-stands g c = λ input gone handed at.
     let l = now_of i.store in
     let none = no_groups l i.sets.items (reverse i.here.items) (ap (λ (m : Standing g.row.R.Denot). m.unset) c.self.view_is ∙ c.requires) in
     let change = λ (m : Standing g.row.R.Denot). (record m { state = record m.state { output = [] } }) in
-    let same = ap (λ (j : Journaled Bytes). standing_of i.code i.settings i.steps i.sets.items i.point i.tape (record l { output = j.now }) i.executed (reverse i.here.items) [] (Some 0) i.last) c.give.ensures.rest
-    ∙ standing_as i.code i.settings i.steps i.sets.items i.point i.tape l i.executed (reverse i.here.items) (Some 0) i.last change i.tape (record l { output = [] }) none refl
+    let same = ap (λ (j : Journaled Bytes). standing_of i.code i.settings i.steps i.sets.items i.point i.tape (record l { output = j.now }) i.executed (reverse i.here.items) [] (Some 0) (last_of i.last None)) c.give.ensures.rest
+    ∙ standing_as i.code i.settings i.steps i.sets.items i.point i.tape l i.executed (reverse i.here.items) (Some 0) (last_of i.last None) change i.tape (record l { output = [] }) none refl
     ∙ ap change c.self.view_is in
     let bytes : c.give.new.buffer.items ≡ c.args.self.now.state.output = c.give.ensures.given ∙ ap (λ (m : Standing g.row.R.Denot). m.state.output) c.self.view_is in
-    subst (λ (x : Bytes). IsAt (standing_of i.code i.settings i.steps i.sets.items i.point i.tape (record l { output = c.give.new.self.now }) i.executed (reverse i.here.items) [] (Some 0) i.last) input gone (handed ++ x)) (sym bytes)
+    subst (λ (x : Bytes). IsAt (standing_of i.code i.settings i.steps i.sets.items i.point i.tape (record l { output = c.give.new.self.now }) i.executed (reverse i.here.items) [] (Some 0) (last_of i.last None)) input gone (handed ++ x)) (sym bytes)
     (subst (λ (m : Standing g.row.R.Denot). IsAt m input gone (handed ++ c.args.self.now.state.output)) (sym same) (at_given c.args.self.now input gone handed at))

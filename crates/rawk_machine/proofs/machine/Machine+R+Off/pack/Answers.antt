@@ -1,9 +1,10 @@
-use Rattle.std.proofs.Common.{◌≡◌, ◌∙◌, [], ap, sym, subst, length, reverse, Some}
+use Rattle.std.proofs.Common.{◌≡◌, ◌∙◌, [], ap, sym, subst, length, reverse, Some, None}
 use Rattle.rawk_store.specs.State.{State}
 use Rattle.rawk_store.specs.Layout.{Layout, state}
 use Rattle.rawk_store.specs.Stores.{now_of}
 use Rattle.rawk_machine.specs.Arrival.{ends_quietly}
 use Rattle.rawk_machine.specs.Standing.{Standing}
+use Rattle.rawk_machine.specs.Last.{last_of}
 use Rattle.rawk_machine.specs.Stood.{standing_of, IsBelow}
 use Rattle.rawk_machine.proofs.Gives.{no_groups, standing_as, chain_as}
 use Rattle.rawk_machine.proofs.machine.Machine+R+Off.pack.Goals as goal
@@ -38,7 +39,7 @@ returns g c =
     let is : now_of c.pack.new.self ≡ n = c.pack.ensures.others in
     let same : state n ≡ state l = sym (ap state is) ∙ c.pack.ensures.state in
     let none = no_groups l i.sets.items (reverse i.here.items) (ap (λ (m : Standing g.row.R.Denot). m.unset) c.self.view_is ∙ c.requires) in
-    let old : Standing g.row.R.Denot = standing_of i.code i.settings i.steps i.sets.items i.point i.tape l i.executed [] [] (Some 0) i.last in
-    ap (λ (x : Layout). standing_of i.code i.settings i.steps i.sets.items i.point i.tape x i.executed (reverse i.here.items) [] (Some 0) i.last) is
-    ∙ standing_as i.code i.settings i.steps i.sets.items i.point i.tape l i.executed (reverse i.here.items) (Some 0) i.last (λ (m : Standing g.row.R.Denot). m) i.tape n none (ap (λ (s : State). record old { state = s }) same)
+    let old : Standing g.row.R.Denot = standing_of i.code i.settings i.steps i.sets.items i.point i.tape l i.executed [] [] (Some 0) (last_of i.last None) in
+    ap (λ (x : Layout). standing_of i.code i.settings i.steps i.sets.items i.point i.tape x i.executed (reverse i.here.items) [] (Some 0) (last_of i.last None)) is
+    ∙ standing_as i.code i.settings i.steps i.sets.items i.point i.tape l i.executed (reverse i.here.items) (Some 0) (last_of i.last None) (λ (m : Standing g.row.R.Denot). m) i.tape n none (ap (λ (s : State). record old { state = s }) same)
     ∙ c.self.view_is

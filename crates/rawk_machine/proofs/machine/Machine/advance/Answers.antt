@@ -1,12 +1,10 @@
 use Rattle.std.proofs.Common.{◌≡◌, ℕ, ◌+◌, List, [], length, reverse, refl, sym, ap, ◌∙◌, subst, arith, Option, None}
 use Rattle.rawk_value.specs.declared.value.Value.{Value}
 use Rattle.rawk_record.specs.Shown.{Shown}
-use Rattle.rawk_store.specs.declared.store.Group.{Group}
-use Rattle.rawk_store.specs.declared.keeper.Kept.{Kept}
+use Rattle.rawk_store.specs.Groups.{Group, Kept}
 use Rattle.rawk_store.specs.declared.registers.Registers.{Registers}
 use Rattle.rawk_store.specs.Stores.{now_of}
-use Rattle.rawk_machine.specs.declared.last_move.LastMove.{LastMove}
-use Rattle.rawk_machine.specs.declared.last_move.LastMove.TheVariants.{On}
+use Rattle.rawk_machine.specs.Last.{Last, On, last_of}
 use Rattle.rawk_travel.specs.Moving.{ending_of}
 use Rattle.std.specs.Option.{option_map}
 use Rattle.rawk_machine.specs.Standing.{Standing, Moment, Past, IsAt, StandsAt, MovesOn, ground_of, moment_of}
@@ -49,11 +47,11 @@ returns-in_ok-journaled-in-None-clause-moves g c = λ none.
     let placed : IsPlaced l i.point (length i.tape.bytes) = record { goes = c.in-None.is; here = (v.below c.in-None.is).0; consumed = c.journaled.ensures.within } in
     let m = moved l e.kept.0 n i.point (length i.tape.bytes) (length c.journaled.new.tape.bytes) i.sets.items i.here.items (g.K.Keeper.kept i.keeper) (g.K.Keeper.kept c.journaled.new.keeper) (g.K.Keeper.limit i.keeper)
     v.sound e.kept.1 placed c.journaled.ensures.longer e.kept.2 v.chain in
-    let old : Standing g.row.R.Denot = standing_of i.code i.settings i.steps i.sets.items i.point i.tape l i.executed (reverse i.here.items) (g.K.Keeper.kept i.keeper) (g.K.Keeper.limit i.keeper) i.last in
-    let new = λ (gs : List Group) (la : LastMove). standing_of i.code i.settings i.steps i.sets.items (i.point + 1) c.journaled.new.tape n c.journaled.new.executed (reverse gs) (g.K.Keeper.kept c.journaled.new.keeper) (g.K.Keeper.limit c.journaled.new.keeper) la in
+    let old : Standing g.row.R.Denot = standing_of i.code i.settings i.steps i.sets.items i.point i.tape l i.executed (reverse i.here.items) (g.K.Keeper.kept i.keeper) (g.K.Keeper.limit i.keeper) (last_of i.last (g.K.Keeper.forth i.keeper)) in
+    let new = λ (gs : List Group) (la : Last). standing_of i.code i.settings i.steps i.sets.items (i.point + 1) c.journaled.new.tape n c.journaled.new.executed (reverse gs) (g.K.Keeper.kept c.journaled.new.keeper) (g.K.Keeper.limit c.journaled.new.keeper) la in
     let on : MovesOn old (new [] On) = record { point = refl; unset = refl; saved = m.saved; history = m.front; kept = m.count; before = λ any. m.before any } in
-    subst (λ (x : Standing g.row.R.Denot). MovesOn x (new c.journaled.new.here.items c.turn_on.new.self)) c.self.view_is
-    (subst (λ (la : LastMove). MovesOn old (new c.journaled.new.here.items la)) (sym c.turn_on.ensures) (subst (λ (gs : List Group). MovesOn old (new gs On)) (sym e.here) on))
+    subst (λ (x : Standing g.row.R.Denot). MovesOn x (new c.journaled.new.here.items On)) c.self.view_is
+    (subst (λ (gs : List Group). MovesOn old (new gs On)) (sym e.here) on)
 
 pub returns-in_ok-journaled-in-None-clause-stood : goal.returns-in_ok-journaled-in-None-clause-stood
 returns-in_ok-journaled-in-None-clause-stood g c = λ input may stood.
@@ -62,7 +60,7 @@ returns-in_ok-journaled-in-None-clause-stood g c = λ input may stood.
     let going : c.args.self.now.ending ≡ None = sym (ap (λ (m : Standing g.row.R.Denot). m.ending) c.self.view_is) ∙ ap (option_map ending_of) c.in-None.is in
     let on = returns-in_ok-journaled-in-None-clause-moves g c going in
     let new : Standing g.row.R.Denot =
-    standing_of i.code i.settings i.steps i.sets.items (i.point + 1) c.journaled.new.tape n c.journaled.new.executed (reverse c.journaled.new.here.items) (g.K.Keeper.kept c.journaled.new.keeper) (g.K.Keeper.limit c.journaled.new.keeper) c.turn_on.new.self in
+    standing_of i.code i.settings i.steps i.sets.items (i.point + 1) c.journaled.new.tape n c.journaled.new.executed (reverse c.journaled.new.here.items) (g.K.Keeper.kept c.journaled.new.keeper) (g.K.Keeper.limit c.journaled.new.keeper) On in
     stood_step on.saved c.args.self.now new input on.point on.unset on.history (ap (λ (m : Standing g.row.R.Denot). ground_of m input) c.self.view_is)
     (returns-in_ok-journaled-in-None-clause-stands g c input [] [] may stood.now) stood
 
@@ -88,7 +86,7 @@ invariant_of-self g c =
       failed = λ x. absurd (cc (going, x));
       chain = subst (λ (ks : List Kept). Chain n i.point size i.sets.items (reverse c.journaled.new.here.items) ks) (sym e.same) (subst (λ (gs : List Group). Chain n i.point size i.sets.items (reverse gs) (g.K.Keeper.kept i.keeper)) (sym e.stays) grew);
       few = subst (λ (top : Option ℕ). Few top (length (g.K.Keeper.kept c.journaled.new.keeper))) (sym c.journaled.ensures.limit) (subst (λ (ks : List Kept). Few (g.K.Keeper.limit i.keeper) (length ks)) (sym e.same) v.few);
-      clean = λ is. ap (λ (gs : List Group). reverse gs) e.stays ∙ v.clean is;
+      clean = λ is. ap (λ (gs : List Group). reverse gs) e.stays ∙ v.clean (ap (last_of i.last) (sym e.forth) ∙ is);
       room = λ x xs is. v.room x xs (ap (λ (gs : List Group). reverse gs) (sym e.stays) ∙ is);
     }
 
@@ -138,7 +136,7 @@ returns-in_err-journaled-in-None-clause-stood g c = λ input may stood.
     ∙ pasts-grown l n i.point size i.sets.items here kept e.grown v.sound v.chain
     ∙ ap (λ (m : Standing g.row.R.Denot). m.history) c.self.view_is in
     let new : Standing g.row.R.Denot =
-    standing_of i.code i.settings i.steps i.sets.items i.point c.journaled.new.tape n c.journaled.new.executed (reverse c.journaled.new.here.items) (g.K.Keeper.kept c.journaled.new.keeper) (g.K.Keeper.limit c.journaled.new.keeper) i.last in
+    standing_of i.code i.settings i.steps i.sets.items i.point c.journaled.new.tape n c.journaled.new.executed (reverse c.journaled.new.here.items) (g.K.Keeper.kept c.journaled.new.keeper) (g.K.Keeper.limit c.journaled.new.keeper) (last_of i.last (g.K.Keeper.forth c.journaled.new.keeper)) in
     stood_same c.args.self.now new input (ap (λ (m : Standing g.row.R.Denot). ground_of m input) c.self.view_is) (ap (λ (m : Standing g.row.R.Denot). m.sets) c.self.view_is)
     (ap (λ (m : Standing g.row.R.Denot). m.point) c.self.view_is) moment unset history stood
 
@@ -169,9 +167,10 @@ returns-in_err-journaled-in-None-clause-err g c =
           ∙ unsets-grown l n i.point size i.sets.items here e.grown v.sound (fit_here l i.point size i.sets.items here kept v.chain)
           ∙ ap (λ (m : Standing g.row.R.Denot). m.unset) c.self.view_is;
       history = past ∙ ap (λ (m : Standing g.row.R.Denot). m.history) c.self.view_is;
-      before = ap (λ (xs : List Value). before_of i.last xs n.current (pasts n i.sets.items i.point (reverse c.journaled.new.here.items) (g.K.Keeper.kept c.journaled.new.keeper))) e.grown.globals
-          ∙ ap (λ (x : Shown). before_of i.last l.globals x (pasts n i.sets.items i.point (reverse c.journaled.new.here.items) (g.K.Keeper.kept c.journaled.new.keeper))) e.grown.current
-          ∙ ap (λ (ps : List Past). before_of i.last l.globals l.current ps) past
+      before = ap (λ (la : Last). before_of la n.globals n.current (pasts n i.sets.items i.point (reverse c.journaled.new.here.items) (g.K.Keeper.kept c.journaled.new.keeper))) (ap (last_of i.last) e.forth)
+          ∙ ap (λ (xs : List Value). before_of (last_of i.last (g.K.Keeper.forth i.keeper)) xs n.current (pasts n i.sets.items i.point (reverse c.journaled.new.here.items) (g.K.Keeper.kept c.journaled.new.keeper))) e.grown.globals
+          ∙ ap (λ (x : Shown). before_of (last_of i.last (g.K.Keeper.forth i.keeper)) l.globals x (pasts n i.sets.items i.point (reverse c.journaled.new.here.items) (g.K.Keeper.kept c.journaled.new.keeper))) e.grown.current
+          ∙ ap (λ (ps : List Past). before_of (last_of i.last (g.K.Keeper.forth i.keeper)) l.globals l.current ps) past
           ∙ ap (λ (m : Standing g.row.R.Denot). m.before) c.self.view_is;
     })
 

@@ -1,10 +1,12 @@
-use Rattle.std.proofs.Common.{◌<◌, ◌≤◌, ◌∙◌, ap, sym, arith, length, reverse, List, slice_get}
+use Rattle.std.proofs.Common.{◌≡◌, ◌<◌, ◌≤◌, ◌∙◌, ap, sym, arith, length, reverse, List, slice_get}
 use Rattle.std.proofs.lemmas.Option.{same_Some, slice_get_past}
-use Rattle.rawk_store.specs.declared.store.Group.{Group}
+use Rattle.rawk_store.specs.Groups.{Group}
 use Rattle.rawk_store.specs.Back.{back}
 use Rattle.rawk_store.specs.BackLaws.{length-back}
 use Rattle.rawk_store.specs.Stores.{now_of}
+use Rattle.rawk_machine.specs.Last.{Back, Last, last_of}
 use Rattle.rawk_machine.specs.declared.last_move.LastMove.{LastMove}
+use Rattle.rawk_machine.specs.declared.last_move.LastMove.TheVariants as move
 use Rattle.rawk_machine.specs.Standing.{Standing, Seen}
 use Rattle.rawk_machine.specs.Kept.{pasts, globals_forth, before_of}
 use Rattle.rawk_machine.proofs.Befores.{length_before}
@@ -14,18 +16,20 @@ pub returns-then-len-number : goal.returns-then-len-number
 returns-then-len-number g c = λ s is.
     let i = c.self.inside in
     let l = now_of i.store in
-    let size = length_before i.last l i.sets.items i.point (reverse i.here.items) (g.K.Keeper.kept i.keeper) s c.self.invariant.clean (ap (λ (m : Standing g.row.R.Denot). m.before) c.self.view_is ∙ is) in
+    let size = length_before (last_of i.last (g.K.Keeper.forth i.keeper)) l i.sets.items i.point (reverse i.here.items) (g.K.Keeper.kept i.keeper) s c.self.invariant.clean (ap (λ (m : Standing g.row.R.Denot). m.before) c.self.view_is ∙ is) in
     let past : length l.globals ≤ c.args.number = omega (arith, c.if-len-number.true, c.len.ensures) in
     c.value-now.ensures ∙ slice_get_past l.globals c.args.number past ∙ sym (slice_get_past s.globals c.args.number (omega (arith, past, size)))
 
-pub returns-in-Back : goal.returns-in-Back
-returns-in-Back g c = λ s is.
+pub returns-in-Some-ahead : goal.returns-in-Some-ahead
+returns-in-Some-ahead g c = λ s is.
     let i = c.self.inside in
     let l = now_of i.store in
-    let item = c.in-Back.item in
-    let mid = back l.globals item.step.globals.entries.items in
+    let a = c.in-Some-ahead.ensures in
+    let f = a.0 in
+    let mid = back l.globals f.globals in
     let inside : c.args.number < length l.globals = omega (arith, c.if-len-number.false, c.len.ensures) in
-    let seen = same_Some _ _ (sym (ap (λ (la : LastMove). before_of la l.globals l.current (pasts l i.sets.items i.point (reverse i.here.items) (g.K.Keeper.kept i.keeper))) c.in-Back.is) ∙ ap (λ (m : Standing g.row.R.Denot). m.before) c.self.view_is ∙ is) in
-    let at = c.led_to-in-Back.ensures l.globals inside (sym c.value-now.ensures) in
-    let led = c.led_through.ensures mid (omega (arith, inside, length-back l.globals item.step.globals.entries.items)) at in
-    sym led ∙ ap (λ (gs : List Group). slice_get (globals_forth mid gs) c.args.number) c.deref.ensures.value ∙ ap (λ (x : Seen). slice_get x.globals c.args.number) seen
+    let last : last_of i.last (g.K.Keeper.forth i.keeper) ≡ Back f = ap (λ (m : LastMove). last_of m (g.K.Keeper.forth i.keeper)) c.in-Back.is ∙ ap (last_of move.Back) a.1 in
+    let seen = same_Some _ _ (sym (ap (λ (la : Last). before_of la l.globals l.current (pasts l i.sets.items i.point (reverse i.here.items) (g.K.Keeper.kept i.keeper))) last) ∙ ap (λ (m : Standing g.row.R.Denot). m.before) c.self.view_is ∙ is) in
+    let at = ap (λ es. slice_get (back l.globals es) c.args.number) (sym a.2) ∙ c.led_to-in-Some-ahead.ensures l.globals inside (sym c.value-now.ensures) in
+    let led = c.led_through.ensures mid (omega (arith, inside, length-back l.globals f.globals)) at in
+    sym led ∙ ap (λ (gs : List Group). slice_get (globals_forth mid gs) c.args.number) (c.ahead_sets.ensures f a.1) ∙ ap (λ (x : Seen). slice_get x.globals c.args.number) seen

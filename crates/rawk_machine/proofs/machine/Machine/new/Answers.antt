@@ -1,7 +1,6 @@
 use Rattle.std.proofs.Common.{List, [], reverse, ap, sym, subst}
 use Rattle.rawk_tape.specs.Tapes.{TapeState}
-use Rattle.rawk_store.specs.declared.store.Group.{Group}
-use Rattle.rawk_store.specs.declared.keeper.Kept.{Kept}
+use Rattle.rawk_store.specs.Groups.{Group, Kept}
 use Rattle.rawk_code.specs.Actions.{SetAt}
 use Rattle.rawk_machine.specs.Standing.{Ground, StandsAt, AllStood, AllPassed}
 use Rattle.rawk_machine.specs.Kept.{moment_in, unsets, pasts}

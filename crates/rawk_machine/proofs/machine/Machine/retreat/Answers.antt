@@ -1,17 +1,20 @@
 use Rattle.std.proofs.Common.{◌≡◌, ℕ, ◌-◌, List, ◌∷◌, length, reverse, sym, ap, ◌∙◌, subst, arith, Option, None}
 use Rattle.rawk_tape.specs.Tapes.{TapeState}
-use Rattle.rawk_store.specs.declared.store.Group.{Group}
-use Rattle.rawk_store.specs.declared.keeper.Kept.{Kept}
+use Rattle.rawk_store.specs.Groups.{Forth, Group, Kept}
 use Rattle.rawk_store.specs.Layout.{Layout}
 use Rattle.rawk_store.specs.Stores.{now_of}
 use Rattle.rawk_code.specs.Actions.{SetAt}
-use Rattle.rawk_machine.specs.declared.last_move.LastMove.TheVariants.{Back}
+use Rattle.rawk_store.specs.Back.{back}
+use Rattle.rawk_record.specs.Shown.{record_back}
+use Rattle.rawk_machine.specs.Last.{Back, Last, last_of}
+use Rattle.rawk_machine.specs.declared.last_move.LastMove.TheVariants as move
 use Rattle.rawk_machine.specs.Standing.{Standing, Stood, gone_back}
 use Rattle.rawk_machine.specs.Kept.{below, back_in, newest_first, pasts, globals_forth, record_forth, Chain, Few}
 use Rattle.rawk_machine.specs.Stood.{standing_of}
 use Rattle.rawk_machine.specs.Arrival.{ends_quietly}
 use Rattle.rawk_machine.proofs.Chains.{fit_here}
 use Rattle.rawk_machine.proofs.Journals.{fit_groups, few_less}
+use Rattle.rawk_machine.proofs.Befores.{back_not_on}
 use Rattle.rawk_machine.proofs.Leads.{gone_is}
 use Rattle.rawk_machine.proofs.Stands.{come_either, stood_back}
 use Rattle.rawk_machine.proofs.machine.Machine.retreat.Goals as goal
@@ -27,33 +30,38 @@ go_back-requires-clause-fits_here g c =
 pub go_back-requires-clause-fits_step : goal.go_back-requires-clause-fits_step
 go_back-requires-clause-fits_step g c =
     let i = c.self.inside in
-    (subst (λ (ks : List Kept). Chain (now_of i.store) i.point (length i.tape.bytes) i.sets.items (reverse i.here.items) ks) c.in-Some.ensures.taken c.self.invariant.chain).3
+    let n = c.in-Some.ensures in
+    (n.0, n.1, n.2, (subst (λ (ks : List Kept). Chain (now_of i.store) i.point (length i.tape.bytes) i.sets.items (reverse i.here.items) ks) n.2 c.self.invariant.chain).3)
 
 pub consume-requires : goal.consume-requires
 consume-requires g c =
     let i = c.self.inside in
-    let h = subst (λ (ks : List Kept). Chain (now_of i.store) i.point (length i.tape.bytes) i.sets.items (reverse i.here.items) ks) c.in-Some.ensures.taken c.self.invariant.chain in
-    let e = ap (λ (x : Layout). x.registers.consumed) c.go_back.ensures.now in
+    let n = c.in-Some.ensures in
+    let h = subst (λ (ks : List Kept). Chain (now_of i.store) i.point (length i.tape.bytes) i.sets.items (reverse i.here.items) ks) n.2 c.self.invariant.chain in
+    let e = ap (λ (x : Layout). x.registers.consumed) (c.go_back.ensures.back n.0 n.1 n.2).now in
     omega (arith, e, h.4.consumed)
 
-pub invariant_of-self-2 : goal.invariant_of-self-2
-invariant_of-self-2 g c =
+pub invariant_of-self : goal.invariant_of-self
+invariant_of-self g c =
     let i = c.self.inside in
     let v = c.self.invariant in
     let l = now_of i.store in
     let here = reverse i.here.items in
     let size = length i.tape.bytes in
-    let item = c.in-Some.item in
-    let items = g.K.Keeper.kept c.take.new.self in
-    let h = subst (λ (ks : List Kept). Chain l i.point size i.sets.items here ks) c.in-Some.ensures.taken v.chain in
+    let first = c.in-Some.ensures in
+    let item = first.0 in
+    let b = c.go_back.ensures.back item first.1 first.2 in
+    let items = g.K.Keeper.kept c.go_back.new.keeper in
+    let took : g.K.Keeper.kept i.keeper ≡ item ∷ items = first.2 ∙ ap (λ (ks : List Kept). item ∷ ks) (sym b.left) in
+    let h = subst (λ (ks : List Kept). Chain l i.point size i.sets.items here ks) took v.chain in
     let m = back_in l here item in
-    let is = c.go_back.ensures.now in
+    let is = b.now in
     let none : c.go_back.new.store.registers.now.ending ≡ None = ap (λ (x : Layout). x.registers.ending) is ∙ h.4.goes in
     let at = ap (λ (x : Layout). x.registers.here) is in
     let bytes : size ≡ length c.consume.new.self.bytes = sym (ap (λ (t : TapeState g.row.R.Denot). length t.bytes) c.consume.ensures.after) in
     let chain : Chain (now_of c.go_back.new.store) (i.point - 1) size (below i.point i.sets.items) (newest_first item) items = subst (λ (x : Layout). Chain x (i.point - 1) size (below i.point i.sets.items) (newest_first item) items) (sym is) h.5 in
     let chain2 : Chain (now_of c.go_back.new.store) (i.point - 1) size c.keep_below.new.sets.items (newest_first item) items = subst (λ (xs : List SetAt). Chain (now_of c.go_back.new.store) (i.point - 1) size xs (newest_first item) items) (sym c.keep_below.ensures) chain in
-    let chain3 : Chain (now_of c.go_back.new.store) (i.point - 1) size c.keep_below.new.sets.items (reverse c.go_back.new.here.items) items = subst (λ (gs : List Group). Chain (now_of c.go_back.new.store) (i.point - 1) size c.keep_below.new.sets.items (reverse gs) items) (sym c.go_back.ensures.here) chain2 in
+    let chain3 : Chain (now_of c.go_back.new.store) (i.point - 1) size c.keep_below.new.sets.items (reverse c.go_back.new.here.items) items = subst (λ (gs : List Group). Chain (now_of c.go_back.new.store) (i.point - 1) size c.keep_below.new.sets.items (reverse gs) items) (sym b.here) chain2 in
     record {
       rest = c.go_back.ensures.rest;
       sound = c.go_back.ensures.sound;
@@ -63,8 +71,8 @@ invariant_of-self-2 g c =
       quiet = subst ends_quietly (sym none) tt;
       failed = λ x. absurd (cc (none, x));
       chain = subst (λ k. Chain (now_of c.go_back.new.store) (i.point - 1) k c.keep_below.new.sets.items (reverse c.go_back.new.here.items) items) bytes chain3;
-      few = subst (λ (top : Option ℕ). Few top (length items)) (sym c.in-Some.ensures.limit) (few_less (g.K.Keeper.limit i.keeper) (length items) (length (item ∷ items)) (omega arith) (subst (λ (ks : List Kept). Few (g.K.Keeper.limit i.keeper) (length ks)) c.in-Some.ensures.taken v.few));
-      clean = λ is. absurd (cc is);
+      few = subst (λ (top : Option ℕ). Few top (length items)) (sym c.go_back.ensures.limit) (few_less (g.K.Keeper.limit i.keeper) (length items) (length (item ∷ items)) (omega arith) (subst (λ (ks : List Kept). Few (g.K.Keeper.limit i.keeper) (length ks)) took v.few));
+      clean = λ e. absurd (back_not_on (g.K.Keeper.forth c.go_back.new.keeper) e);
       room = λ x xs e. omega (arith, h.2, v.within);
     }
 
@@ -73,25 +81,30 @@ returns-clause-back g c =
     let i = c.self.inside in
     let l = now_of i.store in
     let here = reverse i.here.items in
-    let item = c.in-Some.item in
-    let newer = c.go_back.new.item in
-    let items = g.K.Keeper.kept c.take.new.self in
+    let first = c.in-Some.ensures in
+    let item = first.0 in
+    let b = c.go_back.ensures.back item first.1 first.2 in
+    let newer = b.forth in
+    let items = g.K.Keeper.kept c.go_back.new.keeper in
+    let took : g.K.Keeper.kept i.keeper ≡ item ∷ items = first.2 ∙ ap (λ (ks : List Kept). item ∷ ks) (sym b.left) in
     let kept = g.K.Keeper.kept i.keeper in
     let limit = g.K.Keeper.limit i.keeper in
     let m = back_in l here item in
     let n = now_of c.go_back.new.store in
-    let is = c.go_back.ensures.now in
-    let standing = λ (sets : List SetAt) (t : TapeState g.row.R.Denot) (x : Layout) (gs : List Group) (top : Option ℕ). standing_of i.code i.settings i.steps sets (i.point - 1) t x i.executed (reverse gs) items top (Back newer) in
-    let old = λ (ks : List Kept). gone_back (pasts l i.sets.items i.point here ks) (standing_of i.code i.settings i.steps i.sets.items i.point i.tape l i.executed here ks limit i.last) in
-    ap (λ (xs : List SetAt). standing xs c.consume.new.self n c.go_back.new.here.items (g.K.Keeper.limit c.take.new.self)) c.keep_below.ensures
-    ∙ ap (λ (t : TapeState g.row.R.Denot). standing (below i.point i.sets.items) t n c.go_back.new.here.items (g.K.Keeper.limit c.take.new.self)) c.consume.ensures.after
-    ∙ ap (λ (x : Layout). standing (below i.point i.sets.items) (record i.tape { consumed = x.registers.consumed }) x c.go_back.new.here.items (g.K.Keeper.limit c.take.new.self)) is
-    ∙ ap (λ (gs : List Group). standing (below i.point i.sets.items) (record i.tape { consumed = m.registers.consumed }) m gs (g.K.Keeper.limit c.take.new.self)) c.go_back.ensures.here
-    ∙ ap (λ (top : Option ℕ). standing (below i.point i.sets.items) (record i.tape { consumed = m.registers.consumed }) m item.sets.items top) c.in-Some.ensures.limit
-    ∙ gone_is i.code i.settings i.steps i.sets.items i.point i.tape l i.executed here item newer items limit i.last
-    (ap (λ (x : Layout). globals_forth x.globals (newer.step ∷ newer.sets.items)) (sym is) ∙ c.go_back.ensures.globals)
-    (ap (λ (x : Layout). record_forth x.current (newer.step ∷ newer.sets.items)) (sym is) ∙ c.go_back.ensures.record)
-    ∙ ap old (sym c.in-Some.ensures.taken)
+    let is = b.now in
+    let back_to = λ (la : Last) (sets : List SetAt) (t : TapeState g.row.R.Denot) (x : Layout) (gs : List Group) (top : Option ℕ). standing_of i.code i.settings i.steps sets (i.point - 1) t x i.executed (reverse gs) items top la in
+    let standing = back_to (Back newer) in
+    let old = λ (ks : List Kept). gone_back (pasts l i.sets.items i.point here ks) (standing_of i.code i.settings i.steps i.sets.items i.point i.tape l i.executed here ks limit (last_of i.last (g.K.Keeper.forth i.keeper))) in
+    ap (λ (o : Option Forth). back_to (last_of move.Back o) c.keep_below.new.sets.items c.consume.new.self n c.go_back.new.here.items (g.K.Keeper.limit c.go_back.new.keeper)) b.is
+    ∙ ap (λ (xs : List SetAt). standing xs c.consume.new.self n c.go_back.new.here.items (g.K.Keeper.limit c.go_back.new.keeper)) c.keep_below.ensures
+    ∙ ap (λ (t : TapeState g.row.R.Denot). standing (below i.point i.sets.items) t n c.go_back.new.here.items (g.K.Keeper.limit c.go_back.new.keeper)) c.consume.ensures.after
+    ∙ ap (λ (x : Layout). standing (below i.point i.sets.items) (record i.tape { consumed = x.registers.consumed }) x c.go_back.new.here.items (g.K.Keeper.limit c.go_back.new.keeper)) is
+    ∙ ap (λ (gs : List Group). standing (below i.point i.sets.items) (record i.tape { consumed = m.registers.consumed }) m gs (g.K.Keeper.limit c.go_back.new.keeper)) b.here
+    ∙ ap (λ (top : Option ℕ). standing (below i.point i.sets.items) (record i.tape { consumed = m.registers.consumed }) m item.sets top) c.go_back.ensures.limit
+    ∙ gone_is i.code i.settings i.steps i.sets.items i.point i.tape l i.executed here item newer items limit (last_of i.last (g.K.Keeper.forth i.keeper))
+    (ap (λ (x : Layout). globals_forth (back x.globals newer.globals) newer.sets) (sym is) ∙ b.globals)
+    (ap (λ (x : Layout). record_forth (record_back x.current newer.current) newer.sets) (sym is) ∙ b.current)
+    ∙ ap old (sym took)
     ∙ ap (λ (x : Standing g.row.R.Denot). gone_back x.history x) c.self.view_is
 
 pub returns-clause-stood : goal.returns-clause-stood

@@ -2,7 +2,7 @@ use Rattle.std.proofs.Common.{◌≡◌, List, [], ◌∷◌, ◌++◌, length, 
 use Rattle.std.specs.Prelude.{slice_set}
 use Rattle.std.proofs.lemmas.List.{reverse-append}
 use Rattle.rawk_value.specs.declared.value.Value.{Value}
-use Rattle.rawk_store.specs.declared.store.Group.{Group}
+use Rattle.rawk_store.specs.Groups.{Group}
 use Rattle.rawk_store.specs.declared.target.Target.{Target}
 use Rattle.rawk_store.specs.declared.target.Target.TheVariants.{Global}
 use Rattle.rawk_store.specs.Layout.{Layout, IsSound}
@@ -10,7 +10,7 @@ use Rattle.rawk_store.specs.Saving.{saved_in}
 use Rattle.rawk_store.specs.GroupBack.{put_back}
 use Rattle.rawk_store.specs.Stores.{now_of}
 use Rattle.rawk_code.specs.Actions.{SetAt}
-use Rattle.rawk_machine.specs.declared.last_move.LastMove.TheVariants.{Nothing}
+use Rattle.rawk_machine.specs.Last.{Nothing, last_of}
 use Rattle.rawk_machine.specs.Standing.{Standing, Stood, set_made}
 use Rattle.rawk_machine.specs.Kept.{IsPlaced, Chain}
 use Rattle.rawk_machine.specs.Stood.{standing_of, IsBelow}
@@ -78,8 +78,8 @@ returns-clause-made g c =
       ap (λ (xs : List SetAt). standing xs n (reverse c.write_global.new.here.items)) (pushed ∙ ap (λ (d : SetAt). i.sets.items ++ d ∷ []) is)
           ∙ ap (λ (gs : List Group). standing (i.sets.items ++ f ∷ []) n gs) last
           ∙ ap (λ (m : Layout). standing (i.sets.items ++ f ∷ []) m (x ∷ here)) did
-          ∙ set_is i.code i.settings i.steps i.sets.items i.point i.tape l i.executed x here kept limit i.last number value (ap (λ (m : Layout). put_back m x) (sym did) ∙ w.back.2)
-          ∙ ap (λ (t : Target). set_made (saved_in x) t value (standing_of i.code i.settings i.steps i.sets.items i.point i.tape l i.executed here kept limit i.last)) (sym c.global_of-number.ensures)
+          ∙ set_is i.code i.settings i.steps i.sets.items i.point i.tape l i.executed x here kept limit (last_of i.last (g.K.Keeper.forth i.keeper)) number value (ap (λ (m : Layout). put_back m x) (sym did) ∙ w.back.2)
+          ∙ ap (λ (t : Target). set_made (saved_in x) t value (standing_of i.code i.settings i.steps i.sets.items i.point i.tape l i.executed here kept limit (last_of i.last (g.K.Keeper.forth i.keeper)))) (sym c.global_of-number.ensures)
           ∙ ap (set_made (saved_in x) c.args.target value) c.self.view_is,
     )
 

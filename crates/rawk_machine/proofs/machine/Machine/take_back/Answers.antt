@@ -1,11 +1,11 @@
 use Rattle.std.proofs.Common.{◌≡◌, ℕ, ◌-◌, List, [], ◌∷◌, length, take, reverse, sym, ap, ◌∙◌, subst, arith, None}
 use Rattle.std.proofs.lemmas.List.{reverse-append}
 use Rattle.rawk_tape.specs.Tapes.{TapeState}
-use Rattle.rawk_store.specs.declared.store.Group.{Group}
+use Rattle.rawk_store.specs.Groups.{Group}
 use Rattle.rawk_store.specs.Layout.{Layout}
 use Rattle.rawk_store.specs.Stores.{now_of}
 use Rattle.rawk_code.specs.Actions.{SetAt}
-use Rattle.rawk_machine.specs.declared.last_move.LastMove.TheVariants.{Nothing}
+use Rattle.rawk_machine.specs.Last.{Nothing, last_of}
 use Rattle.rawk_machine.specs.Standing.{Standing, Stood, taken_back}
 use Rattle.rawk_machine.specs.Kept.{but_last, unsets, Chain}
 use Rattle.rawk_machine.specs.Stood.{standing_of}
@@ -84,11 +84,11 @@ returns-clause-back g c =
     let whole = subst (λ (gs : List Group). Chain l i.point size i.sets.items gs kept) last v.chain in
     let is = c.undo.ensures.now in
     let standing = λ (sets : List SetAt) (t : TapeState g.row.R.Denot) (m : Layout). standing_of i.code i.settings i.steps sets i.point t m i.executed rest kept limit Nothing in
-    let old = λ (gs : List Group). taken_back (unsets l i.sets.items gs) (standing_of i.code i.settings i.steps i.sets.items i.point i.tape l i.executed gs kept limit i.last) in
+    let old = λ (gs : List Group). taken_back (unsets l i.sets.items gs) (standing_of i.code i.settings i.steps i.sets.items i.point i.tape l i.executed gs kept limit (last_of i.last (g.K.Keeper.forth i.keeper))) in
     ap (λ (xs : List SetAt). standing xs c.consume.new.self (now_of c.undo.new.self)) (c.pop-last.ensures.rest ∙ ap (λ (k : ℕ). take (k - 1) i.sets.items) i.sets.ok.0)
     ∙ ap (λ (t : TapeState g.row.R.Denot). standing (but_last i.sets.items) t (now_of c.undo.new.self)) c.consume.ensures.after
     ∙ ap (λ (m : Layout). standing (but_last i.sets.items) (record i.tape { consumed = m.registers.consumed }) m) is
-    ∙ taken_is i.code i.settings i.steps i.sets.items i.point size i.tape l i.executed x rest kept limit i.last whole
+    ∙ taken_is i.code i.settings i.steps i.sets.items i.point size i.tape l i.executed x rest kept limit (last_of i.last (g.K.Keeper.forth i.keeper)) whole
     ∙ ap old (sym last)
     ∙ ap (λ (m : Standing g.row.R.Denot). taken_back m.unset m) c.self.view_is
 

@@ -1,0 +1,5 @@
+use Rattle.rawk_names.proofs.Refusals.{refused_once}
+use Rattle.rawk_names.proofs.laws.is_refused_once.Goals as goal
+
+pub returns : goal.returns
+returns c = refused_once

@@ -1,0 +1,46 @@
+//! What a step changed.
+
+ghost use Rattle.std.specs.Prelude.{◌≡◌};
+ghost use Rattle.std.specs.Option.{option_copied};
+
+use crate::others::Others;
+use crate::registers::Registers;
+use rawk_record::Record;
+use rawk_slots::{Saved, SlotGroup};
+use rawk_value::Value;
+use std::marker::Model;
+
+/// What a step changed: for each place that it wrote what stood there when it began, once.
+#[derive(Drop)]
+pub struct Group {
+    pub(crate) globals: SlotGroup<Value>,
+    pub(crate) others: Option<Others>,
+    pub(crate) current: Option<Record>,
+    /// How many bytes of output there were.
+    pub(crate) output: usize,
+    pub(crate) registers: Registers,
+}
+
+impl Model for Group {
+    ghost use Rattle.rawk_store.specs.Groups.{Group};
+
+    ghost Value = { Group };
+
+    ghost view = { λ g. record { globals = g.globals.entries.items; others = g.others; current = g.current; output = g.output; registers = g.registers } };
+}
+
+impl Group {
+    /// The old values of globals.
+    pub fn globals(&self) -> &[Saved<Value>]
+        ensures { result.now ≡ self.now.globals }
+    {
+        &self.globals.entries
+    }
+
+    /// The record before, if the step has made it another one.
+    pub fn record(&self) -> Option<&Record>
+        ensures { option_copied result ≡ self.now.current }
+    {
+        self.current.as_ref()
+    }
+}
