@@ -18,7 +18,10 @@ RUNS = [
     (["{ print $2, NR } END { print NR }"], b"a b\nc\n"),
     (['BEGIN { x = "a long text, longer than a word"; print x, x; print 1 + 2 }'], b""),
     (["--steps", "6", "{ print }"], b"a\nb\n"),
+    (["-v", "x=a\\tlong text, longer than a word", "-vy=1", "-F, *", "{ print x, y, $2 }"], b"a, b\n"),
     (["BEGIN { x = 9223372036854775807; print x; print x + 1 }"], b""),
+    (['function f(n, t) { t = t "a text longer than a word"; return n < 1 ? t : f(n - 1, t) } BEGIN { print f(40) }'], b""),
+    (['function f() { if (NR == 2) next; return 1 + g() } function g() { exit 3 } { print f() } END { print NR }'], b"a\nb\n"),
 ]
 
 SESSIONS = [
@@ -26,6 +29,8 @@ SESSIONS = [
     ("{ n += $1 } END { print n }", b"3\n4\n", ["continue", "print n", "rc", "step", "step", "step", "print $1", "rs", "print n", "continue", "rs", "backtrace"]),
     ("{ n += $1 } END { print n }", b"3\n4\n", ["watch n", "continue", "print $1", "c", "set n=10", "watch $1", "rc", "rc", "c", "unwatch 1", "set NF=-1", "reverse-set", "set n=5", "step", "rs", "reverse-set", "rn", "break 1", "c", "delete 3", "print q", "c", "set n=1", "rc"]),
     ('BEGIN { x = "a text"; y = x; print y, x }', b"", ["next", "next", "print y", "rn", "continue", "rc", "continue", "rs"]),
+    ("function sq(n) {\n t = t + 1\n return n * n\n}\nBEGIN {\n s = sq(3)\n s = s + sq(4)\n print s, t\n}", b"", ["next", "break sq", "next", "backtrace", "print n", "set n=5", "finish", "print s", "reverse-continue", "print n", "reverse-set", "watch t", "rc", "reverse-finish", "delete 1", "reverse-finish", "continue", "rc"]),
+    ('function f(n) { return n < 1 ? "a text longer than a word" : f(n - 1) } BEGIN { x = f(30); print x }', b"", ["break f", "continue", "continue", "backtrace", "delete 1", "finish", "rs", "rc", "continue", "rc"]),
 ]
 
 

@@ -3,7 +3,7 @@ use Rattle.std.proofs.Common.{◌≡◌, ℕ, ◌+◌, ◌++◌, List, [], refl,
 use Rattle.rawk_value.specs.Values.{Bytes}
 use Rattle.rawk_value.specs.declared.fault.Fault.TheVariants.{OutOfMemory}
 use Rattle.rawk_tape.specs.Records.{Input}
-use Rattle.rawk_syntax.specs.declared.tree.Program.{Program}
+use Rattle.rawk_tree.specs.declared.tree.Program.{Program}
 use Rattle.rawk_code.specs.Actions.{SetAt}
 use Rattle.rawk_code.specs.Laws.{FirstOutputLaw}
 use Rattle.rawk_code.specs.Listing.{Listing}

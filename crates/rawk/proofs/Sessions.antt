@@ -4,7 +4,7 @@ use Rattle.rawk_value.specs.Values.{Bytes}
 use Rattle.rawk_tape.specs.Records.{Input}
 use Rattle.rawk_tape.specs.Inputs.{before}
 use Rattle.rawk_tape.specs.Tapes.{TapeState, MayBe}
-use Rattle.rawk_syntax.specs.declared.tree.Program.{Program}
+use Rattle.rawk_tree.specs.declared.tree.Program.{Program}
 use Rattle.rawk_code.specs.Actions.{SetAt}
 use Rattle.rawk_code.specs.Listing.{Listing}
 use Rattle.rawk_code.specs.Trace.{FirstValue}

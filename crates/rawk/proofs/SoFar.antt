@@ -7,7 +7,7 @@ use Rattle.rawk_value.specs.Values.{Bytes}
 use Rattle.rawk_value.specs.declared.fault.Fault.TheVariants.{WriteFailed, OutOfMemory}
 use Rattle.rawk_tape.specs.Records.{Input}
 use Rattle.rawk_tape.specs.Inputs.{CountsUp}
-use Rattle.rawk_syntax.specs.declared.tree.Program.{Program}
+use Rattle.rawk_tree.specs.declared.tree.Program.{Program}
 use Rattle.rawk_code.specs.Actions.{Point, Ending, Ended, Faulted, Limited, Given, SetAt}
 use Rattle.rawk_code.specs.Laws.{IsBeginning, OutputLaw, OutputGrows, FirstOutputLaw}
 use Rattle.rawk_code.specs.Trace.{FirstValue, Trace, trace, out, number, line_at}

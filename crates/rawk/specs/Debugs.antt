@@ -2,7 +2,7 @@
 use Rattle.std.specs.Prelude.{◌≡◌, ℕ, ◌≤◌, ◌++◌, true, false, List, [], Option}
 use Rattle.rawk_value.specs.Values.{Bytes}
 use Rattle.rawk_tape.specs.Records.{Input}
-use Rattle.rawk_syntax.specs.declared.tree.Program.{Program}
+use Rattle.rawk_tree.specs.declared.tree.Program.{Program}
 use Rattle.rawk_parsing.specs.declared.refusal.Refusal.{Refusal}
 use Rattle.rawk_syntax.specs.Texts.{IsProgram}
 use Rattle.rawk_value.specs.declared.fault.Fault.TheVariants as fault

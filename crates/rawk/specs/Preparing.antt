@@ -4,7 +4,7 @@ use Rattle.rawk_limits.specs.declared.TheConstants.{PROGRAM_BYTES}
 use Rattle.rawk_value.specs.Values.{Bytes}
 use Rattle.rawk_value.specs.declared.fault.Fault.TheVariants as fault
 use Rattle.rawk_grammar.specs.declared.tree.Item.{Item}
-use Rattle.rawk_syntax.specs.declared.tree.Program.{Program}
+use Rattle.rawk_tree.specs.declared.tree.Program.{Program}
 use Rattle.rawk_parsing.specs.declared.refusal.Refusal.{Refusal}
 use Rattle.rawk_parsing.specs.declared.refusal.RefusalKind.TheVariants.{OutOfMemory}
 use Rattle.rawk_syntax.specs.Texts.{IsProgram, IsPlain, IsRefusal}

@@ -2,7 +2,7 @@
 use Rattle.std.specs.Prelude.{◌≡◌, ℕ, zero, suc, ◌<◌, ◌≤◌, ◌++◌, List, [], length, take, Option, None, Some, slice_get}
 use Rattle.rawk_value.specs.Values.{Bytes}
 use Rattle.rawk_value.specs.declared.fault.Fault.TheVariants.{StepLimit, WriteFailed, OutOfMemory}
-use Rattle.rawk_syntax.specs.declared.tree.Program.{Program}
+use Rattle.rawk_tree.specs.declared.tree.Program.{Program}
 use Rattle.rawk_code.specs.Actions.{Point, Ending, Ended, Faulted, Limited}
 use Rattle.rawk_code.specs.Laws.{IsBeginning}
 use Rattle.rawk_code.specs.Trace.{FirstValue, Trace, trace, out, number, status, line_of, line_at}

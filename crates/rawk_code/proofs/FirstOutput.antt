@@ -1,10 +1,10 @@
 -- Nothing is written before point 0: a code reaches a point before it can write.
 use Rattle.std.proofs.Common.{◌≡◌, ℕ, zero, suc, ◌+◌, Bool, true, false, List, [], ◌∷◌, ◌++◌, length, map, Option, Some, None, if◌then◌else◌, refl, sym, ap, ◌∙◌, subst, arith, length-append}
 use Rattle.std.specs.Prelude.{slice_get, nat_eq}
-use Rattle.rawk_syntax.specs.declared.tree.Stmt.{Stmt, Row_of-Stmt, end_of-Stmt, more_of-Stmt, Row_of-Branch, end_of-Branch, more_of-Branch}
-use Rattle.rawk_syntax.specs.declared.tree.Stmt.TheVariants as stmt
-use Rattle.rawk_syntax.specs.declared.tree.Rule.{Rule}
-use Rattle.rawk_syntax.specs.declared.tree.Program.{Program}
+use Rattle.rawk_tree.specs.declared.tree.Stmt.{Stmt, Row_of-Stmt, end_of-Stmt, more_of-Stmt, Row_of-Branch, end_of-Branch, more_of-Branch}
+use Rattle.rawk_tree.specs.declared.tree.Stmt.TheVariants as stmt
+use Rattle.rawk_tree.specs.declared.tree.Rule.{Rule}
+use Rattle.rawk_tree.specs.declared.tree.Program.{Program}
 use Rattle.rawk_value.specs.declared.value.Value.{Value}
 use Rattle.rawk_value.specs.Values.{Bytes}
 use Rattle.rawk_code.specs.declared.code.Around.{Around}
@@ -14,10 +14,10 @@ use Rattle.rawk_code.specs.declared.code.Instr.TheVariants as instr
 use Rattle.rawk_code.specs.Actions.{Point, Run, Ended, Limited, Stops, Goes, Breaks, sets_at, Given}
 use Rattle.rawk_code.specs.Trace.{reads, start}
 use Rattle.rawk_code.specs.Machine.{Phase, InBegin, InEnd, to_main, Places, Config, Going, goes_on, act, steps}
-use Rattle.rawk_code.specs.Code.{simple_of, operand_of, unless_simple, expr_code, Piece, nowhere, always, in_turn, Arm, then_to, branch_to, if_code, step_around, body_around, loop_code, jump_code, test_code, stmt_code, stmt_codes, arms_of, main_code, begin_code, end_at_of, program_code, HasAt}
+use Rattle.rawk_code.specs.Code.{simple_of, operand_of, unless_simple, expr_code, Piece, nowhere, always, in_turn, Arm, then_to, branch_to, if_code, step_around, body_around, loop_code, jump_code, test_code, stmt_code, stmt_codes, arms_of, main_code, begin_code, end_at_of, functions_at_of, functions_code, program_code, HasAt}
 use Rattle.rawk_code.specs.Laws.{IsBeginning, FirstIsSilent, FirstOutputLaw}
 use Rattle.rawk_code.specs.Steps.{run_of, with_point, all_set_same, steps_grow, over_stays}
-use Rattle.rawk_code.proofs.Runs.{has_front, has_back, has_all}
+use Rattle.rawk_code.proofs.Follows.{has_front, has_back, has_all}
 use Rattle.rawk_code.proofs.TraceLaws.{place_of, trace_runs}
 
 abbrev Silent : Config → Type 0
@@ -151,6 +151,8 @@ module _ (code : List Instr) where
     stmt_opens (stmt.Next site) = point_opens site (always _)
     stmt_opens (stmt.Exit site) = point_opens site (always _)
     stmt_opens (stmt.ExitWith site e) = point_opens site (always _)
+    stmt_opens (stmt.Return site) = point_opens site (always _)
+    stmt_opens (stmt.ReturnWith site e) = point_opens site (always _)
 
     stmts_open : {m : _} → (row : Row_of-Stmt m) → AllOpen (stmt_codes row)
     stmts_open end_of-Stmt = tt
@@ -173,7 +175,7 @@ first_calm p =
     let cm = main_code (reads p) p.rules.items n in
     let e = end_at_of p in
     let ce = in_turn (map stmt_code p.end.items) nowhere e in
-    let last : List Instr = instr.BeginEnd ∷ (ce ++ instr.Halt ∷ []) in
+    let last : List Instr = instr.BeginEnd ∷ (ce ++ (instr.Halt ∷ functions_code p.functions.items (functions_at_of p))) in
     let zero_on : 0 + n ≡ n = omega arith in
     let has = has_all code [] in
     let has_main = subst (λ q. HasAt code q (cm ++ last)) zero_on (has_back code 0 cb _ has) in
@@ -195,12 +197,12 @@ module _ (given : Given) (code : List Instr) (fin : Places) where
   from_calm (suc m) _ ops keys rets phase run (at_jump q k h calm) none silent = subst (λ i. Silent (steps given code fin m (act given fin i q ops keys rets phase run))) (sym h) (from_calm m (q + 1 + k) ops keys rets phase run calm none silent)
   from_calm (suc m) _ ops keys rets phase run (at_return q p h calm) none silent = subst (λ i. Silent (steps given code fin m (act given fin i q ops keys rets phase run))) (sym h) (from_calm m p ops keys rets phase run calm none silent)
   from_calm (suc m) _ ops keys rets phase run (at_main q h calm) none silent =
-      subst (λ i. Silent (steps given code fin m (act given fin i q ops keys rets phase run))) (sym h) (from_calm m (q + 1) [] [] [] (to_main phase) run calm none silent)
-  from_calm (suc m) _ ops keys rets phase run (at_end q h calm) none silent = subst (λ i. Silent (steps given code fin m (act given fin i q ops keys rets phase run))) (sym h) (from_calm m (q + 1) [] [] [] InEnd run calm none silent)
+      subst (λ i. Silent (steps given code fin m (act given fin i q ops keys rets phase run))) (sym h) (from_calm m (q + 1) [] [] rets (to_main phase) run calm none silent)
+  from_calm (suc m) _ ops keys rets phase run (at_end q h calm) none silent = subst (λ i. Silent (steps given code fin m (act given fin i q ops keys rets phase run))) (sym h) (from_calm m (q + 1) [] [] rets InEnd run calm none silent)
   from_calm (suc m) _ ops keys rets phase run (at_halt q h) none silent =
       subst (λ i. Silent (steps given code fin m (act given fin i q ops keys rets phase run))) (sym h) (subst Silent (sym (over_stays given code fin m Ended run)) (λ a e. absurd (cc), λ e. silent))
 
 pub first_output_law : FirstOutputLaw
 first_output_law p settings given =
     let a = trace_runs p settings given in
-    subst Silent a.1 (from_calm given (program_code p) (place_of p) a.0 0 [] [] [] InBegin (start p.names.items settings) (first_calm p) refl refl)
+    subst Silent a.1 (from_calm given (program_code p) (place_of p) a.0 0 [] [] [] InBegin (start p.names.items p.ranges settings) (first_calm p) refl refl)

@@ -1,4 +1,8 @@
+pub mod Follows
+pub mod Expressions
+pub mod Statements
 pub mod Runs
+pub mod Calls
 pub mod Whole
 pub mod StepLaws
 pub mod TraceLaws
@@ -9,3 +13,4 @@ pub mod Patch
 pub mod Assembly
 pub mod FirstOutput
 pub mod Rows
+pub mod CallRows

@@ -3,29 +3,36 @@ use Rattle.std.proofs.Common.{◌≡◌, ℕ, zero, suc, ◌+◌, ◌-◌, ◌*�
 use Rattle.std.specs.Prelude.{slice_get, nat_lt, ◌||◌}
 use Rattle.std.proofs.lemmas.Option.{slice_get_past}
 use Rattle.std.proofs.lemmas.Bool.{cases_lt, lt-ltb}
-use Rattle.rawk_syntax.specs.declared.tree.Expr.{Expr, Row_of-Link, end_of-Link, more_of-Link}
-use Rattle.rawk_syntax.specs.declared.tree.Expr.TheVariants as expr
-use Rattle.rawk_syntax.specs.declared.tree.Link.{Link}
-use Rattle.rawk_syntax.specs.declared.tree.Link.TheVariants as link
-use Rattle.rawk_syntax.specs.declared.tree.Place.{Place}
-use Rattle.rawk_syntax.specs.declared.tree.Place.TheVariants as place
-use Rattle.rawk_syntax.specs.declared.tree.Stmt.{Stmt, Row_of-Stmt, end_of-Stmt, more_of-Stmt, Row_of-Branch, end_of-Branch, more_of-Branch}
-use Rattle.rawk_syntax.specs.declared.tree.Stmt.TheVariants as stmt
-use Rattle.rawk_syntax.specs.declared.tree.Guard.{Guard}
-use Rattle.rawk_syntax.specs.declared.tree.Guard.TheVariants.{When}
-use Rattle.rawk_syntax.specs.declared.tree.Rule.{Rule}
-use Rattle.rawk_syntax.specs.declared.tree.Program.{Program}
+use Rattle.rawk_tree.specs.declared.tree.Expr.{Expr, Row_of-Expr, end_of-Expr, more_of-Expr, Row_of-Link, end_of-Link, more_of-Link}
+use Rattle.rawk_tree.specs.declared.tree.Expr.TheVariants as expr
+use Rattle.rawk_tree.specs.declared.tree.Link.{Link}
+use Rattle.rawk_tree.specs.declared.tree.Link.TheVariants as link
+use Rattle.rawk_tree.specs.declared.tree.Place.{Place}
+use Rattle.rawk_tree.specs.declared.tree.Place.TheVariants as place
+use Rattle.rawk_tree.specs.declared.tree.Stmt.{Stmt, Row_of-Stmt, end_of-Stmt, more_of-Stmt, Row_of-Branch, end_of-Branch, more_of-Branch}
+use Rattle.rawk_tree.specs.declared.tree.Stmt.TheVariants as stmt
+use Rattle.rawk_tree.specs.declared.tree.Guard.{Guard}
+use Rattle.rawk_tree.specs.declared.tree.Guard.TheVariants.{When, Between}
+use Rattle.rawk_tree.specs.declared.tree.Rule.{Rule}
+use Rattle.rawk_tree.specs.declared.tree.Function.{Function}
+use Rattle.rawk_tree.specs.declared.tree.Program.{Program}
 use Rattle.rawk_value.specs.declared.operator.Arithmetic.{Arithmetic}
 use Rattle.rawk_parsing.specs.declared.tree.Logic.{Logic}
 use Rattle.rawk_code.specs.declared.code.Around.{Around}
 use Rattle.rawk_code.specs.declared.code.Simple.{Simple}
+use Rattle.rawk_code.specs.declared.code.Simple.TheVariants as simple
 use Rattle.rawk_code.specs.declared.code.Operand.{Operand}
+use Rattle.rawk_code.specs.declared.code.Operand.TheVariants as operand
+use Rattle.rawk_code.specs.declared.code.Destination.{Destination}
+use Rattle.rawk_code.specs.declared.code.Entry.{Entry}
 use Rattle.rawk_code.specs.declared.code.Instr.{Instr}
 use Rattle.rawk_code.specs.declared.code.Instr.TheVariants as instr
 use Rattle.rawk_code.specs.Trace.{reads}
-use Rattle.rawk_code.specs.Code.{simple_field, simple_of, operand_of, unless_simple, pushed, joined, assign_code, store_code, choice_code, decide_code, change_code, step_code, expr_code, effect_code, place_code, link_code, link_codes, front_of, simples_behind, Piece, nowhere, always, in_turn, when_code, Arm, then_to, branch_to, if_code, step_around, body_around, loop_code, jump_code, test_code, stmt_code, stmt_codes, arms_of, guard_code, rule_code, records_code, main_code, begin_code, record_at_of, end_at_of, program_code, HasAt}
-use Rattle.rawk_code.specs.Valid.{rank_of, rank, Descends, IsValid}
-use Rattle.rawk_code.proofs.Runs.{has_front, has_back, has_all, branches_length}
+use Rattle.rawk_code.specs.Code.{simple_field, simple_of, operand_of, unless_simple, pushed, joined, assign_code, store_code, choice_code, decide_code, change_code, step_code, expr_code, expr_codes, effect_code, place_code, link_code, link_codes, front_of, simples_behind, Piece, nowhere, always, in_turn, when_code, Arm, then_to, branch_to, if_code, step_around, body_around, loop_code, jump_code, test_code, stmt_code, stmt_codes, arms_of, closing_code, opened_code, guard_code, rule_code, records_code, main_code, begin_code, record_at_of, end_at_of, functions_at_of, function_code, functions_code, entries_of, program_code, HasAt, variable_of}
+use Rattle.rawk_code.specs.Valid.{rank_of, rank, IsEntry, Descends, IsValid}
+use Rattle.rawk_code.proofs.Follows.{has_front, has_back, has_all}
+use Rattle.rawk_code.proofs.Statements.{branches_length}
+use Rattle.rawk_code.proofs.Calls.{PlacedAt, all_placed}
 
 module _ (code : List Instr) where
   -- where a jump from pc to p may go: to a point, or to a jump forward that goes on behind pc
@@ -81,10 +88,9 @@ module _ (code : List Instr) where
   pushed_fine None c f = f
   pushed_fine (Some from) c f = fine_last [] (instr.Push from) (λ pc. tt) fine_none
 
-  assign_fine : (t : Place) (instruction : ℕ → Operand → Instr) (o : Option Simple) (c : List Instr) → ((x : ℕ) (from : Operand) (pc : ℕ) → BackAt pc (instruction x from)) → Fine c → Fine (assign_code t instruction o c)
-  assign_fine (place.Global x) instruction o c h f = fine_last (unless_simple o c) (instruction x (operand_of o)) (h x (operand_of o)) (unless_fine o c f)
-  assign_fine place.FieldCount instruction o c h f = f
-  assign_fine (place.Field' p e) instruction o c h f = f
+  assign_fine : (t : Option Destination) (instruction : Destination → Operand → Instr) (o : Option Simple) (c : List Instr) → ((x : Destination) (from : Operand) (pc : ℕ) → BackAt pc (instruction x from)) → Fine c → Fine (assign_code t instruction o c)
+  assign_fine None instruction o c h f = f
+  assign_fine (Some x) instruction o c h f = fine_last (unless_simple o c) (instruction x (operand_of o)) (h x (operand_of o)) (unless_fine o c f)
 
   choice_fine : (test : List Instr) (from : Operand) (first second : List Instr) → Fine test → Fine first → Fine second → Fine (choice_code test from first second)
   choice_fine test from first second ft fy fn =
@@ -95,15 +101,13 @@ module _ (code : List Instr) where
   decide_fine : (l : Logic) (test : List Instr) (from : Operand) → Fine test → Fine (decide_code l test from)
   decide_fine l test from ft = fine_cons (instr.Decide l (length test + 1)) (test ++ instr.Truth from ∷ []) (λ pc. tt) (fine_last test (instr.Truth from) (λ pc. tt) ft)
 
-  change_fine : (op : Arithmetic) (t : Place) (read : List Instr) → Fine read → Fine (change_code op t read)
-  change_fine op (place.Global x) read f = fine_last [] (instr.After op x) (λ pc. tt) fine_none
-  change_fine op place.FieldCount read f = f
-  change_fine op (place.Field' p e) read f = f
+  change_fine : (op : Arithmetic) (t : Option Destination) (read : List Instr) → Fine read → Fine (change_code op t read)
+  change_fine op None read f = f
+  change_fine op (Some x) read f = fine_last [] (instr.After op x) (λ pc. tt) fine_none
 
-  step_fine : (op : Arithmetic) (t : Place) (read : List Instr) → Fine read → Fine (step_code op t read)
-  step_fine op (place.Global x) read f = fine_last [] (instr.StoreUpdate op x _) (λ pc. tt) fine_none
-  step_fine op place.FieldCount read f = fine_last read instr.Pop (λ pc. tt) f
-  step_fine op (place.Field' p e) read f = fine_last read instr.Pop (λ pc. tt) f
+  step_fine : (op : Arithmetic) (t : Option Destination) (read : List Instr) → Fine read → Fine (step_code op t read)
+  step_fine op None read f = fine_last read instr.Pop (λ pc. tt) f
+  step_fine op (Some x) read f = fine_last [] (instr.StoreUpdate op x _) (λ pc. tt) fine_none
 
   mutual
     expr_fine : (e : Expr) → Fine (expr_code e)
@@ -113,12 +117,18 @@ module _ (code : List Instr) where
     expr_fine (expr.Signed' s p e) = fine_last (unless_simple (simple_of e) (expr_code e)) (instr.Sign s (operand_of (simple_of e))) (λ pc. tt) (unless_fine (simple_of e) (expr_code e) (expr_fine e))
     expr_fine (expr.Chain' p first shape more) = fine_append (expr_code first) (joined (link_codes more)) (expr_fine first) (joined_fine (link_codes more) (links_fine more))
     expr_fine (expr.Choice' p a q b r c) = choice_fine (unless_simple (simple_of a) (expr_code a)) (operand_of (simple_of a)) (expr_code b) (expr_code c) (unless_fine (simple_of a) (expr_code a) (expr_fine a)) (expr_fine b) (expr_fine c)
-    expr_fine (expr.After op p) = change_fine op p (place_code p) (place_fine p)
-    expr_fine (expr.Assign' t p e) = assign_fine t instr.Assign (simple_of e) (expr_code e) (λ x from pc. tt) (expr_fine e)
-    expr_fine (expr.Update' op t p e) = assign_fine t (instr.Update op) (simple_of e) (expr_code e) (λ x from pc. tt) (expr_fine e)
+    expr_fine (expr.After op p) = change_fine op (variable_of p) (place_code p) (place_fine p)
+    expr_fine (expr.Assign' t p e) = assign_fine (variable_of t) instr.Assign (simple_of e) (expr_code e) (λ x from pc. tt) (expr_fine e)
+    expr_fine (expr.Update' op t p e) = assign_fine (variable_of t) (instr.Update op) (simple_of e) (expr_code e) (λ x from pc. tt) (expr_fine e)
+    expr_fine (expr.Call' f shape args) = fine_last (joined (expr_codes args)) (instr.Call f (length (expr_codes args))) (λ pc. tt) (joined_fine (expr_codes args) (exprs_fine args))
+
+    exprs_fine : {m : _} → (row : Row_of-Expr m) → AllFine (expr_codes row)
+    exprs_fine end_of-Expr = tt
+    exprs_fine (more_of-Expr e rest) = (expr_fine e, exprs_fine rest)
 
     place_fine : (p : Place) → Fine (place_code p)
     place_fine (place.Global x) = fine_last [] (instr.Push _) (λ pc. tt) fine_none
+    place_fine (place.Local i) = fine_last [] (instr.Push _) (λ pc. tt) fine_none
     place_fine place.FieldCount = fine_last [] (instr.Push _) (λ pc. tt) fine_none
     place_fine (place.Field' p e) = pushed_fine (simple_field e) (expr_code e ++ instr.FieldAt ∷ []) (fine_last (expr_code e) instr.FieldAt (λ pc. tt) (expr_fine e))
 
@@ -130,10 +140,9 @@ module _ (code : List Instr) where
     links_fine end_of-Link = tt
     links_fine (more_of-Link l rest) = (link_fine l, links_fine rest)
 
-  store_fine : (t : Place) (instruction : ℕ → Operand → Instr) (o : Option Simple) (c : List Instr) → ((x : ℕ) (from : Operand) (pc : ℕ) → BackAt pc (instruction x from)) → Fine c → Fine (store_code t instruction o c)
-  store_fine (place.Global x) instruction o c h f = fine_last (unless_simple o c) (instruction x (operand_of o)) (h x (operand_of o)) (unless_fine o c f)
-  store_fine place.FieldCount instruction o c h f = fine_last c instr.Pop (λ pc. tt) f
-  store_fine (place.Field' p e) instruction o c h f = fine_last c instr.Pop (λ pc. tt) f
+  store_fine : (t : Option Destination) (instruction : Destination → Operand → Instr) (o : Option Simple) (c : List Instr) → ((x : Destination) (from : Operand) (pc : ℕ) → BackAt pc (instruction x from)) → Fine c → Fine (store_code t instruction o c)
+  store_fine None instruction o c h f = fine_last c instr.Pop (λ pc. tt) f
+  store_fine (Some x) instruction o c h f = fine_last (unless_simple o c) (instruction x (operand_of o)) (h x (operand_of o)) (unless_fine o c f)
 
   effect_fine : (e : Expr) → Fine (effect_code e)
   effect_fine (expr.Number n) = fine_last _ instr.Pop (λ pc. tt) (expr_fine (expr.Number n))
@@ -142,9 +151,10 @@ module _ (code : List Instr) where
   effect_fine (expr.Signed' s p e) = fine_last _ instr.Pop (λ pc. tt) (expr_fine (expr.Signed' s p e))
   effect_fine (expr.Chain' p first shape more) = fine_last _ instr.Pop (λ pc. tt) (expr_fine (expr.Chain' p first shape more))
   effect_fine (expr.Choice' p a q b r c) = fine_last _ instr.Pop (λ pc. tt) (expr_fine (expr.Choice' p a q b r c))
-  effect_fine (expr.After op p) = step_fine op p (place_code p) (place_fine p)
-  effect_fine (expr.Assign' t p e) = store_fine t instr.Store (simple_of e) (expr_code e) (λ x from pc. tt) (expr_fine e)
-  effect_fine (expr.Update' op t p e) = store_fine t (instr.StoreUpdate op) (simple_of e) (expr_code e) (λ x from pc. tt) (expr_fine e)
+  effect_fine (expr.After op p) = step_fine op (variable_of p) (place_code p) (place_fine p)
+  effect_fine (expr.Assign' t p e) = store_fine (variable_of t) instr.Store (simple_of e) (expr_code e) (λ x from pc. tt) (expr_fine e)
+  effect_fine (expr.Update' op t p e) = store_fine (variable_of t) (instr.StoreUpdate op) (simple_of e) (expr_code e) (λ x from pc. tt) (expr_fine e)
+  effect_fine (expr.Call' f shape args) = fine_last _ instr.Pop (λ pc. tt) (expr_fine (expr.Call' f shape args))
 
   list_fine : (es : List Expr) → AllFine (map expr_code es)
   list_fine [] = tt
@@ -289,6 +299,8 @@ module _ (code : List Instr) where
     stmt_fine (stmt.Exit site) = always_fine _ (fine_cons (instr.Point (Some site)) _ (λ pc. tt) (fine_cons instr.Quit [] (λ pc. tt) fine_none))
     stmt_fine (stmt.ExitWith site e) =
         always_fine _ (fine_append (test_code site e) _ (fine_cons (instr.Point (Some site)) _ (λ pc. tt) (tested_fine e)) (fine_cons (instr.SetStatus (operand_of (simple_of e))) _ (λ pc. tt) (fine_cons instr.Quit [] (λ pc. tt) fine_none)))
+    stmt_fine (stmt.Return site) = always_fine _ (fine_cons (instr.Point (Some site)) _ (λ pc. tt) (fine_cons (instr.Return (operand.Given simple.Uninitialized)) [] (λ pc. tt) fine_none))
+    stmt_fine (stmt.ReturnWith site e) = always_fine _ (fine_append (test_code site e) _ (fine_cons (instr.Point (Some site)) _ (λ pc. tt) (tested_fine e)) (fine_cons (instr.Return (operand_of (simple_of e))) [] (λ pc. tt) fine_none))
 
     stmts_fine : {m : _} → (row : Row_of-Stmt m) → AllPieces (stmt_codes row)
     stmts_fine end_of-Stmt = tt
@@ -305,10 +317,34 @@ module _ (code : List Instr) where
   guard_fine : (g : Guard) (site : ℕ) (piece : Piece) → FinePiece piece → FinePiece (guard_code g site piece)
   guard_fine (When e) site piece f =
       when_fine (instr.Point (Some site) ∷ unless_simple (simple_of e) (expr_code e)) (operand_of (simple_of e)) piece (fine_cons (instr.Point (Some site)) _ (λ pc. tt) (unless_fine (simple_of e) (expr_code e) (expr_fine e))) f
+  guard_fine (Between range first last) site piece f =
+      let closes = closing_code range last in
+      let closes_fine = fine_append (unless_simple (simple_of last) (expr_code last)) _ (tested_fine last) (fine_cons (instr.SkipIfFalse 1 (operand_of (simple_of last))) _ (λ pc. tt) (fine_cons (instr.SetRange range false) [] (λ pc. tt) fine_none)) in
+      let opened : FinePiece (opened_code range last piece) = record {
+        by = λ w pc to has le safe.
+            let a = piece w (pc + 1 + length closes) in
+            (tt, backs_append (pc + 1) closes a (closes_fine.by (pc + 1) (has_front code (pc + 1) closes a has.1)) (f.by w (pc + 1 + length closes) to (has_back code (pc + 1) closes a has.1) (omega (arith, le, length-append closes a)) safe));
+      } in
+      let test = unless_simple (simple_of first) (expr_code first) in
+      let whole = when_fine test (operand_of (simple_of first)) (opened_code range last piece) (tested_fine first) opened in
+      record { by = λ w pc to has le safe. (tt, (tt, whole.by w (pc + 1 + 1) to has.1.1 (omega (arith, le)) safe)) }
 
   rules_fine : (rs : List Rule) → AllPieces (map rule_code rs)
   rules_fine [] = tt
   rules_fine (r ∷ rs) = (guard_fine r.guard r.site (stmt_code r.action) (stmt_fine r.action), rules_fine rs)
+
+  functions_fine : (fs : List Function) → AllPieces (map function_code fs)
+  functions_fine [] = tt
+  functions_fine (f ∷ fs) = (function_fine f, functions_fine fs)
+    where
+      function_fine : (f : Function) → FinePiece (function_code f)
+      function_fine f =
+          record {
+            by = λ w pc to has le safe.
+                let b = stmt_code f.body w (pc + 1) in
+                let last : List Instr = instr.Return (operand.Given simple.Uninitialized) ∷ [] in
+                (tt, backs_append (pc + 1) b last ((stmt_fine f.body).by w (pc + 1) to (has_front code (pc + 1) b last has.1) (omega (arith, le, length-append b last)) safe) (tt, tt));
+          }
 
   -- a piece in no loop
   alone : (c : Piece) → FinePiece c → (pc : ℕ) → HasAt code pc (c nowhere pc) → Backs pc (c nowhere pc)
@@ -333,11 +369,15 @@ module _ (code : List Instr) where
       let cm = main_code (reads p) p.rules.items n in
       let e = end_at_of p in
       let ce = in_turn (map stmt_code p.end.items) nowhere e in
-      let last : List Instr = instr.BeginEnd ∷ (ce ++ instr.Halt ∷ []) in
+      let at = functions_at_of p in
+      let cf = functions_code p.functions.items at in
+      let last : List Instr = instr.BeginEnd ∷ (ce ++ (instr.Halt ∷ cf)) in
       let zero_on : 0 + n ≡ n = omega arith in
       let has_main = subst (λ q. HasAt code q (cm ++ last)) zero_on (has_back code 0 cb _ has) in
       let has_end = (has_back code n cm last has_main).1 in
-      let ends = backs_append e ce (instr.Halt ∷ []) (alone (in_turn (map stmt_code p.end.items)) (in_turn_fine (map stmt_code p.end.items) (all_fine p.end.items)) e (has_front code e ce _ has_end)) (tt, tt) in
+      let has_halt = has_back code e ce (instr.Halt ∷ cf) has_end in
+      let functions = alone (in_turn (map function_code p.functions.items)) (in_turn_fine (map function_code p.functions.items) (functions_fine p.functions.items)) at has_halt.1 in
+      let ends = backs_append e ce (instr.Halt ∷ cf) (alone (in_turn (map stmt_code p.end.items)) (in_turn_fine (map stmt_code p.end.items) (all_fine p.end.items)) e (has_front code e ce _ has_end)) (tt, functions) in
       let mains = backs_append n cm last (main_fine (reads p) p.rules.items n (has_front code n cm last has_main)) (tt, ends) in
       backs_append 0 cb (cm ++ last) (alone (in_turn (map stmt_code p.begin.items)) (in_turn_fine (map stmt_code p.begin.items) (all_fine p.begin.items)) 0 (has_front code 0 cb _ has)) (subst (λ q. Backs q (cm ++ last)) (sym zero_on) mains)
 
@@ -359,6 +399,7 @@ module _ (code : List Instr) where
   low n q None lt = omega arith
   low n q (Some (instr.GoOn k)) lt = omega arith
   low n q (Some (instr.Point x)) lt = omega arith
+  low n q (Some instr.Halt) lt = omega arith
   low n q (Some _) lt = omega arith
 
   at_most : (q : ℕ) → rank code q ≤ 2 * (length code - q)
@@ -396,48 +437,48 @@ module _ (code : List Instr) where
       let below = at_most (pc + 1 + k) in
       omega (arith, value)
 
-  -- where each reading of a record begins there is a point; where none is read, the code ends there
+  -- where each reading of a record begins there is a point; where none is read, the end of END
   abbrev Begins : ℕ → Type 0
-  Begins again = (slice_get code again ≡ Some (instr.Point None)) ⊎ ((slice_get code again ≡ Some instr.Halt) × (length code ≡ again + 1))
+  Begins again = (slice_get code again ≡ Some (instr.Point None)) ⊎ (slice_get code again ≡ Some instr.Halt)
 
   next_down : (again pc : ℕ) → Begins again → slice_get code pc ≡ Some instr.NextRecord → rank code again < rank code pc
   next_down again pc (inl point) h = lands pc instr.NextRecord h refl again (Some (instr.Point None)) point tt
-  next_down again pc (inr last) h = go (cases_lt pc again)
-    where
-      go : (pc < again) ⊎ (again ≤ pc) → rank code again < rank code pc
-      go (inl lt) = onward pc instr.NextRecord h refl again lt
-      go (inr le) =
-          let top = within pc instr.NextRecord h in
-          let same : pc ≡ again = omega (arith, le, top, last.1) in
-          let both : Some instr.NextRecord ≡ Some instr.Halt = sym h ∙ ap (slice_get code) same ∙ last.0 in
-          absurd (cc)
+  next_down again pc (inr last) h =
+      let top = within pc instr.NextRecord h in
+      let value : rank code pc ≡ 2 * (length code - pc) = ap (rank_of (length code) pc) h in
+      let zero_rank : rank code again ≡ 0 = ap (rank_of (length code) again) last in
+      omega (arith, value, zero_rank)
 
-  descends : (again : ℕ) → Begins again → (pc : ℕ) (o : Option Instr) → slice_get code pc ≡ o → ((i : Instr) → o ≡ Some i → BackAt pc i) → Descends code again pc o
-  descends again begins pc None h back = tt
-  descends again begins pc (Some (instr.Point site)) h back = tt
-  descends again begins pc (Some instr.Halt) h back = tt
-  descends again begins pc (Some instr.Quit) h back = tt
-  descends again begins pc (Some instr.NextRecord) h back = next_down again pc begins h
-  descends again begins pc (Some (instr.SetStatus from)) h back = onward pc (instr.SetStatus from) h refl (pc + 1) (omega arith)
-  descends again begins pc (Some (instr.SkipIfFalse k from)) h back = (onward pc (instr.SkipIfFalse k from) h refl (pc + 1) (omega arith), onward pc (instr.SkipIfFalse k from) h refl (pc + 1 + k) (omega arith))
-  descends again begins pc (Some (instr.ReadRecord k)) h back = (onward pc (instr.ReadRecord k) h refl (pc + 1) (omega arith), onward pc (instr.ReadRecord k) h refl (pc + 1 + k) (omega arith))
-  descends again begins pc (Some (instr.GoOn k)) h back = jumps_on pc k h
-  descends again begins pc (Some (instr.GoTo p)) h back = lands pc (instr.GoTo p) h refl p (slice_get code p) refl (back (instr.GoTo p) refl)
-  descends again begins pc (Some (instr.Push from)) h back = onward pc (instr.Push from) h refl (pc + 1) (omega arith)
-  descends again begins pc (Some instr.Pop) h back = onward pc instr.Pop h refl (pc + 1) (omega arith)
-  descends again begins pc (Some instr.FieldAt) h back = onward pc instr.FieldAt h refl (pc + 1) (omega arith)
-  descends again begins pc (Some (instr.Combine op from)) h back = onward pc (instr.Combine op from) h refl (pc + 1) (omega arith)
-  descends again begins pc (Some (instr.Sign s from)) h back = onward pc (instr.Sign s from) h refl (pc + 1) (omega arith)
-  descends again begins pc (Some (instr.Decide l k)) h back = (onward pc (instr.Decide l k) h refl (pc + 1) (omega arith), onward pc (instr.Decide l k) h refl (pc + 1 + k) (omega arith))
-  descends again begins pc (Some (instr.Truth from)) h back = onward pc (instr.Truth from) h refl (pc + 1) (omega arith)
-  descends again begins pc (Some (instr.After op x)) h back = onward pc (instr.After op x) h refl (pc + 1) (omega arith)
-  descends again begins pc (Some (instr.Assign x from)) h back = onward pc (instr.Assign x from) h refl (pc + 1) (omega arith)
-  descends again begins pc (Some (instr.Update op x from)) h back = onward pc (instr.Update op x from) h refl (pc + 1) (omega arith)
-  descends again begins pc (Some (instr.Store x from)) h back = onward pc (instr.Store x from) h refl (pc + 1) (omega arith)
-  descends again begins pc (Some (instr.StoreUpdate op x from)) h back = onward pc (instr.StoreUpdate op x from) h refl (pc + 1) (omega arith)
-  descends again begins pc (Some (instr.Print m simples)) h back = onward pc (instr.Print m simples) h refl (pc + 1) (omega arith)
-  descends again begins pc (Some instr.BeginMain) h back = onward pc instr.BeginMain h refl (pc + 1) (omega arith)
-  descends again begins pc (Some instr.BeginEnd) h back = onward pc instr.BeginEnd h refl (pc + 1) (omega arith)
+  descends : (again : ℕ) (entries : List Entry) → ((f : ℕ) → IsEntry code (slice_get entries f)) → Begins again → (pc : ℕ) (o : Option Instr) → slice_get code pc ≡ o → ((i : Instr) → o ≡ Some i → BackAt pc i) → Descends code again entries pc o
+  descends again entries ready begins pc None h back = tt
+  descends again entries ready begins pc (Some (instr.Point site)) h back = tt
+  descends again entries ready begins pc (Some instr.Halt) h back = tt
+  descends again entries ready begins pc (Some instr.Quit) h back = tt
+  descends again entries ready begins pc (Some (instr.Call f m)) h back = ready f
+  descends again entries ready begins pc (Some (instr.Return from)) h back = tt
+  descends again entries ready begins pc (Some (instr.SkipIfOn range k)) h back = (onward pc (instr.SkipIfOn range k) h refl (pc + 1) (omega arith), onward pc (instr.SkipIfOn range k) h refl (pc + 1 + k) (omega arith))
+  descends again entries ready begins pc (Some (instr.SetRange range on)) h back = onward pc (instr.SetRange range on) h refl (pc + 1) (omega arith)
+  descends again entries ready begins pc (Some instr.NextRecord) h back = next_down again pc begins h
+  descends again entries ready begins pc (Some (instr.SetStatus from)) h back = onward pc (instr.SetStatus from) h refl (pc + 1) (omega arith)
+  descends again entries ready begins pc (Some (instr.SkipIfFalse k from)) h back = (onward pc (instr.SkipIfFalse k from) h refl (pc + 1) (omega arith), onward pc (instr.SkipIfFalse k from) h refl (pc + 1 + k) (omega arith))
+  descends again entries ready begins pc (Some (instr.ReadRecord k)) h back = (onward pc (instr.ReadRecord k) h refl (pc + 1) (omega arith), onward pc (instr.ReadRecord k) h refl (pc + 1 + k) (omega arith))
+  descends again entries ready begins pc (Some (instr.GoOn k)) h back = jumps_on pc k h
+  descends again entries ready begins pc (Some (instr.GoTo p)) h back = lands pc (instr.GoTo p) h refl p (slice_get code p) refl (back (instr.GoTo p) refl)
+  descends again entries ready begins pc (Some (instr.Push from)) h back = onward pc (instr.Push from) h refl (pc + 1) (omega arith)
+  descends again entries ready begins pc (Some instr.Pop) h back = onward pc instr.Pop h refl (pc + 1) (omega arith)
+  descends again entries ready begins pc (Some instr.FieldAt) h back = onward pc instr.FieldAt h refl (pc + 1) (omega arith)
+  descends again entries ready begins pc (Some (instr.Combine op from)) h back = onward pc (instr.Combine op from) h refl (pc + 1) (omega arith)
+  descends again entries ready begins pc (Some (instr.Sign s from)) h back = onward pc (instr.Sign s from) h refl (pc + 1) (omega arith)
+  descends again entries ready begins pc (Some (instr.Decide l k)) h back = (onward pc (instr.Decide l k) h refl (pc + 1) (omega arith), onward pc (instr.Decide l k) h refl (pc + 1 + k) (omega arith))
+  descends again entries ready begins pc (Some (instr.Truth from)) h back = onward pc (instr.Truth from) h refl (pc + 1) (omega arith)
+  descends again entries ready begins pc (Some (instr.After op x)) h back = onward pc (instr.After op x) h refl (pc + 1) (omega arith)
+  descends again entries ready begins pc (Some (instr.Assign x from)) h back = onward pc (instr.Assign x from) h refl (pc + 1) (omega arith)
+  descends again entries ready begins pc (Some (instr.Update op x from)) h back = onward pc (instr.Update op x from) h refl (pc + 1) (omega arith)
+  descends again entries ready begins pc (Some (instr.Store x from)) h back = onward pc (instr.Store x from) h refl (pc + 1) (omega arith)
+  descends again entries ready begins pc (Some (instr.StoreUpdate op x from)) h back = onward pc (instr.StoreUpdate op x from) h refl (pc + 1) (omega arith)
+  descends again entries ready begins pc (Some (instr.Print m simples)) h back = onward pc (instr.Print m simples) h refl (pc + 1) (omega arith)
+  descends again entries ready begins pc (Some instr.BeginMain) h back = onward pc instr.BeginMain h refl (pc + 1) (omega arith)
+  descends again entries ready begins pc (Some instr.BeginEnd) h back = onward pc instr.BeginEnd h refl (pc + 1) (omega arith)
 
 not_both : (b : Bool) → b ≡ true → b ≡ false → ⊥
 not_both true is h = absurd (cc)
@@ -459,7 +500,7 @@ begins_of p = go (reads p) refl
     n = length (begin_code p)
 
     with_end : Bool → ℕ → List Stmt → List Instr
-    with_end b e end = main_code b p.rules.items n ++ (instr.BeginEnd ∷ (in_turn (map stmt_code end) nowhere e ++ instr.Halt ∷ []))
+    with_end b e end = main_code b p.rules.items n ++ (instr.BeginEnd ∷ (in_turn (map stmt_code end) nowhere e ++ (instr.Halt ∷ functions_code p.functions.items (functions_at_of p))))
 
     has : HasAt code n (with_end (reads p) (end_at_of p) p.end.items)
     has = let zero_on : 0 + n ≡ n = omega arith in subst (λ q. HasAt code q (with_end (reads p) (end_at_of p) p.end.items)) zero_on (has_back code 0 (begin_code p) _ (has_all code []))
@@ -469,12 +510,31 @@ begins_of p = go (reads p) refl
     go false e =
         let none : p.end.items ≡ [] = no_end p.rules.items p.end.items e in
         let short = subst (λ end. HasAt code n (with_end false (end_at_of p) end)) none (subst (λ b. HasAt code n (with_end b (end_at_of p) p.end.items)) e has) in
-        let size : length (with_end (reads p) (end_at_of p) p.end.items) ≡ 2 = ap (λ b. length (with_end b (end_at_of p) p.end.items)) e ∙ ap (λ end. length (with_end false (end_at_of p) end)) none in
-        inr (short.1.0, omega (arith, size, length-append (begin_code p) (with_end (reads p) (end_at_of p) p.end.items)))
+        inr short.1.0
 
-pub valid : (p : Program) → IsValid (program_code p) (record_at_of p)
+-- at each function's entry stands a point
+entry_at : (code : List Instr) (g : Option Function) (e : Option Entry) → PlacedAt code g e → IsEntry code e
+entry_at code g None placed = tt
+entry_at code None (Some e) placed = absurd placed
+entry_at code (Some g) (Some e) placed = (Some g.site, placed.1.0)
+
+entries_stand : (p : Program) (f : ℕ) → IsEntry (program_code p) (slice_get (entries_of p) f)
+entries_stand p f =
+    let code = program_code p in
+    let cb = begin_code p in
+    let n = length cb in
+    let cm = main_code (reads p) p.rules.items n in
+    let e = end_at_of p in
+    let ce = in_turn (map stmt_code p.end.items) nowhere e in
+    let cf = functions_code p.functions.items (functions_at_of p) in
+    let zero_on : 0 + n ≡ n = omega arith in
+    let has_main = subst (λ q. HasAt code q (cm ++ (instr.BeginEnd ∷ (ce ++ (instr.Halt ∷ cf))))) zero_on (has_back code 0 cb _ (has_all code [])) in
+    let has_halt = has_back code e ce (instr.Halt ∷ cf) (has_back code n cm _ has_main).1 in
+    entry_at code (slice_get p.functions.items f) (slice_get (entries_of p) f) (all_placed code (functions_at_of p) p.functions.items has_halt.1 f)
+
+pub valid : (p : Program) → IsValid (program_code p) (record_at_of p) (entries_of p)
 valid p pc =
     let code = program_code p in
     let backs = program_fine code p (has_all code []) in
     let same : 0 + pc ≡ pc = omega arith in
-    descends code (record_at_of p) (begins_of p) pc (slice_get code pc) refl (λ i h. subst (λ n. BackAt code n i) same (back_at code code 0 pc i backs h))
+    descends code (record_at_of p) (entries_of p) (entries_stand p) (begins_of p) pc (slice_get code pc) refl (λ i h. subst (λ n. BackAt code n i) same (back_at code code 0 pc i backs h))

@@ -109,7 +109,7 @@ module _ (input : records.Input) (code : List Instr) (fin : Places) where
               let both : Over u.ending u.run ≡ Over t.ending t.run = q ∙ sym p in
               (ap (λ r. take k r.points) (sym (run_same u.ending t.ending u.run t.run both)), λ low. trace_same t u both)
           by_limit (inr ne) (inl lt) =
-              let alike : w ≡ v = ap (λ (l : List SetAt). let s = record (all_set l r.run.state) { here = length r.run.points } in let z : Run = record { points = r.run.points ++ (record { site = r.site; state = s } ∷ []); state = s } in z) (sym (same (length r.run.points) lt)) in
+              let alike : w ≡ v = ap (λ (l : List SetAt). let s = record (all_set l r.run.state) { here = length r.run.points; site = r.site } in let z : Run = record { points = r.run.points ++ (record { site = r.site; state = s } ∷ []); state = s } in z) (sym (same (length r.run.points) lt)) in
               together (r.next v) (r.free v) (enters input code fin x n c r ne) (enters input code fin y n c r ne ∙ ap r.next alike)
           by_limit (inr ne) (inr le) =
               let p = behind x n m c r t ne e in

@@ -1,24 +1,24 @@
 -- The laws of the trace, by way of the code that has the same runs.
 use Rattle.std.proofs.Common.{◌≡◌, ℕ, ◌+◌, List, [], refl, subst, arith}
-use Rattle.rawk_syntax.specs.declared.tree.Program.{Program}
+use Rattle.rawk_tree.specs.declared.tree.Program.{Program}
 use Rattle.rawk_code.specs.Actions.{Given}
 use Rattle.rawk_code.specs.Trace.{FirstValue, trace, start}
 use Rattle.rawk_code.specs.Machine.{Places, Config, Going, Over, InBegin, steps}
-use Rattle.rawk_code.specs.Code.{record_at_of, end_at_of, program_code}
+use Rattle.rawk_code.specs.Code.{record_at_of, end_at_of, entries_of, program_code}
 use Rattle.rawk_code.specs.Laws.{LimitLaw, SetsLawBelow, SetsLaw, OutputGrows, OutputLaw}
 use Rattle.rawk_code.specs.Steps.{run_of, over_later}
-use Rattle.rawk_code.proofs.Runs.{has_all}
+use Rattle.rawk_code.proofs.Follows.{has_all}
 use Rattle.rawk_code.proofs.Whole.{program_leads}
 use Rattle.rawk_code.proofs.StepLaws.{limit_from, sets_from, ordered}
 
 abbrev pub place_of : Program → Places
-place_of p = record { record_at = record_at_of p; end_at = end_at_of p }
+place_of p = record { record_at = record_at_of p; end_at = end_at_of p; entries = entries_of p }
 
 abbrev first_of : Program → List FirstValue → Config
-first_of p settings = Going 0 [] [] [] InBegin (start p.names.items settings)
+first_of p settings = Going 0 [] [] [] InBegin (start p.names.items p.ranges settings)
 
 pub trace_runs : (p : Program) (settings : List FirstValue) (given : Given) → (m : ℕ) × (steps given (program_code p) (place_of p) m (first_of p settings) ≡ Over (trace p settings given).ending (trace p settings given).run)
-trace_runs p settings given = (program_leads given (program_code p) (place_of p) p settings refl refl (has_all (program_code p) [])).by 0
+trace_runs p settings given = (program_leads given (program_code p) (place_of p) p settings refl refl refl (has_all (program_code p) [])).by 0
 
 pub limit_law : LimitLaw
 limit_law p settings given =

@@ -1,6 +1,6 @@
 -- Laws of the trace: what one more step changes, what later sets change, and that output only grows.
 use Rattle.std.specs.Prelude.{◌≡◌, ℕ, ◌+◌, ◌<◌, ◌≤◌, List, [], ◌++◌, take, Some, slice_get}
-use Rattle.rawk_syntax.specs.declared.tree.Program.{Program}
+use Rattle.rawk_tree.specs.declared.tree.Program.{Program}
 use Rattle.rawk_value.specs.Values.{Bytes}
 use Rattle.rawk_code.specs.Actions.{Point, SetAt, sets_at, Ending, Ended, Faulted, Limited, Given}
 use Rattle.rawk_code.specs.Trace.{FirstValue, Trace, trace, number, out}

@@ -1,30 +1,39 @@
 -- What a whole program does: BEGIN actions, the records, END actions (POSIX awk, Overall Program Structure).
-use Rattle.std.specs.Prelude.{ℕ, zero, suc, ◌||◌, nat_lt, if◌then◌else◌, Bool, List, [], ◌∷◌, ◌++◌, length, map, replicate, Option, None, Some, slice_get, slice_set}
-use Rattle.rawk_syntax.specs.declared.tree.Guard.{Guard}
-use Rattle.rawk_syntax.specs.declared.tree.Guard.TheVariants.{When}
-use Rattle.rawk_syntax.specs.declared.tree.Rule.{Rule}
-use Rattle.rawk_syntax.specs.declared.tree.Program.{Program}
+use Rattle.std.specs.Prelude.{ℕ, zero, suc, ◌||◌, nat_lt, if◌then◌else◌, Bool, true, false, List, [], ◌∷◌, ◌++◌, length, map, replicate, Option, None, Some, slice_set}
+use Rattle.rawk_tree.specs.declared.tree.Guard.{Guard}
+use Rattle.rawk_tree.specs.declared.tree.Guard.TheVariants.{When, Between}
+use Rattle.rawk_tree.specs.declared.tree.Rule.{Rule}
+use Rattle.rawk_tree.specs.declared.tree.Program.{Program}
 use Rattle.rawk_value.specs.declared.value.Value.{Value}
 use Rattle.rawk_value.specs.declared.value.Value.TheVariants.{Uninitialized, Input}
 use Rattle.rawk_value.specs.declared.fault.Fault.TheVariants.{NextOutside}
 use Rattle.rawk_value.specs.Values.{Bytes}
 use Rattle.rawk_special.specs.Special.{first_specials, global_number}
-pub use Rattle.rawk_syntax.specs.Sites.{line_at}
+pub use Rattle.rawk_tree.specs.Sites.{line_at}
 use Rattle.rawk_code.specs.declared.settings.FirstValue as settings
-use Rattle.rawk_code.specs.Actions.{Point, Run, Ending, Ended, Faulted, Limited, Stops, Exits, Nexts, Returns, Leaves, Repeats, Outcome, Goes, Breaks, Effect, bind, do_first, break_off, Given, reach, read_record}
-use Rattle.rawk_code.specs.Meaning.{Scene, eval, exec, either, choose, in_order, nothing, after_point}
+use Rattle.rawk_code.specs.Actions.{Run, Ending, Ended, Faulted, Limited, Stops, Exits, Nexts, Returns, Leaves, Repeats, Outcome, Goes, Breaks, Action, Effect, bind, do_first, break_off, look, change, Given, outside, is_on, switched, reach, read_record}
+use Rattle.rawk_code.specs.Meaning.{Scene, eval, exec, either, choose, in_order, nothing, after_point, call_at}
+
+-- where the second test of a range holds the range goes off, and the work is done in any case
+abbrev pub last_test : ℕ → Action Value → Effect → Effect
+last_test range last work = do_first (bind last (either (change (switched range false)) nothing)) work
+
+-- where the first test of a range holds the range goes on
+abbrev pub first_test : ℕ → Action Value → Action Value → Effect → Effect
+first_test range first last work = bind first (either (do_first (change (switched range true)) (last_test range last work)) nothing)
 
 -- a main rule on the record of now
 abbrev pub guarded : Scene → Guard → Effect → Effect
-guarded w (When e) work = bind (eval e) (either work nothing)
+guarded w (When e) work = bind (eval w e) (either work nothing)
+guarded w (Between range first last) work = bind (look (is_on range)) (choose (last_test range (eval w last) work) (first_test range (eval w first) (eval w last) work))
 
 abbrev pub rule_of : Scene → Rule → Effect
 rule_of w rule = after_point w rule.site (guarded w rule.guard (exec w rule.action))
 
--- the work on a record, which `next` ends
+-- the work on a record, which `next` ends, also from a function
 abbrev pub until_next : Outcome (Unit {0}) → Outcome (Unit {0})
 until_next (Goes _ run) = Goes tt run
-until_next (Breaks Nexts run) = Goes tt run
+until_next (Breaks Nexts run) = Goes tt (outside run)
 until_next (Breaks (Stops ending) run) = Breaks (Stops ending) run
 until_next (Breaks Exits run) = Breaks Exits run
 until_next (Breaks (Returns v) run) = Breaks (Returns v) run
@@ -52,19 +61,19 @@ pub record Trace : Type 0 where
   pub ending : Ending
   pub run : Run
 
--- the end of the END actions, also after an exit
+-- the end of the END actions; `exit` ends them and removes the activations
 abbrev pub last_of : Outcome (Unit {0}) → Trace
 last_of (Breaks (Stops ending) run) = record { ending = ending; run = run }
 last_of (Breaks Nexts run) = record { ending = Faulted NextOutside; run = run }
 last_of (Goes _ run) = record { ending = Ended; run = run }
-last_of (Breaks why run) = record { ending = Ended; run = run }
+last_of (Breaks why run) = record { ending = Ended; run = outside run }
 
 -- the END actions follow, also after an exit; `next` where no main rule runs is a fault
 abbrev pub then_end : Outcome (Unit {0}) → Effect → Trace
 then_end (Breaks (Stops ending) run) end = record { ending = ending; run = run }
 then_end (Breaks Nexts run) end = record { ending = Faulted NextOutside; run = run }
 then_end (Goes _ run) end = last_of (end run)
-then_end (Breaks why run) end = last_of (end run)
+then_end (Breaks why run) end = last_of (end (outside run))
 
 -- a first value from outside the program: the name of a global, and its text
 abbrev pub FirstValue : Type 0
@@ -81,39 +90,36 @@ settled names [] globals = globals
 settled names (e ∷ es) globals = settled names es (with_first names e globals)
 
 -- the run before the first point
-abbrev pub start : List Bytes → List FirstValue → Run
-start names settings = record {
+abbrev pub start : List Bytes → ℕ → List FirstValue → Run
+start names ranges settings = record {
   points = [];
   state = record {
     globals = settled names settings (first_specials ++ replicate (length names) Uninitialized);
     arrays = [];
     frames = [];
-    ranges = [];
+    ranges = replicate ranges false;
     whole = [];
     fields = [];
     consumed = 0;
     output = [];
     status = 0;
     here = 0;
+    site = None;
   };
 }
 
-abbrev pub scene : Given → Scene
-scene given = record { given = given; turns = suc given.steps }
+abbrev pub scene : Program → Given → Scene
+scene p given = record { given = given; turns = suc given.steps; call = call_at given p.functions.items (suc given.steps) }
 
 -- the trace of a program with its first values
 abbrev pub trace : Program → List FirstValue → Given → Trace
 trace p settings given =
-    then_end (do_first (in_order (map (exec (scene given)) p.begin.items)) (main p (scene given)) (start p.names.items settings))
-    (in_order (map (exec (scene given)) p.end.items))
-
-abbrev pub site_of : Option Point → Option ℕ
-site_of None = None
-site_of (Some point) = point.site
+    let w = scene p given in
+    then_end (do_first (in_order (map (exec w) p.begin.items)) (main p w) (start p.names.items p.ranges settings)) (in_order (map (exec w) p.end.items))
 
 -- the site where execution stands: that of the last point reached at its depth
 abbrev pub site_now : Run → Option ℕ
-site_now run = site_of (slice_get run.points run.state.here)
+site_now run = run.state.site
 
 -- a trace's site: of a fault, or of the point that the limit kept from being reached
 abbrev pub site_at_end : Ending → Run → Option ℕ

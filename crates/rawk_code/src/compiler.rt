@@ -1,13 +1,13 @@
 // The whole program.
 
 ghost use Rattle.std.specs.Prelude.{◌≡◌, [], ◌∷◌, ◌++◌, ◌+◌, IfOk, OnOk, map, length};
-ghost use Rattle.rawk_code.specs.Code.{in_turn, nowhere, guard_code, rule_code, records_code, main_code, stmt_code, IsCompiled, HasPlaces};
+ghost use Rattle.rawk_code.specs.Code.{simple_of, operand_of, unless_simple, expr_code, in_turn, nowhere, when_code, closing_code, opened_code, guard_code, rule_code, function_code, functions_code, entries_from, records_code, main_code, stmt_code, IsCompiled, HasPlaces};
 ghost use Rattle.rawk_code.specs.Correct.{CodeOf};
 ghost use Rattle.rawk_code.specs.Trace.{reads};
 
-use crate::code::{Around, Code, Instr};
+use crate::code::{Around, Code, Entry, Instr, Operand, Simple};
 use crate::emit::{emit_block, emit_operand, emit_stmt, patch, put};
-use rawk_syntax::{Expr, Guard, Program, Rule, Stmt};
+use rawk_tree::{Expr, Function, Guard, Program, Rule, Stmt};
 use rawk_value::Bytes;
 use std::alloc::{AllocError, Global};
 
@@ -30,8 +30,10 @@ pub fn compile(alloc: Global, program: &Program) -> Result<Code, AllocError>
         names,
         record_at,
         end_at,
+        entries,
+        ranges,
     } = parts_of(alloc, program)?;
-    Ok(Code::new(instrs, names, record_at, end_at))
+    Ok(Code::new(instrs, names, record_at, end_at, entries, ranges))
 }
 
 // What a code is made of.
@@ -41,23 +43,28 @@ struct Parts {
     names: Vec<Bytes>,
     record_at: usize,
     end_at: usize,
+    entries: Vec<Entry>,
+    ranges: usize,
 }
 
 // The parts of a program's code.
 fn parts_of(alloc: Global, program: &Program) -> Result<Parts, AllocError>
-    ensures { IfOk result (λ parts. IsCompiled program.now (record { instrs = parts.instrs.items; names = parts.names.items; record_at = parts.record_at; end_at = parts.end_at })) }
+    ensures { IfOk result (λ parts. IsCompiled program.now (record { instrs = parts.instrs.items; names = parts.names.items; record_at = parts.record_at; end_at = parts.end_at; entries = parts.entries.items; ranges = parts.ranges })) }
 {
     let mut instrs = Vec::new(alloc);
     emit_block(alloc, &mut instrs, NOWHERE, &program.begin)?;
     let begin_len = instrs.len();
     emit_main(alloc, &mut instrs, has_records(program), &program.rules)?;
     let end_at = emit_end(alloc, &mut instrs, &program.end)?;
+    let entries = emit_functions(alloc, &mut instrs, &program.functions)?;
     let names = copied(alloc, &program.names)?;
     Ok(Parts {
         instrs,
         names,
         record_at: begin_len + 1,
         end_at,
+        entries,
+        ranges: program.ranges,
     })
 }
 
@@ -121,6 +128,9 @@ fn emit_guarded(
 {
     match guard {
         Guard::When(test) => emit_when(alloc, code, site, test, action),
+        Guard::Between(range, first, last) => {
+            emit_between(alloc, code, site, *range, first, last, action)
+        }
     }
 }
 
@@ -141,6 +151,98 @@ fn emit_when(
     emit_stmt(alloc, code, NOWHERE, action)?;
     let last = code.len();
     patch(code, skip, Instr::SkipIfFalse(last - skip - 1, from));
+    Ok(())
+}
+
+// A range, and its action on the records that it takes.
+fn emit_between(
+    alloc: Global,
+    code: &mut Vec<Instr>,
+    site: usize,
+    range: usize,
+    first: &Expr,
+    last: &Expr,
+    action: &Stmt,
+) -> Result<(), AllocError>
+    ensures { OnOk result (code.new.items ≡ code.old.items ++ guard_code (Guard.Between range first.now last.now) site (stmt_code action.now) nowhere (length code.old.items)) }
+{
+    put(code, Instr::Point(Some(site)))?;
+    let skip = code.len();
+    put(code, Instr::GoOn(0))?;
+    let behind = emit_range(alloc, code, range, first, last, action)?;
+    patch(code, skip, Instr::SkipIfOn(range, behind - skip - 1));
+    Ok(())
+}
+
+// The tests of a range and the action, and the place behind the first test.
+fn emit_range(
+    alloc: Global,
+    code: &mut Vec<Instr>,
+    range: usize,
+    first: &Expr,
+    last: &Expr,
+    action: &Stmt,
+) -> Result<usize, AllocError>
+    ensures items { IfOk result (λ behind. code.new.items ≡ code.old.items ++ when_code (unless_simple (simple_of first.now) (expr_code first.now)) (operand_of (simple_of first.now)) (opened_code range last.now (stmt_code action.now)) nowhere (length code.old.items)) }
+    ensures behind { IfOk result (λ behind. behind ≡ length code.old.items + length (unless_simple (simple_of first.now) (expr_code first.now)) + 2) }
+{
+    let from = emit_operand(alloc, code, first)?;
+    let skip = code.len();
+    put(code, Instr::GoOn(0))?;
+    put(code, Instr::SetRange(range, true))?;
+    let behind = code.len();
+    emit_closing(alloc, code, range, last)?;
+    emit_stmt(alloc, code, NOWHERE, action)?;
+    let end = code.len();
+    patch(code, skip, Instr::SkipIfFalse(end - skip - 1, from));
+    Ok(behind)
+}
+
+// The second test of a range, which turns it off.
+fn emit_closing(
+    alloc: Global,
+    code: &mut Vec<Instr>,
+    range: usize,
+    last: &Expr,
+) -> Result<(), AllocError>
+    ensures { OnOk result (code.new.items ≡ code.old.items ++ closing_code range last.now) }
+{
+    let from = emit_operand(alloc, code, last)?;
+    put(code, Instr::SkipIfFalse(1, from))?;
+    put(code, Instr::SetRange(range, false))?;
+    Ok(())
+}
+
+// The functions, and where each begins.
+fn emit_functions(
+    alloc: Global,
+    code: &mut Vec<Instr>,
+    functions: &[Function],
+) -> Result<Vec<Entry>, AllocError>
+    ensures items { IfOk result (λ entries. code.new.items ≡ code.old.items ++ functions_code functions.now (length code.old.items)) }
+    ensures entries { IfOk result (λ entries. entries.items ≡ entries_from functions.now (length code.old.items)) }
+{
+    let mut entries = Vec::new(alloc);
+    for function in functions {
+        let place = code.len();
+        let parameters = function.parameters.len();
+        entries.push(Entry { place, parameters })?;
+        emit_function(alloc, code, function)?;
+    }
+    Ok(entries)
+}
+
+// A function: the point of its entry, its body, and a return without a value.
+fn emit_function(
+    alloc: Global,
+    code: &mut Vec<Instr>,
+    function: &Function,
+) -> Result<(), AllocError>
+    ensures { OnOk result (code.new.items ≡ code.old.items ++ function_code function.now nowhere (length code.old.items)) }
+{
+    put(code, Instr::Point(Some(function.site)))?;
+    emit_stmt(alloc, code, NOWHERE, &function.body)?;
+    put(code, Instr::Return(Operand::Given(Simple::Uninitialized)))?;
     Ok(())
 }
 

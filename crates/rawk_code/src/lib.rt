@@ -10,7 +10,7 @@ mod loops;
 pub mod sets;
 pub mod settings;
 
-pub use code::{Around, Code, Instr, Operand, Simple, Simples};
+pub use code::{Around, Code, Destination, Entry, Instr, Operand, Simple, Simples};
 pub use compiler::compile;
 pub use fitting::fits;
 pub use sets::SetAt;

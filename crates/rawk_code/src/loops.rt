@@ -6,7 +6,7 @@ ghost use Rattle.rawk_code.specs.Written.{loop_written};
 
 use crate::code::{Around, Instr, Operand};
 use crate::emit::{emit_operand, patch, put};
-use rawk_syntax::Expr;
+use rawk_tree::Expr;
 use std::alloc::{AllocError, Global};
 
 // A loop whose jumps forward are still open: the place of its first instruction, that of the jump behind its test, and where the value of the test is.

@@ -2,3 +2,4 @@ pub mod Searches
 pub mod Absent
 pub mod Refused
 pub mod Undone
+mod Outward

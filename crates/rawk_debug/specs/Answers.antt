@@ -1,18 +1,24 @@
 -- What a session's commands are answered, as text. 10 is a newline.
-use Rattle.std.specs.Prelude.{ℕ, ◌-◌, List, [], ◌∷◌, ◌++◌, length, drop, flat_map, nat_eq, if◌then◌else◌, slice_index_or, Option, Some, None, codes}
+use Rattle.std.specs.Prelude.{ℕ, ◌+◌, ◌-◌, List, [], ◌∷◌, ◌++◌, length, drop, flat_map, nat_eq, if◌then◌else◌, slice_index_or, Option, Some, None, codes}
 use Rattle.rawk_value.specs.Values.{Bytes, decimal}
+use Rattle.rawk_value.specs.declared.value.Value.{Value}
 use Rattle.rawk_value.specs.declared.fault.Fault.{Fault}
 use Rattle.rawk_value.specs.declared.fault.Fault.TheVariants.{StepLimit}
 use Rattle.rawk_value.specs.Faults.{fault_number, fault_text}
 use Rattle.rawk_code.specs.Actions.{Ended, Faulted, Limited}
 use Rattle.rawk_special.specs.Special.{field_count_name, global_name}
-use Rattle.rawk_syntax.specs.Sites.{line_at}
+use Rattle.rawk_frames.specs.Frame.{Frame}
+use Rattle.rawk_store.specs.State.{State, local_value}
+use Rattle.rawk_tree.specs.declared.tree.Program.{Program}
+use Rattle.rawk_tree.specs.Sites.{line_at}
 use Rattle.rawk_commands.specs.declared.command.Place.TheVariants as place
 use Rattle.rawk_commands.specs.declared.command.C.TheVariants.{OutOfMemory}
 use Rattle.rawk_commands.specs.Refusals.{refusal_line}
 use Rattle.rawk_commands.specs.Texts.{shown_place, shown_value}
 use Rattle.rawk_debug.specs.declared.stop.Watched.{Watched}
 use Rattle.rawk_debug.specs.declared.stop.Watched.TheVariants.{Global, FieldCount, Field}
+use Rattle.rawk_debug.specs.declared.stop.Lvalue.{Lvalue}
+use Rattle.rawk_debug.specs.declared.stop.Lvalue.TheVariants.{Local, Shared}
 use Rattle.rawk_debug.specs.declared.stop.Stop.{Stop}
 use Rattle.rawk_debug.specs.declared.stop.Stop.TheVariants.{Break, Watch}
 use Rattle.rawk_debug.specs.declared.stop.Entry.{Entry}
@@ -21,6 +27,7 @@ use Rattle.rawk_debug.specs.declared.answer.Answer.TheVariants.{Went, Halted, Re
 use Rattle.rawk_debug.specs.Positions.{Position, Snapshot}
 use Rattle.rawk_debug.specs.Watching.{Observed, seen, value_at}
 use Rattle.rawk_debug.specs.Moves.{Stand, hits}
+use Rattle.rawk_debug.specs.Activations.{name_of, function_at, local_names}
 use Rattle.rawk_debug.specs.Commands.{names_of}
 
 -- a place, as it is shown
@@ -94,9 +101,32 @@ as_lines text = if nat_eq (slice_index_or text (length text - 1) 10) 10 then tex
 abbrev pub added : ℕ → Snapshot → Bytes
 added from h = as_lines (drop from h.state.output)
 
+-- a place where these are the locals
+abbrev pub lvalue_text : List Bytes → List Bytes → Lvalue → Bytes
+lvalue_text locals names (Local number) = slice_index_or locals number []
+lvalue_text locals names (Shared place) = place_text names place
+
+-- its value
+abbrev pub lvalue_value : Lvalue → State → Value
+lvalue_value (Local number) s = local_value number s
+lvalue_value (Shared place) s = value_at place (seen s)
+
 -- a place and its value
-abbrev pub shown_line : List Bytes → Watched → Snapshot → Bytes
-shown_line names watched h = place_text names watched ++ codes " = " ++ shown_value (value_at watched (seen h.state)) ++ 10 ∷ []
+abbrev pub shown_line : Program → Lvalue → Snapshot → Bytes
+shown_line p place h = lvalue_text (local_names p h.state.frames) p.names.items place ++ codes " = " ++ shown_value (lvalue_value place h.state) ++ 10 ∷ []
+
+-- an activation, by its number and the line where it stands
+abbrev pub frame_line : ℕ → Bytes → ℕ → Bytes
+frame_line number name line = codes "#" ++ decimal number ++ codes " " ++ name ++ codes " line " ++ decimal line ++ 10 ∷ []
+
+-- the activations from one of this number outward, which stands at this line; each further one stands where it called
+abbrev pub frame_lines : Program → ℕ → ℕ → List Frame → Bytes
+frame_lines p number line [] = frame_line number (codes "main") line
+frame_lines p number line (f ∷ fs) = frame_line number (name_of (function_at p f.function)) line ++ frame_lines p (number + 1) (line_at p.lines.items f.site) fs
+
+-- all activations, the innermost first
+abbrev pub backtrace : Program → Snapshot → Bytes
+backtrace p h = frame_lines p 0 (line_at p.lines.items h.site) h.state.frames
 
 -- What a command is answered that left a session so, its machine having come from where a watch saw this.
 abbrev pub text_of : Stand → Snapshot → Observed → Answer → Bytes
@@ -104,9 +134,9 @@ text_of s h came (Went from) = added from h ++ stop_lines (names_of s) came h s.
 text_of s h came (Halted from) = added from h ++ refusal_line OutOfMemory ++ place_line s.machine h
 text_of s h came (Returned found) = (if found then stop_lines (names_of s) came h s.stops else codes "No more reverse-execution history.\n") ++ place_line s.machine h
 text_of s h came Stayed = place_line s.machine h
-text_of s h came (Shown watched) = shown_line (names_of s) watched h
+text_of s h came (Shown place) = shown_line s.machine.program place h
 text_of s h came TakenBack = codes "set taken back\n"
 text_of s h came (Made e) = made_line s.machine.program.lines.items (names_of s) e
 text_of s h came (Deleted e) = deleted_line e
-text_of s h came Traced = codes "#0 main line " ++ decimal (line_at s.machine.program.lines.items h.site) ++ 10 ∷ []
+text_of s h came Traced = backtrace s.machine.program h
 text_of s h came Left = []

@@ -9,12 +9,14 @@ use Rattle.rawk_commands.specs.declared.command.Way.TheVariants.{Forward, Back}
 use Rattle.rawk_commands.specs.declared.command.Goal.{Goal}
 use Rattle.rawk_commands.specs.declared.command.Goal.TheVariants.{Shallower, StopOnly}
 use Rattle.rawk_commands.specs.declared.command.Constant.{Constant}
+use Rattle.rawk_commands.specs.declared.command.Place.{Place}
 use Rattle.rawk_commands.specs.declared.command.Command.{Command}
 use Rattle.rawk_commands.specs.declared.command.Command.TheVariants.{Break, Watch, Delete, Unwatch, Move, Run, Print, Set, ReverseSet, Backtrace, Quit}
 use Rattle.rawk_commands.specs.declared.command.C.{C}
 use Rattle.rawk_commands.specs.declared.command.C.TheVariants.{BadArgument, NoSuchPlace, NoSuchNumber, ProgramEnded, NotInFunction, SetRefused, NoSetToTakeBack, OutOfMemory}
 use Rattle.rawk_commands.specs.Reading.{names_something}
 use Rattle.rawk_debug.specs.declared.stop.Watched.{Watched}
+use Rattle.rawk_debug.specs.declared.stop.Lvalue.{Lvalue}
 use Rattle.rawk_debug.specs.declared.stop.Stop.{Stop}
 use Rattle.rawk_debug.specs.declared.stop.Stop.TheVariants as stop
 use Rattle.rawk_debug.specs.declared.stop.Entry.{Entry}
@@ -22,7 +24,8 @@ use Rattle.rawk_debug.specs.declared.answer.Answer.{Answer}
 use Rattle.rawk_debug.specs.declared.answer.Answer.TheVariants.{Went, Halted, Returned, Stayed, Shown, TakenBack, Made, Deleted, Traced, Left}
 use Rattle.rawk_debug.specs.Positions.{Snapshot, here, back_at, with_set, has_set_at, IsTakenBack}
 use Rattle.rawk_debug.specs.Watching.{Observed}
-use Rattle.rawk_debug.specs.Naming.{place_of, site_of, target_of, constant_value, is_refused}
+use Rattle.rawk_debug.specs.Activations.{local_names}
+use Rattle.rawk_debug.specs.Naming.{place_of, lvalue_of, site_of, target_of, constant_value, is_refused}
 use Rattle.rawk_debug.specs.Moves.{Stand, Goes, Halts, Returns, is_found, from_below, from_above, depth_of}
 
 -- whether a move leaves a function where there is none
@@ -47,12 +50,12 @@ abbrev pub entry_of : Bool → ℕ → List Entry → Option Entry
 entry_of breaks n = find (is_entry breaks n)
 
 -- the reason of a refused place
-abbrev pub reason_of : Result Watched C → Option C
+abbrev pub reason_of : {A : Type 0} → Result A C → Option C
 reason_of (Ok place) = None
 reason_of (Err reason) = Some reason
 
 -- why a set of a place is refused
-abbrev pub set_refusal : Result Watched C → Constant → Snapshot → Option C
+abbrev pub set_refusal : Result Lvalue C → Constant → Snapshot → Option C
 set_refusal (Err reason) constant h = Some reason
 set_refusal (Ok place) constant h =
     if is_some h.over then Some ProgramEnded
@@ -63,6 +66,10 @@ set_refusal (Ok place) constant h =
 abbrev pub names_of : Stand → List Bytes
 names_of s = s.machine.program.names.items
 
+-- a place that can be shown and set where a session stands, or why it is refused
+abbrev pub lvalue_at : Stand → Snapshot → Place → Result Lvalue C
+lvalue_at s h place = lvalue_of (local_names s.machine.program h.state.frames) (names_of s) place
+
 -- Why a command is refused: where several reasons hold, that of the least number.
 abbrev pub refusal : Command → Stand → Snapshot → Option C
 refusal (Break spot) s h = if nat_le most s.made then Some BadArgument else if is_none (site_of s.machine.program spot) then Some NoSuchPlace else None
@@ -72,8 +79,8 @@ refusal (Unwatch n) s h = if is_none (entry_of false n s.stops) then Some NoSuch
 refusal (Move Forward goal) s h = if is_some h.over then Some ProgramEnded else if leaves_none goal h then Some NotInFunction else None
 refusal (Move Back goal) s h = if leaves_none goal h then Some NotInFunction else None
 refusal Run s h = None
-refusal (Print place) s h = reason_of (place_of (names_of s) place)
-refusal (Set place constant) s h = set_refusal (place_of (names_of s) place) constant h
+refusal (Print place) s h = reason_of (lvalue_at s h place)
+refusal (Set place constant) s h = set_refusal (lvalue_at s h place) constant h
 refusal ReverseSet s h = if has_set_at s.machine.point s.machine.sets then None else Some NoSetToTakeBack
 refusal Backtrace s h = None
 refusal Quit s h = None
@@ -119,10 +126,10 @@ Does input (Move Forward goal) old answer came new = Forwards input goal old ans
 Does input (Move Back goal) old answer came new = Backwards input goal old answer came new
 Does input Run old answer came new =
     MatchBool (is_some (here input (rewound old).machine).over) ((answer ≡ Stayed) × (new ≡ rewound old)) (Forwards input StopOnly (rewound old) answer came new)
-Does input (Print place) old answer came new = (w : Watched) × (place_of (names_of old) place ≡ Ok w) × (answer ≡ Shown w) × (new ≡ old)
+Does input (Print place) old answer came new = (l : Lvalue) × (lvalue_at old (here input old.machine) place ≡ Ok l) × (answer ≡ Shown l) × (new ≡ old)
 Does input (Set place constant) old answer came new =
-    (w : Watched) × (t : Target) × (place_of (names_of old) place ≡ Ok w) × (target_of w ≡ Some t)
-    × (answer ≡ Shown w) × (new ≡ record old { machine = with_set t (constant_value constant) old.machine })
+    (l : Lvalue) × (t : Target) × (lvalue_at old (here input old.machine) place ≡ Ok l) × (target_of l ≡ Some t)
+    × (answer ≡ Shown l) × (new ≡ record old { machine = with_set t (constant_value constant) old.machine })
 Does input ReverseSet old answer came new = (answer ≡ TakenBack) × IsTakenBack old.machine new.machine × (new ≡ record old { machine = new.machine })
 Does input Backtrace old answer came new = (answer ≡ Traced) × (new ≡ old)
 Does input Quit old answer came new = (answer ≡ Left) × (new ≡ old)

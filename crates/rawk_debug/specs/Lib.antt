@@ -1,6 +1,7 @@
 pub mod Positions
 pub mod Watching
 pub mod Moves
+pub mod Activations
 pub mod Naming
 pub mod Commands
 pub mod Sessions

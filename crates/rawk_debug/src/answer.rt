@@ -8,9 +8,9 @@ ghost use Rattle.rawk_debug.specs.Answers.{stop_lines, text_of};
 use crate::search::hits_here;
 use crate::session::Session;
 use crate::stepper::Stepper;
-use crate::stop::{Entry, Watched};
+use crate::stop::{Entry, Lvalue};
 use crate::text::{
-    push_activation, push_added, push_deleted, push_made, push_place_line, push_shown_line,
+    push_added, push_backtrace, push_deleted, push_made, push_place_line, push_shown_line,
     push_stop_line,
 };
 use rawk_commands::{C, push_text};
@@ -28,7 +28,7 @@ pub enum Answer {
     /// `run` where the oldest point kept is the ending.
     Stayed,
     /// A place is shown.
-    Shown(Watched),
+    Shown(Lvalue),
     /// The last set of this point stands no more.
     TakenBack,
     /// A breakpoint or a watch was made.
@@ -90,7 +90,7 @@ fn push_answer<M: Stepper>(
         Answer::TakenBack => push_text(out, b"set taken back\n"),
         Answer::Made(entry) => push_made(out, session.machine.program(), entry),
         Answer::Deleted(entry) => push_deleted(out, entry),
-        Answer::Traced => push_activation(out, &session.machine),
+        Answer::Traced => push_backtrace(out, &session.machine),
         Answer::Left => Ok(()),
     }
 }

@@ -13,6 +13,6 @@ pub mod transcript;
 
 pub use answer::Answer;
 pub use session::Session;
-pub use stepper::Stepper;
-pub use stop::{Entry, Stop, Watched};
+pub use stepper::{Call, Stepper};
+pub use stop::{Entry, Lvalue, Stop, Watched};
 pub use transcript::{Reply, carry_out};

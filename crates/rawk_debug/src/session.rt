@@ -3,13 +3,13 @@
 ghost use Rattle.std.specs.Prelude.{◌≡◌, ◌≢◌, ◌<◌, [], false, not, filter, Err, None, IfOk, IfErr};
 ghost use Rattle.rawk_tape.specs.Records.{Input};
 ghost use Rattle.rawk_commands.specs.declared.command.C.TheVariants.{OutOfMemory, NoSuchNumber};
-ghost use Rattle.rawk_debug.specs.Commands.{Makes, Removes, Executes, IsReady, needs_memory, entry_of, is_entry, is_kind, most};
+ghost use Rattle.rawk_debug.specs.Commands.{Makes, Removes, Executes, IsReady, needs_memory, entry_of, is_entry, is_kind, lvalue_at, most};
 ghost use Rattle.rawk_debug.specs.Sessions.{stand, machine_of};
 
 use crate::answer::Answer;
-use crate::naming::{constant_value, place_of, site_of, target_of};
+use crate::naming::{constant_value, local_names, lvalue_of, place_of, site_of, target_of};
 use crate::stepper::Stepper;
-use crate::stop::{Entry, Stop};
+use crate::stop::{Entry, Lvalue, Stop};
 use rawk_commands::{C, Command, Constant, Goal, Place, Spot, Way};
 use std::alloc::{AllocError, Global};
 
@@ -148,6 +148,30 @@ impl<M: Stepper> Session<M> {
         }
     }
 
+    /// A place that can be shown and set here, or why it is refused.
+    fn lvalue_at(&self, place: &Place) -> Result<Lvalue, C>
+        ensures { result ≡ lvalue_at (stand M.position self.now) (M.held self.now.machine) place.now }
+    {
+        lvalue_of(
+            local_names(&self.machine),
+            &self.machine.program().names,
+            place,
+        )
+    }
+
+    /// `print`.
+    fn print(&self, place: &Place) -> Result<Answer, C>
+        ensures executes { (input : Input) → M.may_be self.now.machine input
+            → Executes input (Command.Print place.now) (stand M.position self.now) result (M.before self.now.machine) (stand M.position self.now) }
+        ensures ready { IfOk result (λ answer. IsReady (M.fresh self.now.machine) answer) }
+    {
+        self.machine.known();
+        match self.lvalue_at(place) {
+            Ok(place) => Ok(Answer::Shown(place)),
+            Err(reason) => Err(reason),
+        }
+    }
+
     /// `set`.
     fn set(&mut self, alloc: Global, place: Place, constant: Constant) -> Result<Answer, C>
         ensures executes { (input : Input) → M.may_be self.new.machine input
@@ -156,17 +180,17 @@ impl<M: Stepper> Session<M> {
         ensures narrows { (input : Input) → M.may_be self.new.machine input → M.may_be self.old.machine input }
     {
         self.machine.known();
-        let watched = match place_of(&self.machine.program().names, &place) {
-            Ok(watched) => watched,
+        let place = match self.lvalue_at(&place) {
+            Ok(place) => place,
             Err(reason) => return Err(reason),
         };
         if self.machine.is_over() {
             return Err(C::ProgramEnded);
         }
-        match target_of(watched) {
+        match target_of(place) {
             None => Err(C::SetRefused),
             Some(target) => match self.machine.set(alloc, target, constant_value(constant)) {
-                Ok(None) => Ok(Answer::Shown(watched)),
+                Ok(None) => Ok(Answer::Shown(place)),
                 Ok(Some(_)) => Err(C::SetRefused),
                 Err(AllocError) => Err(C::OutOfMemory),
             },
@@ -231,10 +255,7 @@ impl<M: Stepper> Session<M> {
             Command::Unwatch(number) => self.delete(false, number),
             Command::Move(way, goal) => self.travel(alloc, way, goal),
             Command::Run => Ok(self.run(alloc)),
-            Command::Print(place) => match place_of(&self.machine.program().names, &place) {
-                Ok(watched) => Ok(Answer::Shown(watched)),
-                Err(reason) => Err(reason),
-            },
+            Command::Print(place) => self.print(&place),
             Command::Set(place, constant) => self.set(alloc, place, constant),
             Command::ReverseSet => self.take_back(),
             Command::Backtrace => Ok(Answer::Traced),

@@ -3,16 +3,26 @@
 ghost use Rattle.std.specs.Prelude.{◌≡◌, ◌+◌, ◌-◌, ◌<◌, Bool, length, Ok, None, IfOk, OnOk, OnErr, IsTrue, IsFalse, is_some, option_map, option_copied, slice_get};
 ghost use Rattle.rawk_tape.specs.Records.{Input};
 ghost use Rattle.rawk_record.specs.FieldRefs.{ref_value};
+ghost use Rattle.rawk_frames.specs.Frame.{locals_now};
 ghost use Rattle.rawk_store.specs.State.{assigned};
 ghost use Rattle.rawk_debug.specs.Positions.{Position, Snapshot, IsPosition, Stands, IsTakenBack, ending_of, fault_of, gone_to, back_at, with_set, has_set_at};
 ghost use Rattle.rawk_debug.specs.Watching.{Observed, seen, differs};
+ghost use Rattle.rawk_debug.specs.Activations.{call_of};
 
 use crate::stop::Watched;
+use rawk_frames::Local;
 use rawk_record::FieldRef;
 use rawk_store::{Ending, Target};
-use rawk_syntax::Program;
+use rawk_tree::Program;
 use rawk_value::{Fault, Value};
 use std::alloc::{AllocError, Global};
+
+/// A call that goes on: its function, by its number from 0, and the site of its calling point.
+#[derive(Clone, Copy, Debug)]
+pub struct Call {
+    pub function: usize,
+    pub site: Option<usize>,
+}
 
 /// A machine that steps forward and backward through the run of its program.
 ///
@@ -62,6 +72,14 @@ pub trait Stepper: Drop {
     /// The number of activations.
     fn depth(&self) -> usize
         ensures { result ≡ length (held self.now).state.frames };
+
+    /// The call of an activation, counted from the innermost, which is 0; `None` for a number that none has.
+    fn frame(&self, number: usize) -> Option<Call>
+        ensures { result ≡ option_map call_of (slice_get (held self.now).state.frames number) };
+
+    /// A local of the innermost activation, by its number from 0; `None` for a number that none has.
+    fn local(&self, number: usize) -> Option<&Local>
+        ensures { option_copied result ≡ slice_get (locals_now (held self.now).state.frames) number };
 
     /// The exit status so far.
     fn status(&self) -> u8

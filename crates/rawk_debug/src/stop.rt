@@ -1,6 +1,6 @@
 //! Where a session stops.
 
-/// What can be watched and shown.
+/// What can be watched.
 #[derive(Clone, Copy, Debug)]
 pub enum Watched {
     /// A global, by its number: the special variables come first.
@@ -9,6 +9,15 @@ pub enum Watched {
     FieldCount,
     /// A field, by its number: `$0` has the number 0.
     Field(usize),
+}
+
+/// What can be shown and set.
+#[derive(Clone, Copy, Debug)]
+pub enum Lvalue {
+    /// A local of the innermost activation, by its number from 0.
+    Local(usize),
+    /// What all activations share.
+    Shared(Watched),
 }
 
 /// What stops a search.

@@ -1,19 +1,22 @@
 //! The texts that answers are made of. Each call adds to a text; where memory is refused, it may have added a beginning.
 
-ghost use Rattle.std.specs.Prelude.{◌≡◌, ◌++◌, ◌∷◌, [], codes, OnOk};
-ghost use Rattle.rawk_value.specs.Values.{decimal};
-ghost use Rattle.rawk_syntax.specs.Sites.{line_at};
+ghost use Rattle.std.specs.Prelude.{◌≡◌, ◌++◌, [], OnOk, slice_index_or};
+ghost use Rattle.rawk_tree.specs.Sites.{line_at};
 ghost use Rattle.rawk_commands.specs.Texts.{shown_value};
+ghost use Rattle.rawk_store.specs.State.{local_value};
+ghost use Rattle.rawk_debug.specs.Activations.{function_at, name_of};
 ghost use Rattle.rawk_debug.specs.Watching.{seen, value_at};
-ghost use Rattle.rawk_debug.specs.Answers.{place_text, entry_text, watch_text, stop_line, spot_text, made_line, deleted_line, at_line, fault_place, site_text, where_text, place_line, as_lines, added, shown_line};
+ghost use Rattle.rawk_debug.specs.Answers.{place_text, entry_text, watch_text, stop_line, spot_text, made_line, deleted_line, at_line, fault_place, site_text, where_text, place_line, as_lines, added, lvalue_text, lvalue_value, shown_line, frame_line, backtrace};
 
+use crate::naming::local_names;
 use crate::stepper::Stepper;
-use crate::stop::{Entry, Stop, Watched};
+use crate::stop::{Entry, Lvalue, Stop, Watched};
 use rawk_commands::{push_number, push_shown, push_text, push_value};
+use rawk_frames::Local;
 use rawk_record::FieldRef;
 use rawk_special::{FIELD_COUNT, global_name};
 use rawk_store::Ending;
-use rawk_syntax::Program;
+use rawk_tree::Program;
 use rawk_value::{Bytes, Fault};
 use std::alloc::AllocError;
 
@@ -182,14 +185,49 @@ pub(crate) fn push_place_line<M: Stepper>(out: &mut Vec<u8>, machine: &M) -> Res
     push_text(out, b"\n")
 }
 
-/// Adds the line of the only activation.
-pub(crate) fn push_activation<M: Stepper>(out: &mut Vec<u8>, machine: &M) -> Result<(), AllocError>
-    ensures { OnOk result (out.new.items
-        ≡ out.old.items ++ (codes "#0 main line " ++ decimal (line_at (M.position machine.now).program.lines.items (M.held machine.now).site) ++ 10 ∷ [])) }
+/// Adds an activation, by its number and the line where it stands.
+fn push_frame_line(
+    out: &mut Vec<u8>,
+    number: usize,
+    name: &[u8],
+    line: u64,
+) -> Result<(), AllocError>
+    ensures { OnOk result (out.new.items ≡ out.old.items ++ frame_line number name.now line) }
 {
-    push_text(out, b"#0 main line ")?;
-    push_number(out, line_here(machine))?;
+    push_text(out, b"#")?;
+    push_number(out, number as u64)?;
+    push_text(out, b" ")?;
+    push_text(out, name)?;
+    push_text(out, b" line ")?;
+    push_number(out, line)?;
     push_text(out, b"\n")
+}
+
+/// The name of a function, by its number.
+fn function_name(program: &Program, number: usize) -> &[u8]
+    ensures { result.now ≡ name_of (function_at program.now number) }
+{
+    match program.functions.get(number) {
+        Some(function) => function.name.as_slice(),
+        None => b"",
+    }
+}
+
+/// Adds a line for each activation, the innermost first.
+pub(crate) fn push_backtrace<M: Stepper>(out: &mut Vec<u8>, machine: &M) -> Result<(), AllocError>
+    ensures { OnOk result (out.new.items ≡ out.old.items ++ backtrace (M.position machine.now).program (M.held machine.now)) }
+{
+    let program = machine.program();
+    let depth = machine.depth();
+    let mut line = line_here(machine);
+    for number in 0..depth {
+        let Some(call) = machine.frame(number) else {
+            unreachable!()
+        };
+        push_frame_line(out, number, function_name(program, call.function), line)?;
+        line = program.line_of_site(call.site);
+    }
+    push_frame_line(out, depth, b"main", line)
 }
 
 /// Adds text as whole lines.
@@ -260,16 +298,66 @@ fn push_value_at<M: Stepper>(
     }
 }
 
+/// The name of a local, by its number.
+fn local_name(locals: &[Bytes], number: usize) -> &[u8]
+    ensures { result.now ≡ slice_index_or locals.now number [] }
+{
+    match locals.get(number) {
+        Some(name) => name.as_slice(),
+        None => b"",
+    }
+}
+
+/// Adds a place where these are the locals.
+fn push_lvalue(
+    out: &mut Vec<u8>,
+    locals: &[Bytes],
+    names: &[Bytes],
+    place: Lvalue,
+) -> Result<(), AllocError>
+    ensures { OnOk result (out.new.items ≡ out.old.items ++ lvalue_text locals.now names.now place) }
+{
+    match place {
+        Lvalue::Local(number) => push_text(out, local_name(locals, number)),
+        Lvalue::Shared(place) => push_place(out, names, place),
+    }
+}
+
+/// Adds a local's value.
+fn push_local<M: Stepper>(out: &mut Vec<u8>, machine: &M, number: usize) -> Result<(), AllocError>
+    ensures { OnOk result (out.new.items ≡ out.old.items ++ shown_value (local_value number (M.held machine.now).state)) }
+{
+    match machine.local(number) {
+        Some(Local::Holds(value)) => push_value(out, value),
+        Some(Local::Names(_)) => push_text(out, b"uninitialized"),
+        None => push_text(out, b"uninitialized"),
+    }
+}
+
+/// Adds the value of what is shown.
+fn push_lvalue_value<M: Stepper>(
+    out: &mut Vec<u8>,
+    machine: &M,
+    place: Lvalue,
+) -> Result<(), AllocError>
+    ensures { OnOk result (out.new.items ≡ out.old.items ++ shown_value (lvalue_value place (M.held machine.now).state)) }
+{
+    match place {
+        Lvalue::Local(number) => push_local(out, machine, number),
+        Lvalue::Shared(place) => push_value_at(out, machine, place),
+    }
+}
+
 /// Adds a place and its value.
 pub(crate) fn push_shown_line<M: Stepper>(
     out: &mut Vec<u8>,
     machine: &M,
-    place: Watched,
+    place: Lvalue,
 ) -> Result<(), AllocError>
-    ensures { OnOk result (out.new.items ≡ out.old.items ++ shown_line (M.position machine.now).program.names.items place (M.held machine.now)) }
+    ensures { OnOk result (out.new.items ≡ out.old.items ++ shown_line (M.position machine.now).program place (M.held machine.now)) }
 {
-    push_place(out, &machine.program().names, place)?;
+    push_lvalue(out, local_names(machine), &machine.program().names, place)?;
     push_text(out, b" = ")?;
-    push_value_at(out, machine, place)?;
+    push_lvalue_value(out, machine, place)?;
     push_text(out, b"\n")
 }

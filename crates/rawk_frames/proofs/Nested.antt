@@ -21,7 +21,7 @@ frame_at [] ls n (Some a) e = absurd (none-some a (sym e))
 frame_at (a ∷ older) ls zero None e = absurd (none-some a e)
 frame_at (a ∷ older) ls zero (Some b) e =
     let same : b ≡ a = same_Some b a e in
-    (record { function = a.function; locals = drop a.base ls; arrays_before = a.arrays_before; called_at = a.called_at }, refl, record { function = ap (λ (x : Activation). x.function) (sym same); arrays_before = ap (λ (x : Activation). x.arrays_before) (sym same); called_at = ap (λ (x : Activation). x.called_at) (sym same) })
+    (record { function = a.function; locals = drop a.base ls; arrays_before = a.arrays_before; called_at = a.called_at; site = a.site }, refl, record { function = ap (λ (x : Activation). x.function) (sym same); arrays_before = ap (λ (x : Activation). x.arrays_before) (sym same); called_at = ap (λ (x : Activation). x.called_at) (sym same); site = ap (λ (x : Activation). x.site) (sym same) })
 frame_at (a ∷ older) ls (suc n) o e = frame_at older (take a.base ls) n o e
 
 pub get_drop : (ls : List Local) (i n : ℕ) → slice_get (drop i ls) n ≡ slice_get ls (i + n)
@@ -43,8 +43,8 @@ local_set number as1 ls p v h =
     let a : Activation = h.newest in
     ap (λ (xs : List Activation). frames_from xs (set ls p v)) h.is
     ∙ (ap (λ k. frames_from (a ∷ h.older) (set ls k v)) h.there
-    ∙ (ap (λ (xs : List Local). record { function = a.function; locals = xs; arrays_before = a.arrays_before; called_at = a.called_at } ∷ frames_from h.older (take a.base (set ls (a.base + number) v))) (drop_set ls a.base number v)
-    ∙ (ap (λ (xs : List Local). record { function = a.function; locals = set (drop a.base ls) number v; arrays_before = a.arrays_before; called_at = a.called_at } ∷ frames_from h.older xs) (take-set-le a.base ls (a.base + number) v (omega arith))
+    ∙ (ap (λ (xs : List Local). record { function = a.function; locals = xs; arrays_before = a.arrays_before; called_at = a.called_at; site = a.site } ∷ frames_from h.older (take a.base (set ls (a.base + number) v))) (drop_set ls a.base number v)
+    ∙ (ap (λ (xs : List Local). record { function = a.function; locals = set (drop a.base ls) number v; arrays_before = a.arrays_before; called_at = a.called_at; site = a.site } ∷ frames_from h.older xs) (take-set-le a.base ls (a.base + number) v (omega arith))
     ∙ ap (λ (xs : List Activation). with_local number v (frames_from xs ls)) (sym h.is))))
 
 pub no_local : (fs : List Frame) (number : ℕ) (v : Local) → length (locals_now fs) ≤ number → fs ≡ with_local number v fs
@@ -79,8 +79,8 @@ no_place (x ∷ older) ls number e = absurd (none-some x e)
 pub more_locals : (as1 : List Activation) (ls : List Local) (v : Local) → IsNested as1 (length ls) → frames_from as1 (ls ++ v ∷ []) ≡ with_more v (frames_from as1 ls)
 more_locals [] ls v h = refl
 more_locals (a ∷ older) ls v h =
-    ap (λ (xs : List Local). record { function = a.function; locals = xs; arrays_before = a.arrays_before; called_at = a.called_at } ∷ frames_from older (take a.base (ls ++ v ∷ []))) (drop-append-le a.base ls (v ∷ []) h.0)
-    ∙ ap (λ (xs : List Local). record { function = a.function; locals = drop a.base ls ++ v ∷ []; arrays_before = a.arrays_before; called_at = a.called_at } ∷ frames_from older xs) (take-append-le a.base ls (v ∷ []) h.0)
+    ap (λ (xs : List Local). record { function = a.function; locals = xs; arrays_before = a.arrays_before; called_at = a.called_at; site = a.site } ∷ frames_from older (take a.base (ls ++ v ∷ []))) (drop-append-le a.base ls (v ∷ []) h.0)
+    ∙ ap (λ (xs : List Local). record { function = a.function; locals = drop a.base ls ++ v ∷ []; arrays_before = a.arrays_before; called_at = a.called_at; site = a.site } ∷ frames_from older xs) (take-append-le a.base ls (v ∷ []) h.0)
 
 pub nested_more : (as1 : List Activation) (n m : ℕ) → n ≤ m → IsNested as1 n → IsNested as1 m
 nested_more [] n m le h = tt
@@ -111,10 +111,10 @@ pub left_frame : (as1 older : List Activation) (ls rest : List Local) (a : Activ
 left_frame [] older ls rest a e d r = absurd (none-some a (sym e))
 left_frame (x ∷ xs) older ls rest a e d r =
     let same : a ≡ x = same_Some a x e in (
-      record { function = x.function; locals = drop x.base ls; arrays_before = x.arrays_before; called_at = x.called_at },
-      ap (λ (more : List Frame). record { function = x.function; locals = drop x.base ls; arrays_before = x.arrays_before; called_at = x.called_at } ∷ more)
+      record { function = x.function; locals = drop x.base ls; arrays_before = x.arrays_before; called_at = x.called_at; site = x.site },
+      ap (λ (more : List Frame). record { function = x.function; locals = drop x.base ls; arrays_before = x.arrays_before; called_at = x.called_at; site = x.site } ∷ more)
           (ap (λ (y : Activation). frames_from xs (take y.base ls)) (sym same) ∙ (ap (λ (ys : List Activation). frames_from ys (take a.base ls)) (sym d) ∙ ap (λ (ys : List Local). frames_from older ys) (sym r))),
-      record { function = ap (λ (y : Activation). y.function) (sym same); arrays_before = ap (λ (y : Activation). y.arrays_before) (sym same); called_at = ap (λ (y : Activation). y.called_at) (sym same) },
+      record { function = ap (λ (y : Activation). y.function) (sym same); arrays_before = ap (λ (y : Activation). y.arrays_before) (sym same); called_at = ap (λ (y : Activation). y.called_at) (sym same); site = ap (λ (y : Activation). y.site) (sym same) },
     )
 
 pub frames_rest : (frames : Stacked Activation) (locals : Stacked Local) → IsNested (live_values frames) (length (live_slots locals)) → IsLive frames → IsLive locals → AreFrames (at_rest frames) (at_rest locals)

@@ -1,18 +1,19 @@
 -- Activations of functions.
-use Rattle.std.specs.Prelude.{◌≡◌, ℕ, List, [], ◌∷◌, ◌++◌, slice_set}
+use Rattle.std.specs.Prelude.{◌≡◌, ℕ, List, [], ◌∷◌, ◌++◌, Option, slice_set}
 use Rattle.rawk_frames.specs.declared.frames.Local.{Local}
 use Rattle.rawk_frames.specs.declared.frames.Activation.{Activation}
 
--- an activation: its function, its locals, how many arrays there were before it, and its calling point
+-- an activation: its function, its locals, how many arrays there were before it, and its calling point with its site
 pub record Frame : Type 0 where
   pub function : ℕ
   pub locals : List Local
   pub arrays_before : ℕ
   pub called_at : ℕ
+  pub site : Option ℕ
 
 -- an activation with no locals yet
-abbrev pub new_frame : ℕ → ℕ → ℕ → Frame
-new_frame function arrays_before called_at = record { function = function; locals = []; arrays_before = arrays_before; called_at = called_at }
+abbrev pub new_frame : ℕ → ℕ → ℕ → Option ℕ → Frame
+new_frame function arrays_before called_at site = record { function = function; locals = []; arrays_before = arrays_before; called_at = called_at; site = site }
 
 -- the locals of the newest activation
 abbrev pub locals_now : List Frame → List Local
@@ -24,6 +25,11 @@ abbrev pub with_local : ℕ → Local → List Frame → List Frame
 with_local i v [] = []
 with_local i v (f ∷ fs) = record f { locals = slice_set f.locals i v } ∷ fs
 
+-- the newest activation has these locals too
+abbrev pub with_all : List Local → List Frame → List Frame
+with_all vs [] = []
+with_all vs (f ∷ fs) = record f { locals = f.locals ++ vs } ∷ fs
+
 -- the newest activation has one more local
 abbrev pub with_more : Local → List Frame → List Frame
 with_more v [] = []
@@ -34,3 +40,4 @@ pub record IsOf (a : Activation) (f : Frame) : Type 0 where
   pub function : f.function ≡ a.function
   pub arrays_before : f.arrays_before ≡ a.arrays_before
   pub called_at : f.called_at ≡ a.called_at
+  pub site : f.site ≡ a.site

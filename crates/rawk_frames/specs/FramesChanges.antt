@@ -10,7 +10,7 @@ use Rattle.rawk_frames.specs.LaidKeys.{texts, without_first}
 
 -- the activations after a change, the newest first
 abbrev pub changed_frames : FramesChange → List Frame → List Frame
-changed_frames (frames.Enter function arrays_before called_at) all = new_frame function arrays_before called_at ∷ all
+changed_frames (frames.Enter function arrays_before called_at site return_to) all = new_frame function arrays_before called_at site ∷ all
 changed_frames (frames.AddLocal local) all = with_more local all
 changed_frames (frames.SetLocal number local) all = with_local number local all
 changed_frames frames.Leave all = drop 1 all

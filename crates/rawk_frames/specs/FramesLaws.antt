@@ -1,5 +1,5 @@
 -- Slots that were added beyond the live ones change no activation and no key, and putting back works over them.
-use Rattle.std.specs.Prelude.{◌≡◌, ℕ, List, refl}
+use Rattle.std.specs.Prelude.{◌≡◌, ℕ, List, map, refl}
 use Rattle.std.proofs.Common.{ap, ◌∙◌}
 use Rattle.std.specs.Global.{Vec}
 use Rattle.rawk_slots.specs.Stacked.{IsLive, live_slots, live_values}
@@ -8,7 +8,7 @@ use Rattle.rawk_frames.specs.declared.frames.Local.{Local}
 use Rattle.rawk_frames.specs.declared.frames.Activation.{Activation}
 use Rattle.rawk_frames.specs.declared.frames.FramesGroup.{FramesGroup}
 use Rattle.rawk_frames.specs.declared.keys_left.KeysLeftGroup.{KeysLeftGroup}
-use Rattle.rawk_frames.specs.LaidFrames.{LaidFrames, AreFramesLive, AreNested, GrownFrames, IsSameFrames, frames_from, frames_of}
+use Rattle.rawk_frames.specs.LaidFrames.{LaidFrames, AreFramesLive, AreNested, GrownFrames, IsSameFrames, frames_from, frames_of, returns_of}
 use Rattle.rawk_frames.specs.FramesBack.{FitsFrames, frames_back}
 use Rattle.rawk_frames.specs.LaidKeys.{LaidKeys, AreKeysLive, GrownKeys, IsSameKeys, keys_of, left_lists}
 use Rattle.rawk_frames.specs.KeysBack.{FitsKeys, keys_back}
@@ -19,6 +19,9 @@ pub frames_of-grown : (l m : LaidFrames) → GrownFrames l m → IsLive l.frames
 frames_of-grown l m g h k =
     ap (λ (xs : List Activation). frames_from xs (live_slots m.locals)) (live_values-grown l.frames m.frames g.frames h)
     ∙ ap (λ (xs : List Local). frames_from (live_values l.frames) xs) (live_slots-grown l.locals m.locals g.locals k)
+
+pub returns_of-grown : (l m : LaidFrames) → GrownFrames l m → IsLive l.frames → returns_of m ≡ returns_of l
+returns_of-grown l m g h = ap (λ (xs : List Activation). map (λ a. a.return_to) xs) (live_values-grown l.frames m.frames g.frames h)
 
 pub AreFramesLive-grown : (l m : LaidFrames) → GrownFrames l m → AreFramesLive l → AreFramesLive m
 AreFramesLive-grown l m g h = record { frames = IsLive-grown l.frames m.frames g.frames h.frames; locals = IsLive-grown l.locals m.locals g.locals h.locals }
@@ -51,14 +54,14 @@ FitsFrames-grown l m group g h = record {
 }
 
 pub IsSameFrames-refl : (l : LaidFrames) → IsSameFrames l l
-IsSameFrames-refl l = record { grown = GrownFrames-refl l; same = refl }
+IsSameFrames-refl l = record { grown = GrownFrames-refl l; same = refl; returns = refl }
 
 pub IsSameFrames-trans : (l m n : LaidFrames) → IsSameFrames l m → IsSameFrames m n → IsSameFrames l n
-IsSameFrames-trans l m n a b = record { grown = GrownFrames-trans l m n a.grown b.grown; same = b.same ∙ a.same }
+IsSameFrames-trans l m n a b = record { grown = GrownFrames-trans l m n a.grown b.grown; same = b.same ∙ a.same; returns = b.returns ∙ a.returns }
 
 -- live activations that have grown are the same activations
 pub IsSameFrames-grown : (l m : LaidFrames) → GrownFrames l m → AreFramesLive l → IsSameFrames l m
-IsSameFrames-grown l m g h = record { grown = g; same = frames_of-grown l m g h.frames h.locals }
+IsSameFrames-grown l m g h = record { grown = g; same = frames_of-grown l m g h.frames h.locals; returns = returns_of-grown l m g h.frames }
 
 -- putting back, over more slots
 pub IsSameFrames-back : (l m : LaidFrames) (group : FramesGroup) → GrownFrames l m → FitsFrames group l → IsSameFrames (frames_back l group) (frames_back m group)

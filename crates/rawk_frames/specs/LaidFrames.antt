@@ -1,5 +1,5 @@
 -- How activations lie: on one stack what is kept of each, on another the locals of all.
-use Rattle.std.specs.Prelude.{◌≡◌, ℕ, ◌+◌, ◌≤◌, ◌<◌, List, [], ◌∷◌, length, take, drop}
+use Rattle.std.specs.Prelude.{◌≡◌, ℕ, ◌+◌, ◌≤◌, ◌<◌, List, [], ◌∷◌, length, map, take, drop}
 use Rattle.rawk_slots.specs.Journaled.{Journaled}
 use Rattle.rawk_slots.specs.Stacked.{Stacked, GrownStack, IsLive, empty_stack, live_slots, live_values}
 use Rattle.rawk_frames.specs.declared.frames.Local.{Local}
@@ -16,10 +16,14 @@ no_frames = record { frames = empty_stack; locals = empty_stack }
 -- the activations, the newest first: the locals of each begin at its base
 abbrev pub frames_from : List Activation → List Local → List Frame
 frames_from [] locals = []
-frames_from (a ∷ older) locals = record { function = a.function; locals = drop a.base locals; arrays_before = a.arrays_before; called_at = a.called_at } ∷ frames_from older (take a.base locals)
+frames_from (a ∷ older) locals = record { function = a.function; locals = drop a.base locals; arrays_before = a.arrays_before; called_at = a.called_at; site = a.site } ∷ frames_from older (take a.base locals)
 
 abbrev pub frames_of : LaidFrames → List Frame
 frames_of l = frames_from (live_values l.frames) (live_slots l.locals)
+
+-- the places of the code to which they return, the newest first
+abbrev pub returns_of : LaidFrames → List ℕ
+returns_of l = map (λ a. a.return_to) (live_values l.frames)
 
 -- the locals of each activation begin within those that there are
 abbrev pub IsNested : List Activation → ℕ → Type 0
@@ -50,6 +54,7 @@ pub record GrownFrames (l m : LaidFrames) : Type 0 where
 pub record IsSameFrames (l m : LaidFrames) : Type 0 where
   pub grown : GrownFrames l m
   pub same : frames_of m ≡ frames_of l
+  pub returns : returns_of m ≡ returns_of l
 
 -- where a local of the newest activation stands among all locals
 pub record IsPlace (number : ℕ) (activations : List Activation) (locals : List Local) (place : ℕ) : Type 0 where

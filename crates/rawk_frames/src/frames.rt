@@ -6,7 +6,7 @@ ghost use Rattle.std.specs.Option.{option_copied};
 ghost use Rattle.rawk_slots.specs.Journaled.{at_rest};
 ghost use Rattle.rawk_slots.specs.Stacked.{live_slots, live_values};
 ghost use Rattle.rawk_frames.specs.Frame.{Frame, IsOf, locals_now, new_frame, with_local, with_more};
-ghost use Rattle.rawk_frames.specs.LaidFrames.{AreFramesLive, AreNested, GrownFrames, IsPlace, frames_from, frames_of, no_frames};
+ghost use Rattle.rawk_frames.specs.LaidFrames.{AreFramesLive, AreNested, GrownFrames, IsPlace, frames_from, frames_of, no_frames, returns_of};
 ghost use Rattle.rawk_frames.specs.FramesBack.{FitsFrames, frames_back};
 ghost use Rattle.rawk_frames.specs.FramesChanges.{changed_frames};
 
@@ -23,13 +23,15 @@ pub enum Local {
 }
 
 /// What is kept of an activation beside its locals: its function, where its locals begin, how many arrays there were before it,
-/// and its calling point.
+/// its calling point with its site, and the place of the code to which it returns.
 #[derive(Clone, Copy, Debug)]
 pub struct Activation {
     pub function: usize,
     pub base: usize,
     pub arrays_before: usize,
     pub called_at: u64,
+    pub site: Option<usize>,
+    pub return_to: usize,
 }
 
 /// The activations, beside what they were when the step began.
@@ -67,6 +69,8 @@ pub enum FramesChange {
         function: usize,
         arrays_before: usize,
         called_at: u64,
+        site: Option<usize>,
+        return_to: usize,
     },
     AddLocal(Local),
     SetLocal {
@@ -112,6 +116,7 @@ impl Frames {
     /// Writes a local of the newest activation; a number that is none changes nothing. It fails where memory is refused, and then nothing has changed.
     pub fn set_local(&mut self, number: usize, local: Local) -> Result<(), AllocError>
         ensures did { OnOk result (frames_of self.new.now ≡ with_local number local (frames_of self.old.now)) }
+        ensures returns { returns_of self.new.now ≡ returns_of self.old.now }
         ensures start { self.new.start ≡ self.old.start }
         ensures err { OnErr result (self.new.now ≡ self.old.now) }
     {
@@ -124,8 +129,11 @@ impl Frames {
         function: usize,
         arrays_before: usize,
         called_at: u64,
+        site: Option<usize>,
+        return_to: usize,
     ) -> Result<(), AllocError>
-        ensures did { OnOk result (frames_of self.new.now ≡ new_frame function arrays_before called_at ∷ frames_of self.old.now) }
+        ensures did { OnOk result (frames_of self.new.now ≡ new_frame function arrays_before called_at site ∷ frames_of self.old.now) }
+        ensures returns { OnOk result (returns_of self.new.now ≡ return_to ∷ returns_of self.old.now) }
         ensures start { GrownFrames self.old.start self.new.start }
     {
         let base = self.locals.len();
@@ -134,12 +142,15 @@ impl Frames {
             base,
             arrays_before,
             called_at,
+            site,
+            return_to,
         })
     }
 
     /// Adds a local to the newest activation. It fails where memory is refused.
     pub fn add_local(&mut self, local: Local) -> Result<(), AllocError>
         ensures did { OnOk result (frames_of self.new.now ≡ with_more local (frames_of self.old.now)) }
+        ensures returns { OnOk result (returns_of self.new.now ≡ returns_of self.old.now) }
         ensures start { GrownFrames self.old.start self.new.start }
     {
         self.locals.push(local)?;
@@ -149,6 +160,7 @@ impl Frames {
     /// Drops the newest activation with its locals, and gives what is kept of it beside them.
     pub fn leave(&mut self) -> Option<Activation>
         ensures left { MatchOption result (frames_of self.old.now ≡ []) (λ a. (f : Frame) × (frames_of self.old.now ≡ f ∷ frames_of self.new.now) × IsOf a f) }
+        ensures returns { MatchOption result (returns_of self.old.now ≡ []) (λ a. returns_of self.old.now ≡ a.return_to ∷ returns_of self.new.now) }
         ensures none { MatchOption result (self.new.now ≡ self.old.now) (λ a. Unit {0}) }
         ensures start { self.new.start ≡ self.old.start }
     {
@@ -161,6 +173,7 @@ impl Frames {
     /// Drops all activations.
     pub fn leave_all(&mut self)
         ensures did { frames_of self.new.now ≡ [] }
+        ensures returns { returns_of self.new.now ≡ [] }
         ensures start { self.new.start ≡ self.old.start }
     {
         self.frames.clear();
@@ -240,7 +253,9 @@ impl Frames {
                 function,
                 arrays_before,
                 called_at,
-            } => self.enter(function, arrays_before, called_at),
+                site,
+                return_to,
+            } => self.enter(function, arrays_before, called_at, site, return_to),
             FramesChange::AddLocal(local) => self.add_local(local),
             FramesChange::SetLocal { number, local } => self.set_local(number, local),
             FramesChange::Leave => {

@@ -1,18 +1,17 @@
 -- A machine and its program go on being a stage.
-use Rattle.std.proofs.Common.{◌≡◌, ℕ, ◌+◌, ◌-◌, ◌<◌, ◌≤◌, suc, Bool, true, false, List, [], ◌∷◌, ◌++◌, length, filter, Option, None, Some, refl, sym, ap, ◌∙◌, subst, arith, rules, IsTrue, if◌then◌else◌}
-use Rattle.std.specs.Prelude.{nat_lt, nat_le, nat_eq, ◌||◌, slice_get, slice_index_or, unwrap_or, is_some, max}
+use Rattle.std.proofs.Common.{◌≡◌, ℕ, ◌+◌, ◌-◌, ◌≤◌, Bool, true, false, List, [], ◌∷◌, ◌++◌, length, Option, None, Some, refl, sym, ap, ◌∙◌, subst, arith, rules, IsTrue, if◌then◌else◌}
+use Rattle.std.specs.Prelude.{nat_lt, nat_le, nat_eq, ◌||◌, slice_get, slice_index_or, unwrap_or, is_some}
 use Rattle.rawk_value.specs.declared.value.Value.{Value}
 use Rattle.rawk_value.specs.declared.value.Value.TheVariants.{Uninitialized}
 use Rattle.std.specs.List.{list_any}
 use Rattle.std.proofs.lemmas.Bool.{eq-eqb, lt-ltb}
 use Rattle.std.proofs.lemmas.Option.{slice_get_past, slice_get_within, unwrap_or-slice_get}
-use Rattle.rawk_syntax.specs.declared.tree.Program.{Program}
+use Rattle.rawk_tree.specs.declared.tree.Program.{Program}
 use Rattle.rawk_tape.specs.Records.{Input}
 use Rattle.rawk_store.specs.Keeping.{keeps_any}
-use Rattle.rawk_code.specs.Actions.{Point, SetAt, Ending, sets_at}
+use Rattle.rawk_code.specs.Actions.{SetAt, Ending, sets_at}
 use Rattle.rawk_code.specs.Trace.{Trace, trace, number, site_at_end}
 use Rattle.rawk_code.specs.Correct.{CodeOf}
-use Rattle.rawk_code.specs.Listing.{Listing}
 use Rattle.rawk_machine.specs.Standing.{Standing, Earlier, Past, MayCome, Stood, LastMade, given_of, gone_back, taken_back}
 use Rattle.rawk_machine.specs.Kept.{AllBelow, Few}
 use Rattle.rawk_machine.specs.InTrace.{exactly_by}

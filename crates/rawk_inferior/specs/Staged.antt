@@ -1,6 +1,6 @@
 -- A machine with its program, as a session sees it.
-use Rattle.std.specs.Prelude.{◌≡◌, ℕ, ◌-◌, true, Bool, List, [], length, Option, None, Some, is_some}
-use Rattle.rawk_syntax.specs.declared.tree.Program.{Program}
+use Rattle.std.specs.Prelude.{◌≡◌, ◌-◌, true, [], length, Option, None, Some}
+use Rattle.rawk_tree.specs.declared.tree.Program.{Program}
 use Rattle.rawk_tape.specs.Records.{Input}
 use Rattle.rawk_store.specs.Keeping.{keeps_any}
 use Rattle.rawk_code.specs.Correct.{CodeOf}

@@ -6,11 +6,12 @@ ghost use Rattle.rawk_record.specs.FieldRefs.{ref_value};
 ghost use Rattle.rawk_debug.specs.Watching.{same_value};
 ghost use Rattle.rawk_inferior.specs.Staged.{IsStage};
 
-use rawk_debug::{Stepper, Watched};
+use rawk_debug::{Call, Stepper, Watched};
+use rawk_frames::Local;
 use rawk_machine::{Keeper, Machine};
 use rawk_store::{Ending, FieldRef, Target};
-use rawk_syntax::Program;
 use rawk_tape::Source;
+use rawk_tree::Program;
 use rawk_value::{Fault, Value};
 use std::alloc::{AllocError, Global};
 use std::marker::Model;
@@ -30,8 +31,8 @@ impl<R: Source + Drop, K: Keeper> Model for Stage<R, K> {
     ghost use Rattle.std.specs.Coded.{codes};
     ghost use Rattle.rawk_value.specs.contracts.value.Value as value;
     ghost use Rattle.rawk_machine.specs.Elements.{elements_code};
-    ghost use Rattle.rawk_syntax.specs.contracts.tree.Expr as expr;
-    ghost use Rattle.rawk_syntax.specs.contracts.tree.Stmt as stmt;
+    ghost use Rattle.rawk_tree.specs.contracts.tree.Expr as expr;
+    ghost use Rattle.rawk_tree.specs.contracts.tree.Stmt as stmt;
 
     ghost coded = { Prim.hlevel (codes, expr.the_row.coded, stmt.the_row.coded, elements_code value.the_row.coded, R.code) };
 
@@ -93,6 +94,20 @@ impl<R: Source + Drop, K: Keeper> Stepper for Stage<R, K> {
 
     fn depth(&self) -> usize {
         self.machine.depth()
+    }
+
+    fn frame(&self, number: usize) -> Option<Call> {
+        match self.machine.frame(number) {
+            Some(activation) => Some(Call {
+                function: activation.function,
+                site: activation.site,
+            }),
+            None => None,
+        }
+    }
+
+    fn local(&self, number: usize) -> Option<&Local> {
+        self.machine.local(number)
     }
 
     fn status(&self) -> u8 {

@@ -14,28 +14,32 @@ use Rattle.std.specs.Option.{option_map}
 use Rattle.std.proofs.lemmas.List.{append-nil}
 use Rattle.rawk_code.specs.Actions.{SetAt, sets_at}
 use Rattle.rawk_travel.specs.Moving.{phase_of, ending_of}
+use Rattle.rawk_frames.specs.LaidFrames.{returns_of}
+use Rattle.rawk_frames.specs.FramesLaws.{returns_of-grown}
+use Rattle.rawk_machine.specs.Arrival.{site_for}
 use Rattle.rawk_machine.specs.Standing.{Moment, Earlier, Past, LastMade}
 use Rattle.rawk_machine.specs.Kept.{moment_in, newest_first, but_last, below, all_back, unsets, back_in, pasts, IsPlaced, FitHere, EndsWith, Chain}
 use Rattle.rawk_machine.proofs.SetLists.{ends_next, below_next, ends_push, below_push, LastSet, last_set, below_but_last, take_front, none_at}
 
-abbrev moment_by : State → List Value → List (List Bytes) → Registers → Moment
-moment_by s vs ks r = record {
+abbrev moment_by : State → List Value → List (List Bytes) → List ℕ → Registers → Moment
+moment_by s vs ks rs r = record {
   state = s;
   operands = vs;
   keys = ks;
-  returns = [];
+  returns = rs;
   place = r.place;
   phase = phase_of r.phase;
   ending = option_map ending_of r.ending;
-  site = r.site;
+  site = site_for r.ending r.site;
 }
 
 pub moment-grown : (l m : Layout) → Grown l m → IsSound l → moment_in m ≡ moment_in l
 moment-grown l m g h =
-    ap (λ (s : State). moment_by s (operands m) (keys m) m.registers) (state-grown l m g h)
-    ∙ ap (λ (vs : List Value). moment_by (state l) vs (keys m) m.registers) (operands-grown l m g h)
-    ∙ ap (λ (ks : List (List Bytes)). moment_by (state l) (operands l) ks m.registers) (keys-grown l m g h)
-    ∙ ap (λ (r : Registers). moment_by (state l) (operands l) (keys l) r) g.registers
+    ap (λ (s : State). moment_by s (operands m) (keys m) (returns_of m.frames) m.registers) (state-grown l m g h)
+    ∙ ap (λ (vs : List Value). moment_by (state l) vs (keys m) (returns_of m.frames) m.registers) (operands-grown l m g h)
+    ∙ ap (λ (ks : List (List Bytes)). moment_by (state l) (operands l) ks (returns_of m.frames) m.registers) (keys-grown l m g h)
+    ∙ ap (λ (rs : List ℕ). moment_by (state l) (operands l) (keys l) rs m.registers) (returns_of-grown l.frames m.frames g.frames h.frames.frames)
+    ∙ ap (λ (r : Registers). moment_by (state l) (operands l) (keys l) (returns_of l.frames) r) g.registers
 
 placed-grown : (l m : Layout) (point size : ℕ) → Grown l m → IsPlaced l point size → IsPlaced m point size
 placed-grown l m point size g p = let e = ap (λ (r : Registers). r.consumed) g.registers in

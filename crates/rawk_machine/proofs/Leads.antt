@@ -1,25 +1,30 @@
 -- A machine that goes back, takes a set back, or makes one, as contracts see it.
 use Rattle.std.proofs.Common.{◌≡◌, ℕ, ◌-◌, List, [], ◌∷◌, ◌++◌, Option, None, Some, refl, ap, ◌∙◌}
-use Rattle.std.specs.Prelude.{slice_set}
 use Rattle.std.specs.Option.{option_map}
 use Rattle.rawk_value.specs.declared.value.Value.{Value}
 use Rattle.rawk_tape.specs.Tapes.{TapeState}
 use Rattle.rawk_record.specs.Shown.{Shown, record_back}
 use Rattle.rawk_store.specs.Back.{back}
 use Rattle.rawk_store.specs.Groups.{Forth, Group, Kept}
+use Rattle.rawk_frames.specs.LaidFrames.{returns_of}
+use Rattle.rawk_frames.specs.LaidKeys.{LaidKeys, keys_of}
 use Rattle.rawk_store.specs.declared.registers.Ending.{Ending}
-use Rattle.rawk_store.specs.declared.target.Target.TheVariants.{Global}
-use Rattle.rawk_store.specs.Layout.{Layout}
+use Rattle.rawk_store.specs.declared.registers.Registers.{Registers}
+use Rattle.rawk_store.specs.Stacked.{Stacked, live_values}
+use Rattle.rawk_store.specs.State.{State, Target, assigned}
+use Rattle.rawk_store.specs.Layout.{Layout, state}
 use Rattle.rawk_store.specs.Saving.{saved_in}
 use Rattle.rawk_store.specs.GroupBack.{put_back}
 use Rattle.rawk_code.specs.Listing.{Listing}
-use Rattle.rawk_code.specs.Actions.{SetAt}
+use Rattle.rawk_code.specs.Actions.{SetAt, or_same}
 use Rattle.rawk_code.specs.Trace.{FirstValue}
-use Rattle.rawk_travel.specs.Moving.{ending_of}
+use Rattle.rawk_travel.specs.Moving.{phase_of, ending_of}
 use Rattle.rawk_machine.specs.Last.{Last}
 use Rattle.rawk_machine.specs.Last as last
 use Rattle.rawk_machine.specs.Standing.{Standing, Earlier, Past, Seen, gone_back, taken_back, set_made}
 use Rattle.rawk_machine.specs.Kept.{moment_in, but_last, below, newest_first, back_in, unsets, pasts, globals_forth, record_forth, Chain}
+use Rattle.rawk_machine.specs.Arrival.{site_for}
+use Rattle.rawk_machine.specs.Written.{IsWritten}
 use Rattle.rawk_machine.specs.Stood.{standing_of}
 use Rattle.rawk_machine.proofs.Chains.{pasts_unset, pasts_set, unsets_set}
 
@@ -45,14 +50,40 @@ taken_is {S} code settings steps sets point size tape l executed g here items li
     let old : Standing S = standing_of code settings steps sets point tape l executed (g ∷ here) items limit before in
     ap (λ (ps : List Past). record (taken_back (unsets l sets (g ∷ here)) old) { history = ps }) (pasts_unset l point size sets g here items c)
 
-pub set_is : {S : Type 0} (code : Listing) (settings : List FirstValue) (steps : ℕ) (sets : List SetAt) (point : ℕ) (tape : TapeState S) (l : Layout) (executed : ℕ) (g : Group) (here : List Group) (items : List Kept) (limit : Option ℕ) (before : Last) (x : ℕ) (v : Value) →
-    put_back (record l { globals = slice_set l.globals x v }) g ≡ l →
-    standing_of code settings steps (sets ++ (record { point = point; target = Global x; value = v }) ∷ []) point tape (record l { globals = slice_set l.globals x v }) executed (g ∷ here) items limit last.Nothing
-    ≡ set_made (saved_in g) (Global x) v (standing_of code settings steps sets point tape l executed here items limit before)
-set_is {S} code settings steps sets point tape l executed g here items limit before x v back =
-    let old : Standing S = standing_of code settings steps sets point tape l executed here items limit before in
-    let e : SetAt = record { point = point; target = Global x; value = v } in
-    let n : Layout = record l { globals = slice_set l.globals x v } in
-    let with = λ (us : List Earlier) (ps : List Past). record (set_made (saved_in g) (Global x) v old) { unset = us; history = ps } in
-    ap (λ (us : List Earlier). with us (pasts n (sets ++ e ∷ []) point (g ∷ here) items)) (unsets_set l n point sets e g here back)
-    ∙ ap (with (record { moment = moment_in l; sets = sets; saved = saved_in g } ∷ unsets l sets here)) (pasts_set l n point sets e g here items back refl)
+pub set_is : {S : Type 0} (code : Listing) (settings : List FirstValue) (steps : ℕ) (sets : List SetAt) (point : ℕ) (tape : TapeState S) (l n : Layout) (executed : ℕ) (g : Group) (here : List Group) (items : List Kept) (limit : Option ℕ) (before : Last) (t : Target) (v : Value) →
+    IsWritten t v l n → put_back n g ≡ l →
+    standing_of code settings steps (sets ++ (record { point = point; target = t; value = v }) ∷ []) point tape n executed (g ∷ here) items limit last.Nothing ≡ set_made (saved_in g) t v (standing_of code settings steps sets point tape l executed here items limit before)
+set_is {S} code settings steps sets point tape l n executed g here items limit before t v w back =
+    let e : SetAt = record { point = point; target = t; value = v } in
+    let more = sets ++ e ∷ [] in
+    let with = λ (s : State) (ops : Stacked Value) (ks : LaidKeys) (rs : List ℕ) (r : Registers) (us : List Earlier) (ps : List Past).
+    let m : Standing S = record {
+      code = code;
+      settings = settings;
+      sets = more;
+      steps = steps;
+      point = point;
+      tape = tape;
+      state = s;
+      operands = live_values ops;
+      keys = keys_of ks;
+      returns = rs;
+      place = r.place;
+      phase = phase_of r.phase;
+      ending = option_map ending_of r.ending;
+      site = site_for r.ending r.site;
+      executed = executed;
+      unset = us;
+      history = ps;
+      limit = limit;
+      before = None;
+    } in m in
+    let us = unsets n more (g ∷ here) in
+    let ps = pasts n more point (g ∷ here) items in
+    ap (λ (s : State). with s n.operands n.keys (returns_of n.frames) n.registers us ps) w.state
+    ∙ ap (λ (ops : Stacked Value). with (or_same (state l) (assigned t v (state l))) ops n.keys (returns_of n.frames) n.registers us ps) w.operands
+    ∙ ap (λ (ks : LaidKeys). with (or_same (state l) (assigned t v (state l))) l.operands ks (returns_of n.frames) n.registers us ps) w.keys
+    ∙ ap (λ (rs : List ℕ). with (or_same (state l) (assigned t v (state l))) l.operands l.keys rs n.registers us ps) w.returns
+    ∙ ap (λ (r : Registers). with (or_same (state l) (assigned t v (state l))) l.operands l.keys (returns_of l.frames) r us ps) w.registers
+    ∙ ap (λ (us : List Earlier). with (or_same (state l) (assigned t v (state l))) l.operands l.keys (returns_of l.frames) l.registers us ps) (unsets_set l n point sets e g here back)
+    ∙ ap (with (or_same (state l) (assigned t v (state l))) l.operands l.keys (returns_of l.frames) l.registers (record { moment = moment_in l; sets = sets; saved = saved_in g } ∷ unsets l sets here)) (pasts_set l n point sets e g here items back refl)

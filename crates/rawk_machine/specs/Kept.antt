@@ -8,6 +8,8 @@ use Rattle.rawk_store.specs.Layout.{Layout, state, operands, keys}
 use Rattle.rawk_store.specs.Back.{back}
 use Rattle.rawk_store.specs.Saving.{saved_in}
 use Rattle.rawk_store.specs.GroupBack.{FitsIn, put_back}
+use Rattle.rawk_frames.specs.LaidFrames.{returns_of}
+use Rattle.rawk_machine.specs.Arrival.{site_for}
 use Rattle.rawk_travel.specs.Moving.{phase_of, ending_of}
 use Rattle.rawk_code.specs.Actions.{SetAt}
 use Rattle.rawk_machine.specs.Last.{Last}
@@ -20,11 +22,11 @@ moment_in l = record {
   state = state l;
   operands = operands l;
   keys = keys l;
-  returns = [];
+  returns = returns_of l.frames;
   place = l.registers.place;
   phase = phase_of l.registers.phase;
   ending = option_map ending_of l.registers.ending;
-  site = l.registers.site;
+  site = site_for l.registers.ending l.registers.site;
 }
 
 -- the groups of one point's sets, the newest first

@@ -19,7 +19,7 @@ use Rattle.rawk_machine.specs.Standing.{Standing, Ground, Moment, StandsAt, Arri
 -- what a point does, by the sets, by whether the limit is met, and by the number of points
 abbrev pub pointed : Option ℕ → Run → (Run → Config) → List SetAt → Bool → ℕ → Config
 pointed site run next sets met k =
-    let s : State = record (all_set (sets_at sets k) run.state) { here = k } in
+    let s : State = record (all_set (sets_at sets k) run.state) { here = k; site = site } in
     goes_on {A = Unit {0}} (if met then Breaks (Stops (actions.Limited site)) run else Goes tt (record { points = run.points ++ (record { site = site; state = s } ∷ []); state = s })) (λ _. next)
 
 -- the instruction that reaches a point

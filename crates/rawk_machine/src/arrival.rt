@@ -18,7 +18,7 @@ use rawk_travel::travel::{Next, travel};
 use std::alloc::{AllocError, Global};
 
 /// The site at an ending.
-fn site_at(ending: Ending, site: Option<usize>) -> Option<usize>
+pub fn site_at(ending: Ending, site: Option<usize>) -> Option<usize>
     ensures { result ≡ site_by ending site }
 {
     match ending {
@@ -40,13 +40,12 @@ fn settle(store: &mut Store, to: Next, count: u64, limit: u64)
         Next::On => {}
         Next::Over(ending) => {
             store.registers.now.ending = Some(ending);
-            store.registers.now.site = site_at(ending, store.registers.now.site);
         }
         Next::Arrive(site) => {
-            store.registers.now.site = site;
             if count == limit {
                 store.registers.now.ending = Some(Ending::Limited(site));
             } else {
+                store.registers.now.site = site;
                 store.registers.now.here = count;
                 store.registers.now.place += 1;
             }

@@ -1,6 +1,6 @@
 //! The way back, over the parts.
 
-ghost use Rattle.std.specs.Prelude.{◌≡◌, ◌∷◌, ◌++◌, [], List, OnOk, OnErr, length, reverse, slice_set};
+ghost use Rattle.std.specs.Prelude.{◌≡◌, ◌∷◌, ◌++◌, [], List, OnOk, OnErr, length, reverse};
 ghost use Rattle.rawk_code.specs.Actions.{SetAt};
 ghost use Rattle.rawk_store.specs.Groups.{Group, Kept};
 ghost use Rattle.rawk_store.specs.GroupBack.{FitsIn, put_back};
@@ -8,10 +8,11 @@ ghost use Rattle.rawk_store.specs.Layout.{IsSound};
 ghost use Rattle.rawk_store.specs.Stores.{now_of, start_of};
 ghost use Rattle.rawk_machine.specs.Closing.{FitAll, HasGoneBack};
 ghost use Rattle.rawk_machine.specs.Kept.{all_back, below};
+ghost use Rattle.rawk_machine.specs.Written.{IsWritten};
 
 use crate::journal::undo_all;
 use rawk_code::SetAt;
-use rawk_store::{Group, Keeper, Store, Target};
+use rawk_store::{Group, Keeper, Local, Store, Target};
 use rawk_value::Value;
 use std::alloc::{AllocError, Global};
 
@@ -37,32 +38,36 @@ pub fn keep_below(sets: &mut Vec<SetAt>, point: u64)
     sets.retain(|set| set.point < point);
 }
 
-/// The number of the global that a target is.
-pub fn global_of(target: Target) -> usize
-    ensures { target ≡ Target.Global result }
+/// Assigns a place; a local that is not there changes nothing. It fails where memory is refused, and then nothing has changed.
+fn assign(store: &mut Store, target: Target, value: Value) -> Result<(), AllocError>
+    ensures did { OnOk result (IsWritten target value (now_of store.old) (now_of store.new)) }
+    ensures start { start_of store.new ≡ start_of store.old }
+    ensures err { OnErr result (now_of store.new ≡ now_of store.old) }
 {
     match target {
-        Target::Global(number) => number,
+        Target::Global(number) => store.globals.set(number, value),
+        Target::Local(number) => store.frames.set_local(number, Local::Holds(value)),
     }
 }
 
-/// Writes a global as a change of its own, whose group stands behind the others. It fails where memory is refused, and then nothing has changed.
-pub fn write_global(
+/// Writes a place as a change of its own, whose group stands behind the others. It fails where memory is refused, and then nothing has changed.
+pub fn write(
     alloc: Global,
     store: &mut Store,
     here: &mut Vec<Group>,
-    number: usize,
+    target: Target,
     value: Value,
 ) -> Result<(), AllocError>
     requires rest { start_of store.old ≡ now_of store.old }
-    ensures did { OnOk result (now_of store.new ≡ record (now_of store.old) { globals = slice_set store.old.globals.now number value }) }
+    ensures did { OnOk result (IsWritten target value (now_of store.old) (now_of store.new)) }
     ensures back { OnOk result ((g : Group) × (here.new.items ≡ here.old.items ++ g ∷ []) × (put_back (now_of store.new) g ≡ now_of store.old) × FitsIn g (now_of store.new)) }
+    ensures sound { OnOk result (IsSound (now_of store.new)) }
     ensures err { OnErr result (now_of store.new ≡ now_of store.old) }
     ensures stays { OnErr result (here.new.items ≡ here.old.items) }
     ensures rest { start_of store.new ≡ now_of store.new }
 {
     here.reserve(1)?;
-    store.globals.set(number, value)?;
+    assign(store, target, value)?;
     let group = store.finish(alloc);
     here.push(group)?;
     Ok(())

@@ -1,8 +1,9 @@
 //! What a machine holds.
 
-ghost use Rattle.std.specs.Prelude.{◌≡◌, ◌≤◌, ◌<◌, ◌+◌, ◌-◌, ◌^◌, ◌∷◌, ◌++◌, List, ℕ, Some, length, slice_get, option_copied, option_map};
+ghost use Rattle.std.specs.Prelude.{◌≡◌, ◌≤◌, ◌<◌, ◌+◌, ◌-◌, ◌^◌, ◌∷◌, ◌++◌, List, ℕ, MatchOption, None, Some, length, slice_get, option_copied, option_map};
 ghost use Rattle.std.specs.FinMap.{len};
 ghost use Rattle.rawk_value.specs.Values.{Bytes};
+ghost use Rattle.rawk_frames.specs.Frame.{Frame, IsOf, locals_now};
 ghost use Rattle.rawk_arrays.specs.Elements.{array_at, element_at};
 ghost use Rattle.rawk_tape.specs.Records.{Input};
 ghost use Rattle.rawk_record.specs.FieldRefs.{ref_value};
@@ -12,7 +13,7 @@ ghost use Rattle.rawk_machine.specs.Kept.{AllBelow, Few};
 ghost use Rattle.rawk_machine.specs.Standing.{Earlier, MayCome, LastMade};
 
 use crate::machine::Machine;
-use rawk_store::{Ending, FieldRef, Keeper};
+use rawk_store::{Activation, Ending, FieldRef, Keeper, Local};
 use rawk_tape::Source;
 use rawk_value::Value;
 
@@ -34,6 +35,20 @@ impl<R: Source + Drop, K: Keeper> Machine<R, K> {
         ensures { result ≡ length self.now.state.frames }
     {
         self.store.frames.depth()
+    }
+
+    /// An activation, counted from the innermost, which is 0: its function, its calling point and the site of that; `None` past the outermost.
+    pub fn frame(&self, number: usize) -> Option<&Activation>
+        ensures { MatchOption result (slice_get self.now.state.frames number ≡ None) (λ a. (f : Frame) × (slice_get self.now.state.frames number ≡ Some f) × IsOf a.now f) }
+    {
+        self.store.frames.frame(number)
+    }
+
+    /// A local of the innermost activation, by its number from 0; `None` past the last, and outside of functions.
+    pub fn local(&self, number: usize) -> Option<&Local>
+        ensures { option_copied result ≡ slice_get (locals_now self.now.state.frames) number }
+    {
+        self.store.frames.local(number)
     }
 
     /// How many arrays there are.

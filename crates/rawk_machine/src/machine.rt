@@ -11,11 +11,11 @@ ghost use Rattle.rawk_machine.specs.Stood.{IsFirst};
 ghost use Rattle.rawk_machine.specs.Standing.{Standing, MayCome, IsAt, Stood, step_of, IsQuietStep, Stays, MovesOn, gone_back, taken_back, set_made, dropped, old_values};
 ghost use Rattle.rawk_travel.specs.Moving.{ending_of};
 
-use crate::arrival::step;
-use crate::back::{global_of, go_back, keep_below, write_global};
+use crate::arrival::{site_at, step};
+use crate::back::{go_back, keep_below, write};
 use crate::journal::journaled;
 use crate::last_move::LastMove;
-use crate::start::{copy_settings, fill_globals};
+use crate::start::{add_ranges, copy_settings, fill_globals};
 use crate::step::Step;
 use rawk_code::{Code, SetAt, Settings};
 use rawk_store::{Ending, Group, Keeper, Off, Phase, Registers, Store, Target, saved_in_groups};
@@ -99,6 +99,7 @@ fn first_store(alloc: Global, code: &Code, settings: &Settings) -> Result<Store,
 {
     let mut store = Store::new(alloc, first_registers());
     fill_globals(alloc, &mut store.globals, code.names(), settings.as_slice())?;
+    add_ranges(&mut store.ranges, code.ranges())?;
     store.forget();
     Ok(store)
 }
@@ -263,8 +264,7 @@ impl<R: Source + Drop, K: Keeper> Machine<R, K> {
         let _consumed = self.tape.consumed();
         let kept = value.copy(alloc)?;
         self.sets.reserve(1)?;
-        let number = global_of(target);
-        write_global(alloc, &mut self.store, &mut self.here, number, kept)?;
+        write(alloc, &mut self.store, &mut self.here, target, kept)?;
         self.sets.push(SetAt {
             point: self.point,
             target,
@@ -287,7 +287,11 @@ impl<R: Source + Drop, K: Keeper> Machine<R, K> {
     pub fn site(&self) -> Option<usize>
         ensures { result ≡ self.now.site }
     {
-        self.store.registers.now.site
+        let registers = &self.store.registers.now;
+        match registers.ending {
+            None => registers.site,
+            Some(ending) => site_at(ending, registers.site),
+        }
     }
 
     /// How many instructions were ever run; it stays at the greatest number of 128 bits.

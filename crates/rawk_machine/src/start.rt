@@ -1,13 +1,13 @@
 //! The parts before the first instruction.
 
-ghost use Rattle.std.specs.Prelude.{◌≡◌, ◌++◌, [], length, replicate, IfOk, OnOk};
+ghost use Rattle.std.specs.Prelude.{◌≡◌, ◌++◌, [], false, length, replicate, IfOk, OnOk};
 ghost use Rattle.rawk_value.specs.declared.value.Value.{Value};
 ghost use Rattle.rawk_special.specs.Special.{first_specials};
 ghost use Rattle.rawk_code.specs.Trace.{with_first, settled};
 
 use rawk_code::{FirstValue, Settings};
 use rawk_special::{COUNT, first_value, global_number};
-use rawk_store::Cells;
+use rawk_store::{Cells, Ranges};
 use rawk_value::{Bytes, Value};
 use std::alloc::{AllocError, Global};
 
@@ -28,6 +28,17 @@ fn add_others(globals: &mut Cells, names: &[Bytes]) -> Result<(), AllocError>
 {
     for _name in names {
         globals.add(Value::Uninitialized)?;
+    }
+    Ok(())
+}
+
+/// The ranges, which are off. It fails where memory is refused.
+pub fn add_ranges(ranges: &mut Ranges, count: usize) -> Result<(), AllocError>
+    requires { ranges.old.now ≡ [] }
+    ensures { OnOk result (ranges.new.now ≡ replicate count false) }
+{
+    for _number in 0..count {
+        ranges.add(false)?;
     }
     Ok(())
 }

@@ -3,6 +3,9 @@
 /// The version that `--version` shows.
 pub const VERSION: &str = "0.1.0";
 
+/// How the program is called.
+pub const USAGE: &str = "rawk [OPTIONS] PROGRAM [FILE]\n       rawk [OPTIONS] -f PROGFILE [FILE]";
+
 /// The commands of a session, each with its short form.
 pub const SESSION_HELP: &str = "\
 Commands of a session, one a line:
@@ -15,7 +18,7 @@ Commands of a session, one a line:
   reverse-continue, rc  go to the stop before, or to the oldest point kept
   reverse-finish        go back to where the function was called
   run, r                go to the oldest point kept, and then as continue
-  break, b LINE         set a breakpoint
+  break, b LINE|NAME    set a breakpoint at a line, or at a function
   delete, d N           remove the breakpoint N
   watch, w PLACE        stop where the value of PLACE changes
   unwatch N             remove the watchpoint N

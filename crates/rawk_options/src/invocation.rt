@@ -1,6 +1,7 @@
 //! What a command line asks for, or why it is refused.
 ghost use Rattle.std.specs.Prelude.{◌≤◌, ◌≡◌, ◌≢◌, Some};
 ghost use Rattle.rawk_limits.specs.History.{IsHistory};
+ghost use Rattle.rawk_options.specs.declared.invocation.S.TheVariants.{Memory};
 ghost use Rattle.rawk_options.specs.declared.invocation.Text.{Text};
 
 use rawk_code::Settings;
@@ -17,6 +18,9 @@ pub const SESSION_STEPS: u64 = 1_000_000;
 /// `S3` and the help, whose text ends in a newline of its own.
 #[derive(Debug, Drop, Error)]
 pub enum S {
+    /// S1
+    #[error("rawk: bad assignment")]
+    BadAssignment,
     /// S2
     #[error("rawk: bad operands")]
     BadOperands,
@@ -28,10 +32,18 @@ pub enum S {
     CannotRead,
     /// S5
     #[error("rawk: out of memory")]
-    Memory(#[from(alloc)] AllocError),
+    Memory(AllocError),
     /// the help or the version that was asked for: no refusal
     #[error("{0}")]
     Help(String),
+}
+
+impl From<AllocError> for S {
+    ghost from_gives = { λ error refusal. refusal ≡ Memory error };
+
+    fn from(error: AllocError) -> S {
+        S::Memory(error)
+    }
 }
 
 /// Where bytes come from.
@@ -45,6 +57,7 @@ pub enum Text {
 /// What is to be run.
 #[derive(Drop)]
 pub struct Invocation {
+    /// the first values of variables, in their order
     pub settings: Settings,
     pub program: Text,
     pub input: Text,

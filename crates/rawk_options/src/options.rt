@@ -1,29 +1,27 @@
 //! The options and operands (POSIX awk, Options and Operands).
-ghost use Rattle.std.specs.Prelude.{◌≤◌, ◌≡◌, ◌≢◌, ◌⊎◌, ◌↔◌, Some, IfOk, IfSome, IsTrue, None, is_some, true, false};
+ghost use Rattle.std.specs.Prelude.{◌≤◌, ◌<◌, ◌≡◌, ◌≢◌, ◌⊎◌, ◌↔◌, [], Ok, Err, Some, IfOk, IfSome, IsTrue, None, drop, is_some, length, true, false};
 ghost use Rattle.rawk_limits.specs.History.{IsHistory};
 ghost use Rattle.rawk_limits.specs.declared.TheConstants as limits;
 
-use crate::help::{SESSION_HELP, VERSION};
+use crate::assignments::first_values;
+use crate::help::{SESSION_HELP, USAGE, VERSION};
 use crate::invocation::{Invocation, MAX_STEPS, S, SESSION_STEPS, Text};
+use crate::words::separated;
 use clap::builder::ValueRange;
 use clap::error::ErrorKind;
 use clap::{Arg, ArgAction, ArgMatches, Command, value_parser};
-use rawk_code::Settings;
 use rawk_lexer::has_name_form;
 use rawk_limits::HISTORY;
 use std::alloc::{AllocError, Global};
 
 /// What the words after the program's name ask for.
 ///
-/// The order of refusals: S3 for words that the options do not take, then S2 for operands that are too few, too many
-/// or `NAME=..` in the place of the file, and for the standard input as the commands and the input both. S5 where memory
-/// is refused. `--help` and `--version` answer `S::Help` with their text.
+/// The order of refusals: S3 for words that the options do not take; S1 for a value of `-v` without `=`; S2 for operands that are
+/// too few, too many or `NAME=..` in the place of the file, for `-f -`, and for the standard input as the commands and the input
+/// both. S5 where memory is refused. `--help` and `--version` answer `S::Help` with their text.
 pub fn settings_of(alloc: Global, words: &[String]) -> Result<Invocation, S> {
-    let mut given: Vec<&str> = Vec::new(alloc);
-    for word in words {
-        given.push(word.as_str())?;
-    }
-    match command(alloc)?.try_get_matches_from(given.as_slice()) {
+    let words = separated(alloc, words)?;
+    match command(alloc)?.try_get_matches_from(words.as_slice()) {
         Ok(matches) => invocation_of(alloc, &matches),
         Err(error) => Err(refusal_of(alloc, &error)),
     }
@@ -50,23 +48,6 @@ fn is_asked_for(kind: ErrorKind) -> bool
 
 /// The options and operands. The value of an option may begin with `-`.
 fn command<'a>(alloc: Global) -> Result<Command<'a>, AllocError> {
-    let debug = Arg::new(alloc, "debug")
-        .long("debug")
-        .value_name("COMMANDS")
-        .help("Debug PROGRAM by the commands of this file; - (the standard input) needs a FILE")
-        .allow_hyphen_values(true);
-    let steps = Arg::new(alloc, "steps")
-        .long("steps")
-        .value_name("N")
-        .help("End PROGRAM after N steps (default 9223372036854775807; with --debug 1000000)")
-        .value_parser(value_parser!(u64).range(0..=i64::MAX))
-        .allow_hyphen_values(true);
-    let history = Arg::new(alloc, "history")
-        .long("history")
-        .value_name("H")
-        .help("With --debug, keep the last H steps, 1 to 1000000, to go back over (default all)")
-        .value_parser(value_parser!(u64).range(1..=HISTORY as i64))
-        .allow_hyphen_values(true);
     let operands = Arg::new(alloc, "operands")
         .value_name("OPERAND")
         .help("PROGRAM, the text of a program, and FILE, its input (default the standard input)")
@@ -75,35 +56,125 @@ fn command<'a>(alloc: Global) -> Result<Command<'a>, AllocError> {
     Command::new(alloc, "rawk")
         .version(VERSION)
         .no_binary_name(true)
-        .override_usage("rawk [OPTIONS] PROGRAM [FILE]")
+        .override_usage(USAGE)
         .after_help(SESSION_HELP)
-        .arg(debug)?
-        .arg(steps)?
-        .arg(history)?
+        .arg(separator(alloc))?
+        .arg(assignment(alloc))?
+        .arg(program_file(alloc))?
+        .arg(debug(alloc))?
+        .arg(steps(alloc))?
+        .arg(history(alloc))?
         .arg(operands)
+}
+
+/// The option `-F`.
+fn separator<'a>(alloc: Global) -> Arg<'a> {
+    Arg::new(alloc, "separator")
+        .short('F')
+        .value_name("S")
+        .help("Separate fields by S, as -v FS=S after all -v; t is a tab, and the last S counts")
+        .action(ArgAction::Append)
+        .allow_hyphen_values(true)
+}
+
+/// The option `-v`.
+fn assignment<'a>(alloc: Global) -> Arg<'a> {
+    Arg::new(alloc, "assignment")
+        .short('v')
+        .value_name("NAME=VALUE")
+        .help("Assign to a variable before PROGRAM begins; may be repeated")
+        .action(ArgAction::Append)
+        .allow_hyphen_values(true)
+}
+
+/// The option `-f`.
+fn program_file<'a>(alloc: Global) -> Arg<'a> {
+    Arg::new(alloc, "program_file")
+        .short('f')
+        .value_name("PROGFILE")
+        .help("Read the program from this file; there is no operand PROGRAM then")
+        .allow_hyphen_values(true)
+}
+
+/// The option `--debug`.
+fn debug<'a>(alloc: Global) -> Arg<'a> {
+    Arg::new(alloc, "debug")
+        .long("debug")
+        .value_name("COMMANDS")
+        .help("Debug PROGRAM by the commands of this file; - (the standard input) needs a FILE")
+        .allow_hyphen_values(true)
+}
+
+/// The option `--steps`.
+fn steps<'a>(alloc: Global) -> Arg<'a> {
+    Arg::new(alloc, "steps")
+        .long("steps")
+        .value_name("N")
+        .help("End PROGRAM after N steps (default 9223372036854775807; with --debug 1000000)")
+        .value_parser(value_parser!(u64).range(0..=i64::MAX))
+        .allow_hyphen_values(true)
+}
+
+/// The option `--history`.
+fn history<'a>(alloc: Global) -> Arg<'a> {
+    Arg::new(alloc, "history")
+        .long("history")
+        .value_name("H")
+        .help("With --debug, keep the last H steps, 1 to 1000000, to go back over (default all)")
+        .value_parser(value_parser!(u64).range(1..=HISTORY as i64))
+        .allow_hyphen_values(true)
 }
 
 /// What the matches ask for.
 fn invocation_of(alloc: Global, matches: &ArgMatches<'_>) -> Result<Invocation, S> {
-    let (program, rest) = match matches.get_strs("operands").unwrap_or(&[]) {
-        [] => return Err(S::BadOperands),
-        [program, rest @ ..] => (Text::Bytes(program.as_bytes().to_vec(alloc)?), rest),
-    };
-    let input = match rest {
-        [] | ["-"] => Text::StandardInput,
-        [path] if !is_assignment(path) => Text::Path(path.to_string(alloc)?),
-        _ => return Err(S::BadOperands),
-    };
+    let settings = first_values(
+        alloc,
+        matches.get_strs("assignment").unwrap_or(&[]),
+        matches.get_strs("separator").unwrap_or(&[]),
+    )?;
+    let operands = matches.get_strs("operands").unwrap_or(&[]);
+    let (program, rest) = program_of(alloc, matches.get_str("program_file"), operands)?;
+    let input = input_of(alloc, rest)?;
     let commands = commands_of(alloc, matches.get_str("debug"), &input)?;
     let steps = steps_of(matches.get_one::<u64>("steps"), commands.is_some());
     Ok(Invocation {
-        settings: Settings::new(alloc),
+        settings,
         program,
         input,
         commands,
         steps,
         history: history_of(matches.get_one::<u64>("history")),
     })
+}
+
+/// The program, from the file that `-f` names or else the first operand, and the operands behind it. S2 where there is none, or the file
+/// is `-`.
+fn program_of<'a>(
+    alloc: Global,
+    file: Option<&str>,
+    operands: &'a [&'a str],
+) -> Result<(Text, &'a [&'a str]), S>
+    ensures none { file.entry ≡ None → operands.now ≡ [] → result ≡ Err S.BadOperands }
+    ensures of_file { is_some file.entry ≡ true → IfOk result (λ r. r.1.now ≡ operands.now) }
+    ensures operand { file.entry ≡ None → IfOk result (λ r. r.1.now ≡ drop 1 operands.now) }
+{
+    match (file, operands) {
+        (Some("-"), _) | (None, []) => Err(S::BadOperands),
+        (Some(path), rest) => Ok((Text::Path(path.to_string(alloc)?), rest)),
+        (None, [program, rest @ ..]) => Ok((Text::Bytes(program.as_bytes().to_vec(alloc)?), rest)),
+    }
+}
+
+/// The input that the operands behind the program name. S2 where they are more than one, or `NAME=..`.
+fn input_of(alloc: Global, operands: &[&str]) -> Result<Text, S>
+    ensures none { operands.now ≡ [] → result ≡ Ok Text.StandardInput }
+    ensures many { 1 < length operands.now → result ≡ Err S.BadOperands }
+{
+    match operands {
+        [] | ["-"] => Ok(Text::StandardInput),
+        [path] if !is_assignment(path) => Ok(Text::Path(path.to_string(alloc)?)),
+        _ => Err(S::BadOperands),
+    }
 }
 
 /// The commands that the value of `--debug` names, beside this input: S2 where both were the standard input.

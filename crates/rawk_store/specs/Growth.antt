@@ -10,7 +10,7 @@ use Rattle.rawk_arrays.specs.Elements.{Elements}
 use Rattle.rawk_arrays.specs.Laid.{GrownArrays, arrays_of}
 use Rattle.rawk_arrays.specs.ArraysLaws.{arrays_of-grown, GrownArrays-refl, GrownArrays-trans, GrownArrays-back, FitsArrays-grown, IsLaid-back}
 use Rattle.rawk_frames.specs.Frame.{Frame}
-use Rattle.rawk_frames.specs.LaidFrames.{GrownFrames, frames_of}
+use Rattle.rawk_frames.specs.LaidFrames.{LaidFrames, GrownFrames, frames_of}
 use Rattle.rawk_frames.specs.LaidKeys.{GrownKeys}
 use Rattle.rawk_frames.specs.FramesLaws.{frames_of-grown, keys_of-grown, GrownFrames-refl, GrownFrames-trans, GrownFrames-back, GrownKeys-refl, GrownKeys-trans, GrownKeys-back, FitsFrames-grown, FitsKeys-grown, AreFramesLive-back, AreKeysLive-back}
 use Rattle.rawk_record.specs.Shown.{Shown, record_back}
@@ -67,7 +67,21 @@ Grown-stack l s g = record {
   registers = refl;
 }
 
-pub ruleset grows = (Grown-refl, Grown-same, Grown-trans, Grown-then_same, Grown-stack)
+-- the activations alone have grown
+pub Grown-frames : (l : Layout) (f : LaidFrames) → GrownFrames l.frames f → Grown l (record l { frames = f })
+Grown-frames l f g = record {
+  globals = refl;
+  arrays = GrownArrays-refl l.arrays;
+  frames = g;
+  keys = GrownKeys-refl l.keys;
+  ranges = refl;
+  operands = GrownStack-refl l.operands;
+  current = refl;
+  output = refl;
+  registers = refl;
+}
+
+pub ruleset grows = (Grown-refl, Grown-same, Grown-trans, Grown-then_same, Grown-stack, Grown-frames)
 
 pub operands-grown : (l m : Layout) → Grown l m → IsSound l → operands m ≡ operands l
 operands-grown l m g h = live_values-grown l.operands m.operands g.operands h.operands
@@ -88,6 +102,7 @@ made_of globals arrays frames ranges current output registers = record {
   output = output;
   status = registers.status;
   here = registers.here;
+  site = registers.site;
 }
 
 pub state-grown : (l m : Layout) → Grown l m → IsSound l → state m ≡ state l

@@ -35,6 +35,7 @@ state l = record {
   output = l.output;
   status = l.registers.status;
   here = l.registers.here;
+  site = l.registers.site;
 }
 
 -- the operands, the newest first

@@ -1,5 +1,5 @@
 -- The state of a program, and what can be assigned in it.
-use Rattle.std.specs.Prelude.{ℕ, zero, suc, ◌-◌, ℤ, pos, negsuc, int_le, ◌==◌, Bool, if◌then◌else◌, List, length, map, slice_index_or, slice_set, Result, Ok, Err}
+use Rattle.std.specs.Prelude.{ℕ, zero, suc, ◌-◌, ℤ, pos, negsuc, int_le, ◌==◌, Bool, if◌then◌else◌, List, length, map, slice_index_or, slice_set, Option, Result, Ok, Err}
 use Rattle.rawk_limits.specs.declared.TheConstants.{LAST_FIELD}
 use Rattle.rawk_value.specs.declared.value.Value.{Value}
 use Rattle.rawk_value.specs.declared.value.Value.TheVariants.{Uninitialized, Number, Input}
@@ -7,15 +7,17 @@ use Rattle.rawk_value.specs.declared.fault.Fault.{Fault}
 use Rattle.rawk_value.specs.declared.fault.Fault.TheVariants.{FieldNumber}
 use Rattle.rawk_value.specs.Values.{Bytes, next_ok, is_empty, number_of, text_of}
 use Rattle.rawk_arrays.specs.Elements.{Elements}
-use Rattle.rawk_frames.specs.Frame.{Frame}
+use Rattle.rawk_frames.specs.declared.frames.Local.{Local}
+use Rattle.rawk_frames.specs.declared.frames.Local.TheVariants.{Holds, Names}
+use Rattle.rawk_frames.specs.Frame.{Frame, locals_now, with_local}
 use Rattle.rawk_record.specs.Fields.{fields_of}
 use Rattle.rawk_record.specs.Changed.{resized, with_value}
 pub use Rattle.rawk_record.specs.Changed.{joined}
 pub use Rattle.rawk_special.specs.declared.special.TheConstants.{NR, FNR, FS, OFS, ORS, RS, SUBSEP, CONVFMT, OFMT, RSTART, RLENGTH}
 use Rattle.rawk_store.specs.declared.target.Target as target
-use Rattle.rawk_store.specs.declared.target.Target.TheVariants.{Global}
+use Rattle.rawk_store.specs.declared.target.Target.TheVariants as place
 
--- the state: the special variables come first among the globals, `whole` is `$0`, and `here` is the last point reached at the present depth
+-- the state: the special variables come first among the globals, `whole` is `$0`, `here` is the last point reached at the present depth, and `site` its site
 pub record State : Type 0 where
   pub globals : List Value
   pub arrays : List Elements
@@ -27,6 +29,7 @@ pub record State : Type 0 where
   pub output : Bytes
   pub status : ℕ
   pub here : ℕ
+  pub site : Option ℕ
 
 abbrev pub global_value : ℕ → State → Value
 global_value x s = slice_index_or s.globals x Uninitialized
@@ -47,6 +50,18 @@ is_paragraph s = is_empty (global_text RS s)
 
 abbrev pub with_global : ℕ → Value → State → State
 with_global x v s = record s { globals = slice_set s.globals x v }
+
+-- the value of a local; one that names an array has none
+abbrev pub held : Local → Value
+held (Holds v) = v
+held (Names array) = Uninitialized
+
+-- a local of the innermost activation
+abbrev pub local_value : ℕ → State → Value
+local_value i s = held (slice_index_or (locals_now s.frames) i (Holds Uninitialized))
+
+abbrev pub with_local_value : ℕ → Value → State → State
+with_local_value i v s = record s { frames = with_local i (Holds v) s.frames }
 
 -- a place whose subscripts and field number are settled
 abbrev pub Target : Type 0
@@ -84,4 +99,5 @@ with_count_value v s = next_ok (number_of v) (λ z. next_ok (field_number z) (λ
 
 -- the state after an assignment, or its fault
 abbrev pub assigned : Target → Value → State → Result State Fault
-assigned (Global x) v s = Ok (with_global x v s)
+assigned (place.Global x) v s = Ok (with_global x v s)
+assigned (place.Local i) v s = Ok (with_local_value i v s)

@@ -1,27 +1,18 @@
 //! How many old values are kept.
 
-ghost use Rattle.std.specs.Prelude.{◌≡◌, length};
+ghost use Rattle.std.specs.Prelude.{◌≡◌};
 ghost use Rattle.rawk_store.specs.Saving.{Counts, saved_elements, saved_in, saved_in_groups, saved_in_others};
 
 use crate::group::Group;
 use crate::others::Others;
 
-impl Others {
-    /// How many old values of elements they hold, also where an element was not there.
-    pub(crate) fn saved(&self) -> usize
-        ensures { result ≡ length self.now.arrays.slots.entries.items }
-    {
-        self.arrays.slots.entries.len()
-    }
-}
-
-/// How many old values of elements are held.
+/// How many old values of elements are held, also where an element was not there.
 fn saved_elements(others: &Option<Others>) -> usize
     ensures { result ≡ saved_elements others.now }
 {
     match others {
         None => 0,
-        Some(group) => group.saved(),
+        Some(group) => group.arrays.slots.entries.len(),
     }
 }
 
@@ -56,7 +47,7 @@ pub(crate) fn saved_in_others(all: &[Others]) -> u128
 {
     let mut count: u128 = 0;
     for others in all {
-        count = count.saturating_add(others.saved() as u128);
+        count = count.saturating_add(others.arrays.slots.entries.len() as u128);
     }
     count
 }

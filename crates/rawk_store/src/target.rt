@@ -5,4 +5,6 @@
 pub enum Target {
     /// a global, by its number from 0
     Global(usize),
+    /// a local of the innermost activation, by its number from 0
+    Local(usize),
 }

@@ -1,11 +1,11 @@
 -- What of the parser's tree is covered, from its parts.
-use Rattle.std.proofs.Common.{◌≡◌, ◌≢◌, ℕ, ℤ, ◌+◌, ◌<◌, suc, Bool, true, false, not, ◌&&◌, List, [], ◌∷◌, ◌++◌, length, take, drop, map, get_or, Option, Some, None, Result, Err, refl, sym, ap, ◌∙◌, arith}
-use Rattle.std.proofs.lemmas.List.{take_more, take-append-drop}
+use Rattle.std.proofs.Common.{◌≡◌, ◌≢◌, ℕ, ℤ, ◌+◌, ◌<◌, ◌≤◌, suc, Bool, true, false, not, ◌&&◌, List, [], ◌∷◌, ◌++◌, length, take, drop, map, get_or, Option, Some, None, Result, Err, refl, sym, ap, ◌∙◌, arith}
+use Rattle.std.proofs.lemmas.List.{take_more, take-append-drop, drop_all}
 use Rattle.std.proofs.Math.Seq.{drop-cons}
 use Rattle.rawk_parsing.specs.declared.parse_error.ParseError.{ParseError}
 use Rattle.rawk_parsing.specs.declared.parse_error.ParseError.TheVariants.{OutOfMemory}
 use Rattle.rawk_parsing.specs.declared.tree.Assignment.{Assignment}
-use Rattle.rawk_syntax.specs.declared.tree.Joiner.{Joiner}
+use Rattle.rawk_tree.specs.declared.tree.Joiner.{Joiner}
 use Rattle.rawk_parsing.specs.declared.tree.Operator.{Operator}
 use Rattle.rawk_parsing.specs.declared.tree.Sign.{Sign}
 use Rattle.rawk_parsing.specs.declared.tree.Logic.{Logic}
@@ -14,17 +14,18 @@ use Rattle.rawk_parsing.specs.declared.tree.Operator.TheVariants as op
 use Rattle.rawk_parsing.specs.declared.tree.Name as word
 use Rattle.rawk_parsing.specs.declared.tree.Expr.{Expr, out-Expr, roll-Expr, roll-out-Expr, map-Expr, fold-roll-Expr, fold_out-Expr}
 use Rattle.rawk_parsing.specs.declared.tree.Expr.TheVariants as tree
-use Rattle.rawk_parsing.specs.declared.tree.Expr.TheVariants.{rolls-Number, rolls-Text, rolls-Of, rolls-Group, rolls-Signed, rolls-Power, rolls-Chain, rolls-Logic, rolls-Choice, rolls-Before, rolls-After, rolls-Assign}
+use Rattle.rawk_parsing.specs.declared.tree.Expr.TheVariants.{rolls-Number, rolls-Text, rolls-Of, rolls-Group, rolls-Signed, rolls-Power, rolls-Chain, rolls-Logic, rolls-Choice, rolls-Before, rolls-After, rolls-Assign, rolls-Call}
 use Rattle.rawk_parsing.specs.declared.tree.Expr.TheOpen as expr
 use Rattle.rawk_parsing.specs.declared.tree.Expr.TheOpen.{Expr-F, Place-F, Link-F}
 use Rattle.rawk_parsing.specs.declared.tree.Link.{Link, fold_out-Link}
 use Rattle.rawk_parsing.specs.declared.tree.Place.{Place, out-Place, roll-Place, roll-out-Place, map-Place, fold-roll-Place, fold_out-Place}
 use Rattle.rawk_parsing.specs.declared.tree.Place.TheVariants as spot
-use Rattle.rawk_syntax.specs.declared.tree.Place as spot_place
+use Rattle.rawk_tree.specs.declared.tree.Place as spot_place
 use Rattle.rawk_parsing.specs.declared.tree.Place.TheVariants.{rolls-Name, rolls-Field, rolls-Element}
 use Rattle.rawk_special.specs.Special.{is_special}
-use Rattle.rawk_syntax.specs.Meant.{Sense, stands}
-use Rattle.rawk_syntax.specs.Covered.{Judges, Cover, unless, or_then, first_of, each, can_change, joiner_of, joins, expr_step, place_step, link_step, covers, place_cover, covers_link}
+use Rattle.rawk_syntax.specs.Meant.{Sense, is_there}
+use Rattle.rawk_grammar.specs.declared.tree.Item.{Item}
+use Rattle.rawk_syntax.specs.Covered.{Judges, Cover, item_gap, gap_from, functions_behind, unless, or_then, first_of, each, can_change, joiner_of, joins, expr_step, place_step, link_step, covers, place_cover, covers_link}
 
 -- ---- tests and refusals
 
@@ -102,9 +103,9 @@ first_stops f xs i x e h at so here = ap (first_of f) (around xs i x h at) ∙ f
 
 -- ---- expressions
 
-covers_roll : (m : Sense) (d : Expr-F Expr Place Link) → covers m (roll-Expr d) ≡ expr_step (map-Expr Expr Place Link Bool Cover Bool (covers m) (place_cover m) (covers_link m) d)
+covers_roll : (m : Sense) (d : Expr-F Expr Place Link) → covers m (roll-Expr d) ≡ expr_step m (map-Expr Expr Place Link Bool Cover Bool (covers m) (place_cover m) (covers_link m) d)
 unfolding covers place_cover covers_link
-covers_roll m d = fold-roll-Expr Bool Cover Bool expr_step (place_step m) link_step d
+covers_roll m d = fold-roll-Expr Bool Cover Bool (expr_step m) (place_step m) link_step d
 
 each_mapped : {A B : Type 0} (g : B → Bool) (f : A → B) (xs : List A) → each g (map f xs) ≡ each (λ x. g (f x)) xs
 each_mapped g f [] = refl
@@ -153,17 +154,27 @@ before_covers m e c p is = ap (covers m) (is ∙ sym (rolls-Before c p)) ∙ cov
 pub after_covers : (m : Sense) (e : Expr) (c : Change) (p : Place) → e ≡ tree.After c p → covers m e ≡ can_change (place_cover m p)
 after_covers m e c p is = ap (covers m) (is ∙ sym (rolls-After c p)) ∙ covers_roll m (expr.After c p)
 
-covers_out : (m : Sense) (e : Expr) → covers m e ≡ expr_step (map-Expr Expr Place Link Bool Cover Bool (covers m) (place_cover m) (covers_link m) (out-Expr e))
+pub none_there : {A : Type 0} (o : Option A) → ((a : A) → o ≡ Some a → ⊥) → is_there o ≡ false
+none_there None none = refl
+none_there (Some a) none = absurd (none a refl)
+
+-- a call of what the name stands for, or of nothing
+pub call_covers : (m : Sense) (e : Expr) (n : word.Name) (w : List ℕ) (o : Option ℕ) (xs ys : List Expr) → e ≡ tree.Call n xs → w ≡ n.word → o ≡ m.function w → ys ≡ xs → covers m e ≡ (is_there o && each (covers m) ys)
+call_covers m e n w o xs ys is same found all =
+    ap (covers m) (is ∙ sym (rolls-Call n xs)) ∙ covers_roll m (expr.Call n xs) ∙ ap (λ b. is_there (m.function n.word) && b) (each_mapped (λ b. b) (covers m) xs)
+    ∙ ap (λ v. is_there (m.function v) && each (covers m) xs) (sym same) ∙ ap (λ v. is_there v && each (covers m) xs) (sym found) ∙ ap (λ l. is_there o && each (covers m) l) (sym all)
+
+covers_out : (m : Sense) (e : Expr) → covers m e ≡ expr_step m (map-Expr Expr Place Link Bool Cover Bool (covers m) (place_cover m) (covers_link m) (out-Expr e))
 unfolding covers place_cover covers_link
-covers_out m e = fold_out-Expr Bool Cover Bool expr_step (place_step m) link_step e
+covers_out m e = fold_out-Expr Bool Cover Bool (expr_step m) (place_step m) link_step e
 
 -- no other expression is covered
 pub other_covers : (m : Sense) (e : Expr) → ((n : ℤ) → e ≡ tree.Number n → ⊥) → ((w : List ℕ) → e ≡ tree.Text w → ⊥) → ((p : Place) → e ≡ tree.Of p → ⊥) → ((x : Expr) → e ≡ tree.Group x → ⊥)
     → ((s : Sign) (x : Expr) → e ≡ tree.Signed s x → ⊥) → ((x y : Expr) → e ≡ tree.Power x y → ⊥) → ((x : Expr) (xs : List Link) → e ≡ tree.Chain x xs → ⊥) → ((l : Logic) (xs : List Expr) → e ≡ tree.Logic l xs → ⊥) → ((x y z : Expr) → e ≡ tree.Choice x y z → ⊥) → ((c : Change) (p : Place) → e ≡ tree.Before c p → ⊥) → ((c : Change) (p : Place) → e ≡ tree.After c p → ⊥)
-    → ((how : Assignment) (p : Place) (x : Expr) → e ≡ tree.Assign how p x → ⊥) → covers m e ≡ false
-other_covers m e number text place group signed power chain logic choice before after assign = covers_out m e ∙ go (out-Expr e) (sym (roll-out-Expr e))
+    → ((how : Assignment) (p : Place) (x : Expr) → e ≡ tree.Assign how p x → ⊥) → ((n : word.Name) (xs : List Expr) → e ≡ tree.Call n xs → ⊥) → covers m e ≡ false
+other_covers m e number text place group signed power chain logic choice before after assign call = covers_out m e ∙ go (out-Expr e) (sym (roll-out-Expr e))
   where
-    go : (d : Expr-F Expr Place Link) → e ≡ roll-Expr d → expr_step (map-Expr Expr Place Link Bool Cover Bool (covers m) (place_cover m) (covers_link m) d) ≡ false
+    go : (d : Expr-F Expr Place Link) → e ≡ roll-Expr d → expr_step m (map-Expr Expr Place Link Bool Cover Bool (covers m) (place_cover m) (covers_link m) d) ≡ false
     go (expr.Number n) q = absurd (number n (q ∙ rolls-Number n))
     go (expr.Text w) q = absurd (text w (q ∙ rolls-Text w))
     go (expr.Of p) q = absurd (place p (q ∙ rolls-Of p))
@@ -176,23 +187,24 @@ other_covers m e number text place group signed power chain logic choice before 
     go (expr.Before c p) q = absurd (before c p (q ∙ rolls-Before c p))
     go (expr.After c p) q = absurd (after c p (q ∙ rolls-After c p))
     go (expr.Assign how p x) q = absurd (assign how p x (q ∙ rolls-Assign how p x))
+    go (expr.Call n xs) q = absurd (call n xs (q ∙ rolls-Call n xs))
     go _ q = refl
 
 -- ---- places
 
 place_roll : (m : Sense) (d : Place-F Expr Place Link) → place_cover m (roll-Place d) ≡ place_step m (map-Place Expr Place Link Bool Cover Bool (covers m) (place_cover m) (covers_link m) d)
 unfolding covers place_cover covers_link
-place_roll m d = fold-roll-Place Bool Cover Bool expr_step (place_step m) link_step d
+place_roll m d = fold-roll-Place Bool Cover Bool (expr_step m) (place_step m) link_step d
 
 abbrev named : Sense → word.Name → Cover
-named m n = record { reads = stands (m n.word); sets = not (is_special n.word) }
+named m n = record { reads = is_there (m.place n.word); sets = not (is_special n.word) }
 
 pub name_cover : (m : Sense) (p : Place) (n : word.Name) → p ≡ spot.Name n → place_cover m p ≡ named m n
 name_cover m p n is = ap (place_cover m) (is ∙ sym (rolls-Name n)) ∙ place_roll m (expr.Name n)
 
 -- what a name stands for, or that it stands for nothing
-pub name_reads : (m : Sense) (p : Place) (n : word.Name) (w : List ℕ) (o : Option spot_place.Place) → p ≡ spot.Name n → w ≡ n.word → o ≡ m w → (place_cover m p).reads ≡ stands o
-name_reads m p n w o is same found = ap (λ k. k.reads) (name_cover m p n is) ∙ ap (λ v. stands (m v)) (sym same) ∙ ap stands (sym found)
+pub name_reads : (m : Sense) (p : Place) (n : word.Name) (w : List ℕ) (o : Option spot_place.Place) → p ≡ spot.Name n → w ≡ n.word → o ≡ m.place w → (place_cover m p).reads ≡ is_there o
+name_reads m p n w o is same found = ap (λ k. k.reads) (name_cover m p n is) ∙ ap (λ v. is_there (m.place v)) (sym same) ∙ ap is_there (sym found)
 
 abbrev numbered : Bool → Cover
 numbered b = record { reads = b; sets = false }
@@ -205,7 +217,7 @@ element_cover m p n es is = ap (place_cover m) (is ∙ sym (rolls-Element n es))
 
 place_out : (m : Sense) (p : Place) → place_cover m p ≡ place_step m (map-Place Expr Place Link Bool Cover Bool (covers m) (place_cover m) (covers_link m) (out-Place p))
 unfolding covers place_cover covers_link
-place_out m p = fold_out-Place Bool Cover Bool expr_step (place_step m) link_step p
+place_out m p = fold_out-Place Bool Cover Bool (expr_step m) (place_step m) link_step p
 
 -- nothing but a name can be assigned
 pub other_cover : (m : Sense) (p : Place) → ((n : word.Name) → p ≡ spot.Name n → ⊥) → (place_cover m p).sets ≡ false
@@ -220,7 +232,7 @@ other_cover m p name = ap (λ c. c.sets) (place_out m p) ∙ go (out-Place p) (s
 
 pub link_covers : (m : Sense) (l : Link) → covers_link m l ≡ (joins l.operator && covers m l.operand)
 unfolding covers place_cover covers_link
-link_covers m l = fold_out-Link Bool Cover Bool expr_step (place_step m) link_step l
+link_covers m l = fold_out-Link Bool Cover Bool (expr_step m) (place_step m) link_step l
 
 pub joiner_joins : (o : Operator) (j : Joiner) → joiner_of o ≡ Some j → joins o ≡ true
 joiner_joins (op.Arithmetic x) operator h = refl
@@ -237,3 +249,20 @@ joiner_not _ h = refl
 pub none_uncovered : (m : Sense) (es : List Expr) (left : ℕ) → length es ≡ 0 → unless (each (covers m) es) left ≡ None
 none_uncovered m [] left h = refl
 none_uncovered m (e ∷ es) left h = absurd (let no : suc (length es) ≡ 0 = h in omega arith)
+
+-- ---- items one after another
+
+pub items_more : (m : ℕ → Sense) (items : List Item) (i : ℕ) (x : Item) (k l : ℕ) (all : Option ParseError) → i < length items → x ≡ get_or items i x → item_gap m k x ≡ None → l ≡ functions_behind x k → gap_from m k (drop i items) ≡ all → gap_from m l (drop (i + 1) items) ≡ all
+items_more m items i x k l all h at none count before =
+    let one_more : i + 1 ≡ suc i = omega arith in
+    let front : drop i items ≡ x ∷ drop (suc i) items = drop-cons items i x h ∙ ap (λ y. y ∷ drop (suc i) items) (sym at) in
+    let passed : gap_from m k (x ∷ drop (suc i) items) ≡ gap_from m (functions_behind x k) (drop (suc i) items) = ap (λ o. or_then o (gap_from m (functions_behind x k) (drop (suc i) items))) none in
+    ap (λ n. gap_from m l (drop n items)) one_more ∙ ap (λ n. gap_from m n (drop (suc i) items)) count ∙ sym passed ∙ ap (gap_from m k) (sym front) ∙ before
+
+pub items_stop : (m : ℕ → Sense) (items : List Item) (i : ℕ) (x : Item) (k : ℕ) (e : ParseError) (all : Option ParseError) → i < length items → x ≡ get_or items i x → item_gap m k x ≡ Some e → gap_from m k (drop i items) ≡ all → all ≡ Some e
+items_stop m items i x k e all h at some before =
+    let front : drop i items ≡ x ∷ drop (suc i) items = drop-cons items i x h ∙ ap (λ y. y ∷ drop (suc i) items) (sym at) in
+    sym before ∙ ap (gap_from m k) front ∙ ap (λ o. or_then o (gap_from m (functions_behind x k) (drop (suc i) items))) some
+
+pub items_end : (m : ℕ → Sense) (items : List Item) (i k : ℕ) (all : Option ParseError) → length items ≤ i → gap_from m k (drop i items) ≡ all → all ≡ None
+items_end m items i k all h before = sym before ∙ ap (gap_from m k) (drop_all i items h)

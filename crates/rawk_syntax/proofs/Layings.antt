@@ -1,6 +1,6 @@
 -- The steps of settling statements and items, over plain variables.
-use Rattle.std.proofs.Common.{◌≡◌, ℕ, ◌+◌, ◌<◌, List, [], ◌∷◌, ◌++◌, length, take, get_or, Option, None, Some, Result, Ok, Err, IfOk, refl, sym, ap, subst, ◌∙◌, pos}
-use Rattle.std.proofs.lemmas.List.{take_more}
+use Rattle.std.proofs.Common.{◌≡◌, ℕ, ◌+◌, ◌<◌, suc, List, [], ◌∷◌, ◌++◌, length, take, get_or, Option, None, Some, Result, Ok, Err, IfOk, refl, sym, ap, subst, ◌∙◌, pos, arith}
+use Rattle.std.proofs.lemmas.List.{take_more, map-append}
 use Rattle.std.specs.Global.{Box, Vec}
 use Rattle.std.specs.Result.{result_map_both}
 use Rattle.rawk_parsing.specs.declared.tree.Expr as parsed
@@ -20,18 +20,20 @@ use Rattle.rawk_grammar.specs.declared.tree.Action.TheVariants as does
 use Rattle.rawk_grammar.specs.declared.tree.Item.{Item}
 use Rattle.rawk_grammar.specs.declared.tree.Item.TheVariants as part
 use Rattle.rawk_grammar.specs.Statement.{simple_at}
-use Rattle.rawk_syntax.specs.declared.tree.Expr.{Expr}
-use Rattle.rawk_syntax.specs.declared.tree.Stmt.{Stmt}
-use Rattle.rawk_syntax.specs.declared.tree.Stmt.TheVariants as tree
-use Rattle.rawk_syntax.specs.declared.tree.Branch.{Branch}
-use Rattle.rawk_syntax.specs.declared.tree.Expr.TheVariants as expr
+use Rattle.rawk_tree.specs.declared.tree.Expr.{Expr}
+use Rattle.rawk_tree.specs.declared.tree.Stmt.{Stmt}
+use Rattle.rawk_tree.specs.declared.tree.Stmt.TheVariants as tree
+use Rattle.rawk_tree.specs.declared.tree.Branch.{Branch}
+use Rattle.rawk_tree.specs.declared.tree.Expr.TheVariants as expr
 use Rattle.rawk_syntax.specs.declared.statements.LoopHead.{LoopHead}
-use Rattle.rawk_syntax.specs.declared.tree.Rule.{Rule}
-use Rattle.rawk_syntax.specs.declared.tree.Program.{Program}
+use Rattle.rawk_tree.specs.declared.tree.Rule.{Rule}
+use Rattle.rawk_tree.specs.declared.tree.Function.{Function}
+use Rattle.rawk_parsing.specs.declared.tree.Name.{Name}
+use Rattle.rawk_tree.specs.declared.tree.Program.{Program}
 use Rattle.rawk_syntax.specs.Meant.{Sense}
 use Rattle.rawk_syntax.specs.Settled.{Settles, AnExpr, Prints}
 use Rattle.rawk_syntax.specs.Laid as spec
-use Rattle.rawk_syntax.specs.Laid.{sited, rule_of, Simply, Exits, Jumps, Tests, Lays, AStmt, SomeStmts, AnOther, SomeBranches, Heads, branch_with, head_with, for_with, Does, Rules, IsLaidWith}
+use Rattle.rawk_syntax.specs.Laid.{sited, rule_of, range_of, ranges_of, words_of, Simply, Exits, Returns, Jumps, Tests, Lays, AStmt, SomeStmts, AnOther, SomeBranches, Heads, branch_with, head_with, for_with, Does, Rules, Defines, IsLaidWith}
 
 simple_is : (x : Simple) → x ≡ simple_at x.left x.act
 unfolding simple_at
@@ -96,6 +98,16 @@ status_exit means site o e y s is same h = let g : Settles means (AnExpr e s) = 
 pub exit_jumps : (means : Sense) {E : Type 0} (r : Result Stmt E) (text : List ℕ) (left : ℕ) (j : Jump) (o : Option parsed.Expr) (n : ℕ) (old new : List ℕ) → j ≡ jump.Exit o → n ≡ length old → new ≡ sited text left old → IfOk r (λ t. Exits means n o t) → IfOk r (λ t. Jumps text means left j t old new)
 exit_jumps means (Ok t) text left j o n old new is count lines h = let g : Exits means (length old) o t = subst (λ k. Exits means k o t) count h in rw (is, lines) (spec.exits left g)
 exit_jumps means (Err e) text left j o n old new is count lines h = tt
+
+pub no_return_value : (means : Sense) (site : ℕ) (o : Option parsed.Expr) → o ≡ None → Returns means site o (tree.Return site)
+no_return_value means site o is = rw is (spec.no_value site)
+
+pub return_value : (means : Sense) (site : ℕ) (o : Option parsed.Expr) (e y : parsed.Expr) (s : Expr) → o ≡ Some e → y ≡ e → Settles means (AnExpr y s) → Returns means site o (tree.ReturnWith site s)
+return_value means site o e y s is same h = let g : Settles means (AnExpr e s) = subst (λ (z : parsed.Expr). Settles means (AnExpr z s)) same h in rw is (spec.with_value site g)
+
+pub return_jumps : (means : Sense) {E : Type 0} (r : Result Stmt E) (text : List ℕ) (left : ℕ) (j : Jump) (o : Option parsed.Expr) (n : ℕ) (old new : List ℕ) → j ≡ jump.Return o → n ≡ length old → new ≡ sited text left old → IfOk r (λ t. Returns means n o t) → IfOk r (λ t. Jumps text means left j t old new)
+return_jumps means (Ok t) text left j o n old new is count lines h = let g : Returns means (length old) o t = subst (λ k. Returns means k o t) count h in rw (is, lines) (spec.returns left g)
+return_jumps means (Err e) text left j o n old new is count lines h = tt
 
 pub missing_tests : (means : Sense) (o : Option parsed.Expr) → o ≡ None → Tests means o (expr.Number (pos 1))
 missing_tests means o is = rw is spec.missing_test
@@ -214,47 +226,79 @@ missing_does means text x left none ss n old new is bare count lines h =
 pub given_does : (means : Sense) (text : List ℕ) (x : Action) (ss zs : List step.Stmt) (ts : Vec Stmt) (m n : List ℕ) → x ≡ does.Given ss → zs ≡ ss → Lays text means (SomeStmts zs ts.items) m n → Does text means x (tree.Block ts) m n
 given_does means text x ss zs ts m n is same h = let g : Lays text means (SomeStmts ss ts.items) m n = subst (λ (z : List step.Stmt). Lays text means (SomeStmts z ts.items) m n) same h in rw is (spec.given ts g)
 
-pub when_rules : (means : Sense) (text u : List ℕ) (p : Pattern) (left : ℕ) (e y : parsed.Expr) (s : Expr) (x : Action) (t : Stmt) (n : ℕ) (old new : List ℕ) (m : List ℕ)
-    → p ≡ guard.When left e → y ≡ e → n ≡ length old → new ≡ sited text left old → u ≡ text → Settles means (AnExpr y s) → Does u means x t new m → Rules text means p x (rule_of n s t) old m
-when_rules means text u p left e y s x t n old new m is same count lines there h f =
+pub when_rules : (means : Sense) (ranges : ℕ) (text u : List ℕ) (p : Pattern) (left : ℕ) (e y : parsed.Expr) (s : Expr) (x : Action) (t : Stmt) (n : ℕ) (old new : List ℕ) (m : List ℕ)
+    → p ≡ guard.When left e → y ≡ e → n ≡ length old → new ≡ sited text left old → u ≡ text → Settles means (AnExpr y s) → Does u means x t new m → Rules text means ranges p x (rule_of n s t) old m
+when_rules means ranges text u p left e y s x t n old new m is same count lines there h f =
     let g : Settles means (AnExpr e s) = subst (λ (z : parsed.Expr). Settles means (AnExpr z s)) same h in
     let k : Does text means x t (sited text left old) m = subst (λ l. Does text means x t l m) lines (subst (λ v. Does v means x t new m) there f) in
     rw (is, count) (spec.when left g k)
 
+pub range_rules : (means : Sense) (ranges : ℕ) (text u : List ℕ) (p : Pattern) (left : ℕ) (e y f z : parsed.Expr) (s o : Expr) (x : Action) (t : Stmt) (n : ℕ) (old new : List ℕ) (m : List ℕ)
+    → p ≡ guard.Range left e f → y ≡ e → z ≡ f → n ≡ length old → new ≡ sited text left old → u ≡ text → Settles means (AnExpr y s) → Settles means (AnExpr z o) → Does u means x t new m → Rules text means ranges p x (range_of n ranges s o t) old m
+range_rules means ranges text u p left e y f z s o x t n old new m is same other count lines there h g d =
+    let h' : Settles means (AnExpr e s) = subst (λ (v : parsed.Expr). Settles means (AnExpr v s)) same h in
+    let g' : Settles means (AnExpr f o) = subst (λ (v : parsed.Expr). Settles means (AnExpr v o)) other g in
+    let k : Does text means x t (sited text left old) m = subst (λ l. Does text means x t l m) lines (subst (λ v. Does v means x t new m) there d) in
+    rw (is, count) (spec.between left h' g' k)
+
+pub defined : (means : Sense) (text u : List ℕ) (left : ℕ) (name : Name) (parameters : List Name) (ss : List step.Stmt) (word : List ℕ) (words : Vec (List ℕ)) (ts : Vec Stmt) (k : ℕ) (old new m : List ℕ)
+    → word ≡ name.word → words.items ≡ words_of parameters → k ≡ length old → new ≡ sited text left old → u ≡ text → Lays u means (SomeStmts ss ts.items) new m
+    → Defines text means left name parameters ss (record { name = word; parameters = words; site = k; body = tree.Block ts }) old m
+defined means text u left name parameters ss word words ts k old new m called takes count lines there h =
+    let f : Lays text means (SomeStmts ss ts.items) new m = subst (λ v. Lays v means (SomeStmts ss ts.items) new m) there h in
+    record { called = called; takes = takes; site = count; steps = ts; block = refl; body = subst (λ l. Lays text means (SomeStmts ss ts.items) l m) lines f }
+
+-- one name more
+pub word_taken : (names : List Name) (i : ℕ) (x : Name) (words new : List (List ℕ)) (w v : List ℕ) → i < length names → x ≡ get_or names i x → v ≡ x.word → w ≡ v → new ≡ words ++ w ∷ [] → words ≡ words_of (take i names) → new ≡ words_of (take (i + 1) names)
+word_taken names i x words new w v h at is same more before =
+    let e : take (i + 1) names ≡ take i names ++ x ∷ [] = take_more names i x h ∙ ap (λ y. take i names ++ y ∷ []) (sym at) in
+    more ∙ ap (λ ws. ws ++ w ∷ []) before ∙ ap (λ z. words_of (take i names) ++ z ∷ []) (same ∙ is) ∙ sym (map-append (λ (n : Name). n.word) (take i names) (x ∷ [])) ∙ ap words_of (sym e)
+
 -- ---- items
 
-pub begin_laid : (means : Sense) (text : List ℕ) (items : List Item) (x : Item) (ss zs : List step.Stmt) (ts : Vec Stmt) (m n : List ℕ) (p q : Program)
-    → x ≡ part.Begin ss → zs ≡ ss → Lays text means (SomeStmts zs ts.items) m n → q.begin.items ≡ p.begin.items ++ tree.Block ts ∷ [] → q.rules.items ≡ p.rules.items → q.end.items ≡ p.end.items
+pub begin_laid : (means : ℕ → Sense) (text : List ℕ) (items : List Item) (x : Item) (ss zs : List step.Stmt) (ts : Vec Stmt) (m n : List ℕ) (p q : Program)
+    → x ≡ part.Begin ss → zs ≡ ss → Lays text (means 0) (SomeStmts zs ts.items) m n → q ≡ record p { begin = q.begin } → q.begin.items ≡ p.begin.items ++ tree.Block ts ∷ []
     → IsLaidWith text means items p m → IsLaidWith text means (items ++ x ∷ []) q n
-begin_laid means text items x ss zs ts m n p q is same h begins rules ends before =
-    let g : Lays text means (SomeStmts ss ts.items) m n = subst (λ (z : List step.Stmt). Lays text means (SomeStmts z ts.items) m n) same h in
-    rw (is, begins, rules, ends) (spec.begin ts before g)
+begin_laid means text items x ss zs ts m n p q is same h rest begins before =
+    let g : Lays text (means 0) (SomeStmts ss ts.items) m n = subst (λ (z : List step.Stmt). Lays text (means 0) (SomeStmts z ts.items) m n) same h in
+    rw (is, rest, begins) (spec.begin ts before g)
 
-pub end_laid : (means : Sense) (text : List ℕ) (items : List Item) (x : Item) (ss zs : List step.Stmt) (ts : Vec Stmt) (m n : List ℕ) (p q : Program)
-    → x ≡ part.End ss → zs ≡ ss → Lays text means (SomeStmts zs ts.items) m n → q.begin.items ≡ p.begin.items → q.rules.items ≡ p.rules.items → q.end.items ≡ p.end.items ++ tree.Block ts ∷ []
+pub end_laid : (means : ℕ → Sense) (text : List ℕ) (items : List Item) (x : Item) (ss zs : List step.Stmt) (ts : Vec Stmt) (m n : List ℕ) (p q : Program)
+    → x ≡ part.End ss → zs ≡ ss → Lays text (means 0) (SomeStmts zs ts.items) m n → q ≡ record p { end = q.end } → q.end.items ≡ p.end.items ++ tree.Block ts ∷ []
     → IsLaidWith text means items p m → IsLaidWith text means (items ++ x ∷ []) q n
-end_laid means text items x ss zs ts m n p q is same h begins rules ends before =
-    let g : Lays text means (SomeStmts ss ts.items) m n = subst (λ (z : List step.Stmt). Lays text means (SomeStmts z ts.items) m n) same h in
-    rw (is, begins, rules, ends) (spec.ending ts before g)
+end_laid means text items x ss zs ts m n p q is same h rest ends before =
+    let g : Lays text (means 0) (SomeStmts ss ts.items) m n = subst (λ (z : List step.Stmt). Lays text (means 0) (SomeStmts z ts.items) m n) same h in
+    rw (is, rest, ends) (spec.ending ts before g)
 
-pub always_laid : (means : Sense) (text u : List ℕ) (items : List Item) (x : Item) (left : ℕ) (ss zs : List step.Stmt) (ts : Vec Stmt) (k : ℕ) (old new : List ℕ) (n : List ℕ) (p q : Program)
-    → x ≡ part.Always left ss → zs ≡ ss → k ≡ length old → new ≡ sited text left old → u ≡ text → Lays u means (SomeStmts zs ts.items) new n
-    → q.begin.items ≡ p.begin.items → q.rules.items ≡ p.rules.items ++ rule_of k (expr.Number (pos 1)) (tree.Block ts) ∷ [] → q.end.items ≡ p.end.items
+pub always_laid : (means : ℕ → Sense) (text u : List ℕ) (items : List Item) (x : Item) (left : ℕ) (ss zs : List step.Stmt) (ts : Vec Stmt) (k : ℕ) (old new : List ℕ) (n : List ℕ) (p q : Program)
+    → x ≡ part.Always left ss → zs ≡ ss → k ≡ length old → new ≡ sited text left old → u ≡ text → Lays u (means 0) (SomeStmts zs ts.items) new n
+    → q ≡ record p { rules = q.rules } → q.rules.items ≡ p.rules.items ++ rule_of k (expr.Number (pos 1)) (tree.Block ts) ∷ []
     → IsLaidWith text means items p old → IsLaidWith text means (items ++ x ∷ []) q n
-always_laid means text u items x left ss zs ts k old new n p q is same count lines there h begins rules ends before =
-    let f : Lays text means (SomeStmts ss ts.items) new n = subst (λ (z : List step.Stmt). Lays text means (SomeStmts z ts.items) new n) same (subst (λ v. Lays v means (SomeStmts zs ts.items) new n) there h) in
-    let g : Lays text means (SomeStmts ss ts.items) (sited text left old) n = subst (λ l. Lays text means (SomeStmts ss ts.items) l n) lines f in
+always_laid means text u items x left ss zs ts k old new n p q is same count lines there h rest rules before =
+    let f : Lays text (means 0) (SomeStmts ss ts.items) new n = subst (λ (z : List step.Stmt). Lays text (means 0) (SomeStmts z ts.items) new n) same (subst (λ v. Lays v (means 0) (SomeStmts zs ts.items) new n) there h) in
+    let g : Lays text (means 0) (SomeStmts ss ts.items) (sited text left old) n = subst (λ l. Lays text (means 0) (SomeStmts ss ts.items) l n) lines f in
     let rules' : q.rules.items ≡ p.rules.items ++ rule_of (length old) (expr.Number (pos 1)) (tree.Block ts) ∷ [] = rules ∙ ap (λ c. p.rules.items ++ rule_of c (expr.Number (pos 1)) (tree.Block ts) ∷ []) count in
-    rw (is, begins, rules', ends) (spec.always left ts before g)
+    rw (is, rest, rules') (spec.always left ts before g)
 
-pub rule_laid : (means : Sense) (text : List ℕ) (items : List Item) (x : Item) (f g : Pattern) (y : Action) (r : Rule) (m n : List ℕ) (p q : Program)
-    → x ≡ part.Rule f y → g ≡ f → Rules text means g y r m n → q.begin.items ≡ p.begin.items → q.rules.items ≡ p.rules.items ++ r ∷ [] → q.end.items ≡ p.end.items
+pub rule_laid : (means : ℕ → Sense) (text : List ℕ) (items : List Item) (x : Item) (f g : Pattern) (y : Action) (r : Rule) (m n : List ℕ) (p q : Program)
+    → x ≡ part.Rule f y → g ≡ f → Rules text (means 0) p.ranges g y r m n → q ≡ record p { rules = q.rules; ranges = q.ranges } → q.ranges ≡ p.ranges + ranges_of g → q.rules.items ≡ p.rules.items ++ r ∷ []
     → IsLaidWith text means items p m → IsLaidWith text means (items ++ x ∷ []) q n
-rule_laid means text items x f g y r m n p q is same h begins rules ends before =
-    let k : Rules text means f y r m n = subst (λ z. Rules text means z y r m n) same h in
-    rw (is, begins, rules, ends) (spec.rule before k)
+rule_laid means text items x f g y r m n p q is same h rest ranges rules before =
+    let k : Rules text (means 0) p.ranges f y r m n = subst (λ z. Rules text (means 0) p.ranges z y r m n) same h in
+    let ranges' : q.ranges ≡ p.ranges + ranges_of f = ranges ∙ ap (λ z. p.ranges + ranges_of z) same in
+    rw (is, rest, ranges', rules) (spec.rule before k)
 
-pub item_laid : (means : Sense) (text u : List ℕ) (items : List Item) (i : ℕ) (x : Item) (m n : List ℕ) (p q : Program) → i < length items → x ≡ get_or items i x → u ≡ text
+pub function_laid : (means : ℕ → Sense) (text : List ℕ) (items : List Item) (x : Item) (left : ℕ) (name : Name) (parameters takes : List Name) (ss zs : List step.Stmt) (f : Function) (k : ℕ) (m n : List ℕ) (p q : Program)
+    → x ≡ part.Function left name parameters ss → takes ≡ parameters → zs ≡ ss → k ≡ length p.functions.items → Defines text (means (k + 1)) left name takes zs f m n → q ≡ record p { functions = q.functions } → q.functions.items ≡ p.functions.items ++ f ∷ []
+    → IsLaidWith text means items p m → IsLaidWith text means (items ++ x ∷ []) q n
+function_laid means text items x left name parameters takes ss zs f k m n p q is list same count h rest functions before =
+    let number : k + 1 ≡ suc (length p.functions.items) = omega (arith, count) in
+    let g : Defines text (means (k + 1)) left name parameters zs f m n = subst (λ (z : List Name). Defines text (means (k + 1)) left name z zs f m n) list h in
+    let g' : Defines text (means (k + 1)) left name parameters ss f m n = subst (λ (z : List step.Stmt). Defines text (means (k + 1)) left name parameters z f m n) same g in
+    let g'' : Defines text (means (suc (length p.functions.items))) left name parameters ss f m n = subst (λ z. Defines text (means z) left name parameters ss f m n) number g' in
+    rw (is, rest, functions) (spec.function left before g'')
+
+pub item_laid : (means : ℕ → Sense) (text u : List ℕ) (items : List Item) (i : ℕ) (x : Item) (m n : List ℕ) (p q : Program) → i < length items → x ≡ get_or items i x → u ≡ text
     → IsLaidWith text means (take i items) p m → ((found : List Item) → IsLaidWith u means found p m → IsLaidWith u means (found ++ x ∷ []) q n) → IsLaidWith text means (take (i + 1) items) q n
 item_laid means text u items i x m n p q h at there before next =
     let e : take (i + 1) items ≡ take i items ++ x ∷ [] = take_more items i x h ∙ ap (λ y. take i items ++ y ∷ []) (sym at) in

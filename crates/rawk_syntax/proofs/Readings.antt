@@ -15,7 +15,7 @@ use Rattle.rawk_names.specs.Noted.{Noted}
 use Rattle.rawk_names.specs.Items as naming
 use Rattle.rawk_names.specs.Named.{Known, IsNamed, IsRefused, meaning_of}
 use Rattle.rawk_names.proofs.Refusals.{refused_once, named_or_refused}
-use Rattle.rawk_syntax.specs.declared.tree.Program.{Program}
+use Rattle.rawk_tree.specs.declared.tree.Program.{Program}
 use Rattle.rawk_syntax.specs.Meant.{sense}
 use Rattle.rawk_syntax.specs.Covered.{Judges, program_gap}
 use Rattle.rawk_syntax.specs.Laid.{IsLaid}
@@ -24,21 +24,21 @@ use Rattle.rawk_syntax.specs.Texts.{IsSettled, IsReading, IsPlain, IsSettledAs, 
 -- ---- names in order
 
 -- names stand for what the program says, whatever is told of arrays
-senses : (noted : Noted) (a b : Known) → IsNamed noted a → IsNamed noted b → sense a 0 ≡ sense b 0
+senses : (noted : Noted) (a b : Known) → IsNamed noted a → IsNamed noted b → sense a ≡ sense b
 unfolding meaning_of
 senses noted a b h g =
-    ap (λ fs. sense (record a { functions = fs }) 0) (h.functions ∙ sym g.functions)
-    ∙ ap (λ ss. sense (record a { functions = b.functions; signatures = ss }) 0) (h.signatures ∙ sym g.signatures)
-    ∙ ap (λ vs. sense (record a { functions = b.functions; signatures = b.signatures; variables = vs }) 0) (h.variables ∙ sym g.variables)
+    ap (λ fs. sense (record a { functions = fs })) (h.functions ∙ sym g.functions)
+    ∙ ap (λ ss. sense (record a { functions = b.functions; signatures = ss })) (h.signatures ∙ sym g.signatures)
+    ∙ ap (λ vs. sense (record a { functions = b.functions; signatures = b.signatures; variables = vs })) (h.variables ∙ sym g.variables)
 
-gaps : (items : List Item) (a b : Known) → IsNamed (naming.program items) a → IsNamed (naming.program items) b → program_gap (sense a 0) items ≡ program_gap (sense b 0) items
+gaps : (items : List Item) (a b : Known) → IsNamed (naming.program items) a → IsNamed (naming.program items) b → program_gap (sense a) items ≡ program_gap (sense b) items
 gaps items a b h g = ap (λ means. program_gap means items) (senses (naming.program items) a b h g)
 
-unflawed : (items : List Item) (n : Known) → IsNamed (naming.program items) n → program_gap (sense n 0) items ≡ None → (e : ParseError) → AreFlawed items e → ⊥
+unflawed : (items : List Item) (n : Known) → IsNamed (naming.program items) n → program_gap (sense n) items ≡ None → (e : ParseError) → AreFlawed items e → ⊥
 unflawed items n h none e (inl m) = named_or_refused (naming.program items) n m.why m.some h m.misnamed
 unflawed items n h none e (inr g) = let no : None ≡ Some e = sym none ∙ gaps items n g.names h g.named ∙ g.gap in cc
 
-pub named_exact : (items : List Item) (n : Known) (r : Result Program ParseError) → IsNamed (naming.program items) n → Judges (program_gap (sense n 0) items) r → Tells (AreFlawed items) r
+pub named_exact : (items : List Item) (n : Known) (r : Result Program ParseError) → IsNamed (naming.program items) n → Judges (program_gap (sense n) items) r → Tells (AreFlawed items) r
 named_exact items n (Ok p) h none = unflawed items n h none
 named_exact items n (Err e) h some = λ ne. inr (record { names = n; named = h; gap = some ne })
 

@@ -15,14 +15,14 @@ use Rattle.rawk_parsing.specs.declared.tree.Link as join
 use Rattle.rawk_parsing.specs.declared.tree.Place as spot
 use Rattle.rawk_parsing.specs.declared.tree.Place.TheVariants as from_place
 use Rattle.rawk_expression.specs.Expression.{link}
-use Rattle.rawk_syntax.specs.declared.tree.Expr.{Expr}
-use Rattle.rawk_syntax.specs.declared.tree.Expr.TheVariants as tree
-use Rattle.rawk_syntax.specs.declared.tree.Joiner.{Joiner}
-use Rattle.rawk_syntax.specs.declared.tree.Joiner.TheVariants as joiner
-use Rattle.rawk_syntax.specs.declared.tree.Link.{Link}
-use Rattle.rawk_syntax.specs.declared.tree.Link.TheVariants as tree_link
-use Rattle.rawk_syntax.specs.declared.tree.Place.{Place}
-use Rattle.rawk_syntax.specs.declared.tree.Place.TheVariants as tree_place
+use Rattle.rawk_tree.specs.declared.tree.Expr.{Expr}
+use Rattle.rawk_tree.specs.declared.tree.Expr.TheVariants as tree
+use Rattle.rawk_tree.specs.declared.tree.Joiner.{Joiner}
+use Rattle.rawk_tree.specs.declared.tree.Joiner.TheVariants as joiner
+use Rattle.rawk_tree.specs.declared.tree.Link.{Link}
+use Rattle.rawk_tree.specs.declared.tree.Link.TheVariants as tree_link
+use Rattle.rawk_tree.specs.declared.tree.Place.{Place}
+use Rattle.rawk_tree.specs.declared.tree.Place.TheVariants as tree_place
 use Rattle.rawk_syntax.specs.Covered.{place_cover, joiner_of}
 use Rattle.rawk_syntax.specs.Settled as spec
 use Rattle.rawk_syntax.specs.Meant.{Sense}
@@ -98,8 +98,8 @@ pub update_settles : (m : Sense) (operator : Arithmetic) (e x y : parsed.Expr) (
     → e ≡ from.Assign (setting.Update operator) p x → (place_cover m p).sets ≡ true → y ≡ x → value.value ≡ s → Settles m (APlace p q) → Settles m (AnExpr y s) → Settles m (AnExpr e (tree.Update operator q value))
 update_settles m operator e x y p q s value is free same held h g = rw is (spec.update value free h (boxed m x y s value same held g))
 
-pub name_settles : (m : Sense) (p : spot.Place) (n : word.Name) (v : List ℕ) (s : Place) → p ≡ from_place.Name n → v ≡ n.word → Some s ≡ m v → Settles m (APlace p s)
-name_settles m p n v s is same h = rw is (spec.name (ap m (sym same) ∙ sym h))
+pub name_settles : (m : Sense) (p : spot.Place) (n : word.Name) (v : List ℕ) (s : Place) → p ≡ from_place.Name n → v ≡ n.word → Some s ≡ m.place v → Settles m (APlace p s)
+name_settles m p n v s is same h = rw is (spec.name (ap m.place (sym same) ∙ sym h))
 
 pub field_settles : (m : Sense) (p : spot.Place) (x y : parsed.Expr) (s : Expr) (number : Box Expr)
     → p ≡ from_place.Field x → y ≡ x → number.value ≡ s → Settles m (AnExpr y s) → Settles m (APlace p (tree_place.Field number))
@@ -124,6 +124,12 @@ expr_settles m xs i x y ys zs s h held same more g f' =
     let f : Settles m (AnExpr x s) = subst (λ (z : parsed.Expr). Settles m (AnExpr z s)) same f' in
     let t : take (i + 1) xs ≡ take i xs ++ x ∷ [] = take_more xs i x h ∙ ap (λ y. take i xs ++ y ∷ []) (sym held) in
     rw (t, more) (spec.an_expr g f)
+
+pub call_settles : (m : Sense) (e : parsed.Expr) (n : word.Name) (w : List ℕ) (f : ℕ) (xs ys : List parsed.Expr) (ss : Vec Expr)
+    → e ≡ from.Call n xs → w ≡ n.word → Some f ≡ m.function w → ys ≡ xs → Settles m (SomeExprs ys ss.items) → Settles m (AnExpr e (tree.Call f ss))
+call_settles m e n w f xs ys ss is same found all h =
+    let g : Settles m (SomeExprs xs ss.items) = subst (λ (zs : List parsed.Expr). Settles m (SomeExprs zs ss.items)) all h in
+    rw is (spec.call ss (ap m.function (sym same) ∙ sym found) g)
 
 pub all_printed : (m : Sense) (es : List parsed.Expr) (ss : List Expr) → length es ≢ 0 → Settles m (SomeExprs es ss) → spec.Prints m es ss
 all_printed m [] ss h g = absurd (h refl)

@@ -1,5 +1,5 @@
 -- What of the parser's tree the settled tree has, and where the rest is refused.
-use Rattle.std.specs.Prelude.{◌≡◌, ◌≢◌, ℕ, Bool, true, false, not, ◌&&◌, List, [], ◌∷◌, Option, Some, None, Result, Ok, Err}
+use Rattle.std.specs.Prelude.{◌≡◌, ◌≢◌, ℕ, suc, Bool, true, false, not, ◌&&◌, List, [], ◌∷◌, Option, Some, None, Result, Ok, Err}
 use Rattle.rawk_parsing.specs.declared.refusal.RefusalKind.TheVariants.{LeftOut}
 use Rattle.rawk_parsing.specs.declared.parse_error.ParseError.{ParseError}
 use Rattle.rawk_parsing.specs.declared.parse_error.ParseError.TheVariants.{OutOfMemory, Here}
@@ -28,9 +28,9 @@ use Rattle.rawk_grammar.specs.declared.tree.Action.TheVariants as does
 use Rattle.rawk_grammar.specs.declared.tree.Item.{Item}
 use Rattle.rawk_grammar.specs.declared.tree.Item.TheVariants as part
 use Rattle.rawk_special.specs.Special.{is_special}
-use Rattle.rawk_syntax.specs.declared.tree.Joiner.{Joiner}
-use Rattle.rawk_syntax.specs.declared.tree.Joiner.TheVariants as joiner
-use Rattle.rawk_syntax.specs.Meant.{Sense, stands}
+use Rattle.rawk_tree.specs.declared.tree.Joiner.{Joiner}
+use Rattle.rawk_tree.specs.declared.tree.Joiner.TheVariants as joiner
+use Rattle.rawk_syntax.specs.Meant.{Sense, is_there}
 
 -- an answer of what is refused so, or not: memory may also be refused
 abbrev pub Judges : {A : Type 0} → Option ParseError → Result A ParseError → Type 0
@@ -85,24 +85,26 @@ joins _ = false
 abbrev pub can_change : Cover → Bool
 can_change p = p.sets && p.reads
 
-abbrev pub expr_step : Expr-F Bool Cover Bool → Bool
-expr_step (expr.Number n) = true
-expr_step (expr.Text w) = true
-expr_step (expr.Of p) = p.reads
-expr_step (expr.Group e) = e
-expr_step (expr.Signed s e) = e
-expr_step (expr.Power e f) = e && f
-expr_step (expr.Chain e ls) = e && each (λ b. b) ls
-expr_step (expr.Logic l es) = each (λ b. b) es
-expr_step (expr.Choice e f g) = e && (f && g)
-expr_step (expr.Before c p) = can_change p
-expr_step (expr.After c p) = can_change p
-expr_step (expr.Assign how p e) = p.sets && (p.reads && e)
-expr_step _ = false
+-- by what names stand for; a call is one of a function of the program
+abbrev pub expr_step : Sense → Expr-F Bool Cover Bool → Bool
+expr_step means (expr.Number n) = true
+expr_step means (expr.Text w) = true
+expr_step means (expr.Of p) = p.reads
+expr_step means (expr.Group e) = e
+expr_step means (expr.Signed s e) = e
+expr_step means (expr.Power e f) = e && f
+expr_step means (expr.Chain e ls) = e && each (λ b. b) ls
+expr_step means (expr.Logic l es) = each (λ b. b) es
+expr_step means (expr.Choice e f g) = e && (f && g)
+expr_step means (expr.Before c p) = can_change p
+expr_step means (expr.After c p) = can_change p
+expr_step means (expr.Assign how p e) = p.sets && (p.reads && e)
+expr_step means (expr.Call n es) = is_there (means.function n.word) && each (λ b. b) es
+expr_step means _ = false
 
--- by what names stand for; what can be assigned is a name that is not special
+-- what can be assigned is a name that is not special
 abbrev pub place_step : Sense → Place-F Bool Cover Bool → Cover
-place_step means (expr.Name n) = record { reads = stands (means n.word); sets = not (is_special n.word) }
+place_step means (expr.Name n) = record { reads = is_there (means.place n.word); sets = not (is_special n.word) }
 place_step means (expr.Field e) = record { reads = e; sets = false }
 place_step means (expr.Element n es) = record { reads = false; sets = false }
 
@@ -111,13 +113,13 @@ link_step l = joins l.operator && l.operand
 
 -- whether the settled tree has the expression
 unfoldable pub covers : Sense → Expr → Bool
-covers means e = fold-Expr Bool Cover Bool expr_step (place_step means) link_step e
+covers means e = fold-Expr Bool Cover Bool (expr_step means) (place_step means) link_step e
 
 unfoldable pub place_cover : Sense → Place → Cover
-place_cover means p = fold-Place Bool Cover Bool expr_step (place_step means) link_step p
+place_cover means p = fold-Place Bool Cover Bool (expr_step means) (place_step means) link_step p
 
 unfoldable pub covers_link : Sense → Link → Bool
-covers_link means l = fold-Link Bool Cover Bool expr_step (place_step means) link_step l
+covers_link means l = fold-Link Bool Cover Bool (expr_step means) (place_step means) link_step l
 
 -- ---- statements, from what their parts are
 
@@ -129,10 +131,9 @@ act_gap means left _ = left_out left
 abbrev pub simple_gap : Sense → Simple → Option ParseError
 simple_gap means s = act_gap means s.left s.act
 
--- the settled tree has no `return` yet
 abbrev pub jump_gap : Sense → ℕ → Jump → Option ParseError
 jump_gap means left (jump.Exit (Some e)) = unless (covers means e) left
-jump_gap means left (jump.Return e) = left_out left
+jump_gap means left (jump.Return (Some e)) = unless (covers means e) left
 jump_gap means left _ = None
 
 abbrev pub condition_gap : Sense → Condition → Option ParseError
@@ -192,15 +193,25 @@ action_gap means (does.Given ss) = first_of (gap means) ss
 
 abbrev pub rule_gap : Sense → Pattern → Action → Option ParseError
 rule_gap means (guard.When left e) a = or_then (unless (covers means e) left) (action_gap means a)
-rule_gap means (guard.Range left e f) a = left_out left
+rule_gap means (guard.Range left e f) a = or_then (unless (covers means e && covers means f) left) (action_gap means a)
 
-abbrev pub item_gap : Sense → Item → Option ParseError
-item_gap means (part.Begin ss) = first_of (gap means) ss
-item_gap means (part.End ss) = first_of (gap means) ss
-item_gap means (part.Always left ss) = first_of (gap means) ss
-item_gap means (part.Rule p a) = rule_gap means p a
-item_gap means (part.Function left n ns ss) = left_out left
+-- an item behind so many functions; inside a function the scope is one more than its number
+abbrev pub item_gap : (ℕ → Sense) → ℕ → Item → Option ParseError
+item_gap means functions (part.Begin ss) = first_of (gap (means 0)) ss
+item_gap means functions (part.End ss) = first_of (gap (means 0)) ss
+item_gap means functions (part.Always left ss) = first_of (gap (means 0)) ss
+item_gap means functions (part.Rule p a) = rule_gap (means 0) p a
+item_gap means functions (part.Function left n ns ss) = first_of (gap (means (suc functions))) ss
+
+abbrev pub functions_behind : Item → ℕ → ℕ
+functions_behind (part.Function left n ns ss) functions = suc functions
+functions_behind _ functions = functions
+
+-- the refusal of the first part of several items that is left out, behind so many functions
+abbrev pub gap_from : (ℕ → Sense) → ℕ → List Item → Option ParseError
+gap_from means functions [] = None
+gap_from means functions (item ∷ items) = or_then (item_gap means functions item) (gap_from means (functions_behind item functions) items)
 
 -- the refusal of the first part of a program that is left out, if there is one
-abbrev pub program_gap : Sense → List Item → Option ParseError
-program_gap means items = first_of (item_gap means) items
+abbrev pub program_gap : (ℕ → Sense) → List Item → Option ParseError
+program_gap means items = gap_from means 0 items

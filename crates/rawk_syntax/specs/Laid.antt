@@ -1,8 +1,9 @@
 -- How the settled tree of statements and items comes from the parser's, with the sites of their points.
-use Rattle.std.specs.Prelude.{◌≡◌, ℕ, pos, List, [], ◌∷◌, ◌++◌, length, Option, None, Some}
+use Rattle.std.specs.Prelude.{◌≡◌, ℕ, ◌+◌, suc, pos, List, [], ◌∷◌, ◌++◌, length, map, Option, None, Some}
 use Rattle.std.specs.Global.{Box, Vec}
 use Rattle.rawk_lexer.specs.Lines.{line_of}
 use Rattle.rawk_parsing.specs.declared.tree.Expr as parsed
+use Rattle.rawk_parsing.specs.declared.tree.Name.{Name}
 use Rattle.rawk_grammar.specs.declared.tree.Act.TheVariants as act
 use Rattle.rawk_grammar.specs.declared.tree.Simple.{Simple}
 use Rattle.rawk_grammar.specs.declared.tree.Jump.{Jump}
@@ -19,15 +20,16 @@ use Rattle.rawk_grammar.specs.declared.tree.Action.TheVariants as does
 use Rattle.rawk_grammar.specs.declared.tree.Item.{Item}
 use Rattle.rawk_grammar.specs.declared.tree.Item.TheVariants as part
 use Rattle.rawk_grammar.specs.Statement.{simple_at}
-use Rattle.rawk_syntax.specs.declared.tree.Expr.{Expr}
-use Rattle.rawk_syntax.specs.declared.tree.Expr.TheVariants as expr
-use Rattle.rawk_syntax.specs.declared.tree.Stmt.{Stmt}
-use Rattle.rawk_syntax.specs.declared.tree.Stmt.TheVariants as tree
-use Rattle.rawk_syntax.specs.declared.tree.Branch.{Branch}
+use Rattle.rawk_tree.specs.declared.tree.Expr.{Expr}
+use Rattle.rawk_tree.specs.declared.tree.Expr.TheVariants as expr
+use Rattle.rawk_tree.specs.declared.tree.Stmt.{Stmt}
+use Rattle.rawk_tree.specs.declared.tree.Stmt.TheVariants as tree
+use Rattle.rawk_tree.specs.declared.tree.Branch.{Branch}
 use Rattle.rawk_syntax.specs.declared.statements.LoopHead.{LoopHead}
-use Rattle.rawk_syntax.specs.declared.tree.Guard.TheVariants as tree_guard
-use Rattle.rawk_syntax.specs.declared.tree.Rule.{Rule}
-use Rattle.rawk_syntax.specs.declared.tree.Program.{Program}
+use Rattle.rawk_tree.specs.declared.tree.Guard.TheVariants as tree_guard
+use Rattle.rawk_tree.specs.declared.tree.Rule.{Rule}
+use Rattle.rawk_tree.specs.declared.tree.Function.{Function}
+use Rattle.rawk_tree.specs.declared.tree.Program.{Program}
 use Rattle.rawk_names.specs.Named.{Known}
 use Rattle.rawk_syntax.specs.Meant.{Sense, sense, global_words}
 use Rattle.rawk_syntax.specs.Settled.{Settles, AnExpr, Prints}
@@ -48,12 +50,18 @@ pub data Exits (means : Sense) : ℕ → Option parsed.Expr → Stmt → Type 0 
   bare : (site : ℕ) → Exits means site None (tree.Exit site)
   with_status : {e : parsed.Expr} {s : Expr} (site : ℕ) → Settles means (AnExpr e s) → Exits means site (Some e) (tree.ExitWith site s)
 
+-- a `return` with its site, and a value where one is given
+pub data Returns (means : Sense) : ℕ → Option parsed.Expr → Stmt → Type 0 where
+  no_value : (site : ℕ) → Returns means site None (tree.Return site)
+  with_value : {e : parsed.Expr} {s : Expr} (site : ℕ) → Settles means (AnExpr e s) → Returns means site (Some e) (tree.ReturnWith site s)
+
 -- A jump, whose site is the next one.
 pub data Jumps (text : List ℕ) (means : Sense) : ℕ → Jump → Stmt → List ℕ → List ℕ → Type 0 where
   breaks : {lines : List ℕ} (left : ℕ) → Jumps text means left jump.Break (tree.Break (length lines)) lines (sited text left lines)
   continues : {lines : List ℕ} (left : ℕ) → Jumps text means left jump.Continue (tree.Continue (length lines)) lines (sited text left lines)
   goes_next : {lines : List ℕ} (left : ℕ) → Jumps text means left jump.Next (tree.Next (length lines)) lines (sited text left lines)
   exits : {o : Option parsed.Expr} {t : Stmt} {lines : List ℕ} (left : ℕ) → Exits means (length lines) o t → Jumps text means left (jump.Exit o) t lines (sited text left lines)
+  returns : {o : Option parsed.Expr} {t : Stmt} {lines : List ℕ} (left : ℕ) → Returns means (length lines) o t → Jumps text means left (jump.Return o) t lines (sited text left lines)
 
 -- the condition of a `for`: a missing one is the number 1
 pub data Tests (means : Sense) : Option parsed.Expr → Expr → Type 0 where
@@ -123,33 +131,59 @@ pub data Does (text : List ℕ) (means : Sense) : Action → Stmt → List ℕ �
 abbrev pub rule_of : ℕ → Expr → Stmt → Rule
 rule_of site test action = record { site = site; guard = tree_guard.When test; action = action }
 
--- a rule with a pattern, whose first site is that of its test
-pub data Rules (text : List ℕ) (means : Sense) : Pattern → Action → Rule → List ℕ → List ℕ → Type 0 where
-  when : {e : parsed.Expr} {s : Expr} {x : Action} {t : Stmt} {lines n : List ℕ} (left : ℕ)
-      → Settles means (AnExpr e s) → Does text means x t (sited text left lines) n → Rules text means (guard.When left e) x (rule_of (length lines) s t) lines n
+-- with the number of the range's flag
+abbrev pub range_of : ℕ → ℕ → Expr → Expr → Stmt → Rule
+range_of site flag first last action = record { site = site; guard = tree_guard.Between flag first last; action = action }
 
--- the items of a program, in the order of the text
-pub data Sorts (text : List ℕ) (means : Sense) : List Item → List Stmt → List Rule → List Stmt → List ℕ → Type 0 where
-  no_item : Sorts text means [] [] [] [] []
-  begin : {items : List Item} {begins ends : List Stmt} {rules : List Rule} {ss : List step.Stmt} {m n : List ℕ} (ts : Vec Stmt)
-      → Sorts text means items begins rules ends m → Lays text means (SomeStmts ss ts.items) m n
-      → Sorts text means (items ++ part.Begin ss ∷ []) (begins ++ tree.Block ts ∷ []) rules ends n
-  ending : {items : List Item} {begins ends : List Stmt} {rules : List Rule} {ss : List step.Stmt} {m n : List ℕ} (ts : Vec Stmt)
-      → Sorts text means items begins rules ends m → Lays text means (SomeStmts ss ts.items) m n
-      → Sorts text means (items ++ part.End ss ∷ []) begins rules (ends ++ tree.Block ts ∷ []) n
+-- A rule with a pattern behind so many ranges. Its first site is that of its test.
+pub data Rules (text : List ℕ) (means : Sense) (ranges : ℕ) : Pattern → Action → Rule → List ℕ → List ℕ → Type 0 where
+  when : {e : parsed.Expr} {s : Expr} {x : Action} {t : Stmt} {lines n : List ℕ} (left : ℕ)
+      → Settles means (AnExpr e s) → Does text means x t (sited text left lines) n → Rules text means ranges (guard.When left e) x (rule_of (length lines) s t) lines n
+  between : {e f : parsed.Expr} {s u : Expr} {x : Action} {t : Stmt} {lines n : List ℕ} (left : ℕ)
+      → Settles means (AnExpr e s) → Settles means (AnExpr f u) → Does text means x t (sited text left lines) n → Rules text means ranges (guard.Range left e f) x (range_of (length lines) ranges s u t) lines n
+
+-- how many ranges a pattern is
+abbrev pub ranges_of : Pattern → ℕ
+ranges_of (guard.When left e) = 0
+ranges_of (guard.Range left e f) = 1
+
+abbrev pub words_of : List Name → List (List ℕ)
+words_of names = map (λ (n : Name). n.word) names
+
+-- A function's parts, from those of the text. The site of its entry is at the token `function`, before those of its body.
+pub record Defines (text : List ℕ) (means : Sense) (left : ℕ) (name : Name) (parameters : List Name) (ss : List step.Stmt) (f : Function) (m n : List ℕ) : Type 0 where
+  pub called : f.name ≡ name.word
+  pub takes : f.parameters.items ≡ words_of parameters
+  pub site : f.site ≡ length m
+  pub steps : Vec Stmt
+  pub block : f.body ≡ tree.Block steps
+  pub body : Lays text means (SomeStmts ss steps.items) (sited text left m) n
+
+-- The items of a program, in the order of the text. Inside a function the scope is one more than the number of functions before it.
+pub data Sorts (text : List ℕ) (means : ℕ → Sense) : List Item → List Function → ℕ → List Stmt → List Rule → List Stmt → List ℕ → Type 0 where
+  no_item : Sorts text means [] [] 0 [] [] [] []
+  begin : {items : List Item} {functions : List Function} {ranges : ℕ} {begins ends : List Stmt} {rules : List Rule} {ss : List step.Stmt} {m n : List ℕ} (ts : Vec Stmt)
+      → Sorts text means items functions ranges begins rules ends m → Lays text (means 0) (SomeStmts ss ts.items) m n
+      → Sorts text means (items ++ part.Begin ss ∷ []) functions ranges (begins ++ tree.Block ts ∷ []) rules ends n
+  ending : {items : List Item} {functions : List Function} {ranges : ℕ} {begins ends : List Stmt} {rules : List Rule} {ss : List step.Stmt} {m n : List ℕ} (ts : Vec Stmt)
+      → Sorts text means items functions ranges begins rules ends m → Lays text (means 0) (SomeStmts ss ts.items) m n
+      → Sorts text means (items ++ part.End ss ∷ []) functions ranges begins rules (ends ++ tree.Block ts ∷ []) n
   -- a missing pattern is the number 1, and its site is at the brace
-  always : {items : List Item} {begins ends : List Stmt} {rules : List Rule} {ss : List step.Stmt} {lines n : List ℕ} (left : ℕ) (ts : Vec Stmt)
-      → Sorts text means items begins rules ends lines → Lays text means (SomeStmts ss ts.items) (sited text left lines) n
-      → Sorts text means (items ++ part.Always left ss ∷ []) begins (rules ++ rule_of (length lines) (expr.Number (pos 1)) (tree.Block ts) ∷ []) ends n
-  rule : {items : List Item} {begins ends : List Stmt} {rules : List Rule} {p : Pattern} {x : Action} {r : Rule} {m n : List ℕ}
-      → Sorts text means items begins rules ends m → Rules text means p x r m n
-      → Sorts text means (items ++ part.Rule p x ∷ []) begins (rules ++ r ∷ []) ends n
+  always : {items : List Item} {functions : List Function} {ranges : ℕ} {begins ends : List Stmt} {rules : List Rule} {ss : List step.Stmt} {lines n : List ℕ} (left : ℕ) (ts : Vec Stmt)
+      → Sorts text means items functions ranges begins rules ends lines → Lays text (means 0) (SomeStmts ss ts.items) (sited text left lines) n
+      → Sorts text means (items ++ part.Always left ss ∷ []) functions ranges begins (rules ++ rule_of (length lines) (expr.Number (pos 1)) (tree.Block ts) ∷ []) ends n
+  rule : {items : List Item} {functions : List Function} {ranges : ℕ} {begins ends : List Stmt} {rules : List Rule} {p : Pattern} {x : Action} {r : Rule} {m n : List ℕ}
+      → Sorts text means items functions ranges begins rules ends m → Rules text (means 0) ranges p x r m n
+      → Sorts text means (items ++ part.Rule p x ∷ []) functions (ranges + ranges_of p) begins (rules ++ r ∷ []) ends n
+  function : {items : List Item} {functions : List Function} {ranges : ℕ} {begins ends : List Stmt} {rules : List Rule} {name : Name} {parameters : List Name} {ss : List step.Stmt} {f : Function} {m n : List ℕ} (left : ℕ)
+      → Sorts text means items functions ranges begins rules ends m → Defines text (means (suc (length functions))) left name parameters ss f m n
+      → Sorts text means (items ++ part.Function left name parameters ss ∷ []) (functions ++ f ∷ []) ranges begins rules ends n
 
 -- The program's parts are those of these items of the text, and these are the lines of its sites.
-abbrev pub IsLaidWith : List ℕ → Sense → List Item → Program → List ℕ → Type 0
-IsLaidWith text means items p lines = Sorts text means items p.begin.items p.rules.items p.end.items lines
+abbrev pub IsLaidWith : List ℕ → (ℕ → Sense) → List Item → Program → List ℕ → Type 0
+IsLaidWith text means items p lines = Sorts text means items p.functions.items p.ranges p.begin.items p.rules.items p.end.items lines
 
 -- The program is that of these items, by what is known of their names: its sites are in the order of the text.
 pub record IsLaid (text : List ℕ) (names : Known) (items : List Item) (p : Program) : Type 0 where
-  pub sorted : IsLaidWith text (sense names 0) items p p.lines.items
+  pub sorted : IsLaidWith text (sense names) items p p.lines.items
   pub named : p.names.items ≡ global_words names

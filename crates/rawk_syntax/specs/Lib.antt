@@ -1,6 +1,5 @@
 pub mod Meant
 pub mod Covered
 pub mod Settled
-pub mod Sites
 pub mod Laid
 pub mod Texts

@@ -1,40 +1,56 @@
 -- What names stand for in the settled tree.
-use Rattle.std.specs.Prelude.{ℕ, Bool, true, false, List, map, Option, Some, None}
-use Rattle.rawk_keys.specs.ArrayKey.{ArrayKey}
+use Rattle.std.specs.Prelude.{ℕ, ◌-◌, Bool, true, false, List, map, slice_get, Option, Some, None}
+use Rattle.rawk_keys.specs.ArrayKey.{ArrayKey, array_key}
 use Rattle.rawk_names.specs.declared.names.Meaning.{Meaning}
 use Rattle.rawk_names.specs.declared.names.Meaning.TheVariants as meaning
 use Rattle.rawk_names.specs.declared.names.Variable.{Variable}
 use Rattle.rawk_names.specs.declared.names.Variable.TheVariants as variable
+use Rattle.rawk_names.specs.declared.usage.Signature.{Signature}
 use Rattle.rawk_names.specs.Named.{Known, known, meaning_of, variable_of, own_globals}
+use Rattle.rawk_names.specs.Table.{place_of}
 use Rattle.rawk_syntax.specs.declared.scope.Scope.{Scope}
-use Rattle.rawk_syntax.specs.declared.tree.Place.{Place}
-use Rattle.rawk_syntax.specs.declared.tree.Place.TheVariants as place
+use Rattle.rawk_tree.specs.declared.tree.Place.{Place}
+use Rattle.rawk_tree.specs.declared.tree.Place.TheVariants as place
 
--- what each name stands for, if the settled tree has it
-abbrev pub Sense : Type 0
-Sense = List ℕ → Option Place
+-- what each name stands for: a place, where the settled tree has it, or the number of a function
+pub record Sense : Type 0 where
+  pub place : List ℕ → Option Place
+  pub function : List ℕ → Option ℕ
 
--- it has no parameters yet
-abbrev pub variable_place : Variable → Option Place
-variable_place variable.FieldCount = Some place.FieldCount
-variable_place (variable.Global n) = Some (place.Global n)
-variable_place (variable.Parameter v) = None
+-- where the parameters of a function stand among all variables
+abbrev pub first_of_all : Option Signature → ℕ
+first_of_all None = 0
+first_of_all (Some s) = s.first
 
-abbrev pub place_at : Known → Option Meaning → Option Place
-place_at names None = None
-place_at names (Some (meaning.Function f)) = None
-place_at names (Some (meaning.Variable v)) = variable_place (variable_of names v)
+-- in a scope: 0 is outside functions, in a function it is one more than its number
+abbrev pub first_parameter : Known → ℕ → ℕ
+first_parameter names scope = first_of_all (slice_get names.signatures (scope - 1))
 
--- by what is known of the names of a program, in a scope: 0 is outside functions
+-- a parameter is a local, and the first one is local 0
+abbrev pub variable_place : Known → ℕ → Variable → Place
+variable_place names scope variable.FieldCount = place.FieldCount
+variable_place names scope (variable.Global n) = place.Global n
+variable_place names scope (variable.Parameter v) = place.Local (v - first_parameter names scope)
+
+abbrev pub place_at : Known → ℕ → Option Meaning → Option Place
+place_at names scope None = None
+place_at names scope (Some (meaning.Function f)) = None
+place_at names scope (Some (meaning.Variable v)) = Some (variable_place names scope (variable_of names v))
+
+-- functions have numbers from 0, in the order of the text
+abbrev pub function_of : Known → List ℕ → Option ℕ
+function_of names word = place_of (array_key 0 word) names.functions
+
+-- by what is known of the names of a program, in each scope
 abbrev pub sense : Known → ℕ → Sense
-sense names scope = λ word. place_at names (meaning_of names scope word)
+sense names scope = record { place = λ word. place_at names scope (meaning_of names scope word); function = function_of names }
 
 abbrev pub sense_of : Scope → Sense
 sense_of s = sense (known s.names.now) s.number
 
-abbrev pub stands : Option Place → Bool
-stands None = false
-stands (Some p) = true
+abbrev pub is_there : {A : Type 0} → Option A → Bool
+is_there None = false
+is_there (Some a) = true
 
 -- the names of the globals that are not special, in the order in which they appear
 abbrev pub global_words : Known → List (List ℕ)

@@ -17,14 +17,14 @@ use Rattle.rawk_parsing.specs.declared.tree.Link as join
 use Rattle.rawk_parsing.specs.declared.tree.Place as spot
 use Rattle.rawk_parsing.specs.declared.tree.Place.TheVariants as from_place
 use Rattle.rawk_expression.specs.Expression.{link}
-use Rattle.rawk_syntax.specs.declared.tree.Expr.{Expr}
-use Rattle.rawk_syntax.specs.declared.tree.Expr.TheVariants as tree
-use Rattle.rawk_syntax.specs.declared.tree.Joiner.{Joiner}
-use Rattle.rawk_syntax.specs.declared.tree.Joiner.TheVariants as joiner
-use Rattle.rawk_syntax.specs.declared.tree.Link.{Link}
-use Rattle.rawk_syntax.specs.declared.tree.Link.TheVariants as tree_link
-use Rattle.rawk_syntax.specs.declared.tree.Place.{Place}
-use Rattle.rawk_syntax.specs.declared.tree.Place.TheVariants as tree_place
+use Rattle.rawk_tree.specs.declared.tree.Expr.{Expr}
+use Rattle.rawk_tree.specs.declared.tree.Expr.TheVariants as tree
+use Rattle.rawk_tree.specs.declared.tree.Joiner.{Joiner}
+use Rattle.rawk_tree.specs.declared.tree.Joiner.TheVariants as joiner
+use Rattle.rawk_tree.specs.declared.tree.Link.{Link}
+use Rattle.rawk_tree.specs.declared.tree.Link.TheVariants as tree_link
+use Rattle.rawk_tree.specs.declared.tree.Place.{Place}
+use Rattle.rawk_tree.specs.declared.tree.Place.TheVariants as tree_place
 use Rattle.rawk_syntax.specs.Meant.{Sense}
 use Rattle.rawk_syntax.specs.Covered.{place_cover, joiner_of}
 
@@ -72,7 +72,8 @@ pub data Settles (means : Sense) : Pair → Type 0 where
       → (place_cover means p).sets ≡ true → Settles means (APlace p q) → Settles means (AnExpr e s.value) → Settles means (AnExpr (from.Assign setting.Plain p e) (tree.Assign q s))
   update : {operator : Arithmetic} {p : spot.Place} {q : Place} {e : parsed.Expr} (s : Box Expr)
       → (place_cover means p).sets ≡ true → Settles means (APlace p q) → Settles means (AnExpr e s.value) → Settles means (AnExpr (from.Assign (setting.Update operator) p e) (tree.Update operator q s))
-  name : {n : word.Name} {q : Place} → means n.word ≡ Some q → Settles means (APlace (from_place.Name n) q)
+  call : {n : word.Name} {es : List parsed.Expr} {f : ℕ} (ss : Vec Expr) → means.function n.word ≡ Some f → Settles means (SomeExprs es ss.items) → Settles means (AnExpr (from.Call n es) (tree.Call f ss))
+  name : {n : word.Name} {q : Place} → means.place n.word ≡ Some q → Settles means (APlace (from_place.Name n) q)
   field : {e : parsed.Expr} (s : Box Expr) → Settles means (AnExpr e s.value) → Settles means (APlace (from_place.Field e) (tree_place.Field s))
   no_links : Settles means (SomeLinks [] [])
   a_link : {xs : List join.Link} {ys : List Link} {s : Expr} (operator : Operator) (j : Joiner) (e : parsed.Expr)

@@ -15,7 +15,7 @@ use Rattle.rawk_names.specs.declared.names.NameError.{NameError}
 use Rattle.rawk_names.specs.declared.names.NameError.TheVariants as misused
 use Rattle.rawk_names.specs.Items as naming
 use Rattle.rawk_names.specs.Named.{Known, IsNamed, IsRefused}
-use Rattle.rawk_syntax.specs.declared.tree.Program.{Program}
+use Rattle.rawk_tree.specs.declared.tree.Program.{Program}
 use Rattle.rawk_syntax.specs.Meant.{sense}
 use Rattle.rawk_syntax.specs.Covered.{program_gap}
 use Rattle.rawk_syntax.specs.Laid.{IsLaid}
@@ -48,7 +48,7 @@ pub record IsPlain (text : List ℕ) (items : List Item) : Type 0 where
   pub derived : plain.IsPlainText (OPEN_CONSTRUCTS + 1) items text
   pub names : Known
   pub named : IsNamed (naming.program items) names
-  pub covered : program_gap (sense names 0) items ≡ None
+  pub covered : program_gap (sense names) items ≡ None
 
 -- the answer is a program of these items, or memory was refused
 abbrev pub IsSettledAs : List ℕ → List Item → Result Program ParseError → Type 0
@@ -78,7 +78,7 @@ pub record IsMisnamed (items : List Item) (e : ParseError) : Type 0 where
 pub record IsLeftOut (items : List Item) (e : ParseError) : Type 0 where
   pub names : Known
   pub named : IsNamed (naming.program items) names
-  pub gap : program_gap (sense names 0) items ≡ Some e
+  pub gap : program_gap (sense names) items ≡ Some e
 
 -- items are refused by their names, or else for what the settled tree does not have
 abbrev pub AreFlawed : List Item → ParseError → Type 0

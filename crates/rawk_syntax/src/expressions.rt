@@ -3,19 +3,19 @@
 ghost use Rattle.std.specs.Prelude.{◌≡◌, IfOk, true};
 ghost use Rattle.rawk_parsing.specs.declared.parse_error.ParseError.TheVariants.{Here};
 ghost use Rattle.rawk_parsing.specs.declared.refusal.RefusalKind.TheVariants as refused;
-ghost use Rattle.rawk_syntax.specs.declared.tree.Expr.TheVariants as tree;
+ghost use Rattle.rawk_tree.specs.declared.tree.Expr.TheVariants as tree;
 ghost use Rattle.rawk_syntax.specs.Covered as cover;
 ghost use Rattle.rawk_syntax.specs.Covered.{Judges, unless};
 ghost use Rattle.rawk_syntax.specs.Meant.{Sense, sense_of};
 ghost use Rattle.rawk_syntax.specs.Settled.{Settles, AnExpr, APlace, SomeLinks, SomeTests, SomeExprs, Prints, operator_of, neutral};
 
 use crate::growth::{boxed, push};
-use crate::scope::{Scope, meant};
-use crate::tree::{Expr, Joiner, Link, Place};
+use crate::scope::{Scope, called, meant};
 use rawk_items::Boxed;
 use rawk_parsing::tree::{Assignment, Change, Logic, Operator};
 use rawk_parsing::{ParseError, RefusalKind, tree as parsed};
 use rawk_special::is_special;
+use rawk_tree::{Expr, Joiner, Link, Place};
 use rawk_value::{Arithmetic, Bytes};
 use std::alloc::Global;
 
@@ -223,10 +223,19 @@ pub fn settle_expr(
                 Assignment::Update(operator) => Ok(Expr::Update(*operator, place, value)),
             }
         }
+        parsed::Expr::Call(name, arguments) => {
+            let Some(function) = called(scope, name.word.as_slice()) else {
+                return Err(left_out(left));
+            };
+            let arguments = settle_list(alloc, scope, left, arguments.as_slice())?;
+            Ok(Expr::Call(function, arguments))
+        }
         _ => Err(left_out(left)),
     }
 }
 
+/// Expressions one after another.
+#[cycle(settle)]
 fn settle_list(
     alloc: Global,
     scope: &Scope<'_>,

@@ -9,10 +9,10 @@ mod lines;
 mod parsing;
 mod scope;
 mod statements;
-pub mod tree;
 
 pub use parsing::parse;
 pub use rawk_lexer::unescaped;
-pub use rawk_parsing::tree::{Logic, Sign};
 pub use rawk_parsing::{Refusal, RefusalKind};
-pub use tree::{Branch, Expr, Guard, Joiner, Link, Place, Program, Rule, Stmt};
+pub use rawk_tree::{
+    Branch, Expr, Function, Guard, Joiner, Link, Logic, Place, Program, Rule, Sign, Stmt,
+};

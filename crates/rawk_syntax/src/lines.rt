@@ -1,42 +1,10 @@
-//! The sites of a program, and their lines.
+//! The lines of sites, in the order of the text.
 
-ghost use Rattle.std.specs.Prelude.{◌≡◌, ◌==◌, [], ◌∷◌, ◌++◌, OnOk};
-ghost use Rattle.std.specs.List.{position};
+ghost use Rattle.std.specs.Prelude.{◌≡◌, [], ◌∷◌, ◌++◌, OnOk};
 ghost use Rattle.rawk_lexer.specs.Lines as place;
-ghost use Rattle.rawk_syntax.specs.Sites.{line_at};
 
-use crate::tree::Program;
 use rawk_lexer::newlines;
 use std::alloc::{AllocError, Global};
-
-impl Program {
-    /// The first site on a line, counted from 1, or none where the line has no site. It takes no memory.
-    pub fn site_on_line(&self, line: u64) -> Option<usize>
-        ensures { result ≡ position (λ l. l == line) self.now.lines.items }
-    {
-        self.lines.iter().position(|l| *l == line)
-    }
-
-    /// The line of a site, counted from 1; it is 0 where there is no site, as at the reading of a record. It takes no memory.
-    pub fn line_of_site(&self, site: Option<usize>) -> u64
-        ensures { result ≡ line_at self.now.lines.items site }
-    {
-        line_in(&self.lines, site)
-    }
-}
-
-/// The line of a site among those of all sites.
-fn line_in(lines: &[u64], site: Option<usize>) -> u64
-    ensures { result ≡ line_at lines.now site }
-{
-    match site {
-        None => 0,
-        Some(site) => match lines.get(site) {
-            Some(line) => *line,
-            None => 0,
-        },
-    }
-}
 
 /// The line of a place, from that of another place; it reads what stands between them, where that one stands before.
 fn line_after(text: &[u8], before: usize, line: u64, left: usize) -> u64

@@ -9,13 +9,13 @@ ghost use Rattle.rawk_syntax.specs.Texts as spec;
 ghost use Rattle.rawk_syntax.specs.Texts.{AreFlawed, Answers, IsFlawIn, IsPlain, IsProgram, IsRead, IsReading, IsSettled, IsSettledAs, Tells};
 
 use crate::items::settle;
-use crate::tree::Program;
 use rawk_grammar::program;
 use rawk_grammar::tree::Item;
 use rawk_lexer::{Cursor, line_of};
 use rawk_limits::{OPEN_CONSTRUCTS, PROGRAM_BYTES};
 use rawk_names::{NameError, Names, resolve};
 use rawk_parsing::{ParseError, Refusal, RefusalKind};
+use rawk_tree::Program;
 use std::alloc::Global;
 
 /// Parses the text of a program (POSIX awk, Grammar); the names of the program are numbers, and its sites are numbered.
@@ -24,7 +24,7 @@ use std::alloc::Global;
 /// which it stops (`Syntax`, `BadToken`, `Unterminated`, `LeftOut`, `Misplaced`), with a constant that is not whole or does not fit
 /// 64 bits (`BadNumber`), or with more than 200 constructs open at once (`TooDeep`); a regular expression that is none or too large
 /// (`BadEre`), and then a misused name (`NameMisused`), wherever they stand in the program; and what has no settled tree so far
-/// (`LeftOut`), at the line of its statement, condition, pattern or item. `OutOfMemory` is the refusal of a growth, and its line is 0.
+/// (`LeftOut`), at the line of its statement, condition or pattern. `OutOfMemory` is the refusal of a growth, and its line is 0.
 /// A token is looked at no more often than constructs may be open, and each name is found by a hash.
 pub fn parse(alloc: Global, text: &[u8]) -> Result<Program, Refusal>
     // A refusal has the kind and the line that the text gives, or memory was refused; where there is a program the text gives none.

@@ -4,22 +4,22 @@ ghost use Rattle.std.specs.Prelude.{◌≡◌, ◌++◌, ◌∷◌, [], length, 
 ghost use Rattle.std.specs.Result.{result_map_both};
 ghost use Rattle.rawk_grammar.specs.declared.tree.Jump.TheVariants as jump;
 ghost use Rattle.rawk_grammar.specs.declared.tree.Stmt.TheVariants as from;
-ghost use Rattle.rawk_syntax.specs.declared.tree.Stmt.TheVariants as tree;
+ghost use Rattle.rawk_tree.specs.declared.tree.Stmt.TheVariants as tree;
 ghost use Rattle.rawk_syntax.specs.Covered as cover;
 ghost use Rattle.rawk_syntax.specs.Covered.{Judges};
 ghost use Rattle.rawk_syntax.specs.Meant.{sense_of};
 ghost use Rattle.rawk_syntax.specs.Settled.{Settles, AnExpr};
-ghost use Rattle.rawk_syntax.specs.Laid.{sited, Simply, Exits, Jumps, Tests, Lays, AStmt, SomeStmts, SomeBranches, AnOther, Heads, branch_with, head_with, for_with};
+ghost use Rattle.rawk_syntax.specs.Laid.{sited, Simply, Exits, Returns, Jumps, Tests, Lays, AStmt, SomeStmts, SomeBranches, AnOther, Heads, branch_with, head_with, for_with};
 
 use crate::expressions::{left_out, settle_expr, settle_printed};
 use crate::growth::{boxed, push};
 use crate::lines::Sites;
 use crate::scope::Scope;
-use crate::tree::{Branch, Expr, Stmt};
 use rawk_grammar::tree as parsed;
 use rawk_grammar::tree::{Act, Condition, Jump, Simple};
 use rawk_items::Boxed;
 use rawk_parsing::ParseError;
+use rawk_tree::{Branch, Expr, Stmt};
 use std::alloc::Global;
 
 /// A simple statement, whose site is added.
@@ -68,7 +68,27 @@ fn settle_exit(
     }
 }
 
-/// A jump, whose site is added. The settled tree has no `return` yet.
+/// A `return` with its site and, where one is given, its value.
+fn settle_return(
+    alloc: Global,
+    scope: &Scope<'_>,
+    site: usize,
+    left: usize,
+    value: &Option<Boxed<rawk_parsing::tree::Expr>>,
+) -> Result<Stmt, ParseError>
+    ensures settled { IfOk result (λ t. Returns (sense_of scope.now) site value.now t) }
+    ensures judged { Judges (cover.jump_gap (sense_of scope.now) left (jump.Return value.now)) result }
+{
+    match value {
+        None => Ok(Stmt::Return(site)),
+        Some(e) => {
+            let e = settle_expr(alloc, scope, left, e.get())?;
+            Ok(Stmt::ReturnWith(site, e))
+        }
+    }
+}
+
+/// A jump, whose site is added.
 fn settle_jump(
     alloc: Global,
     sites: &mut Sites<'_>,
@@ -87,7 +107,7 @@ fn settle_jump(
         Jump::Break => Ok(Stmt::Break(site)),
         Jump::Continue => Ok(Stmt::Continue(site)),
         Jump::Exit(status) => settle_exit(alloc, scope, site, left, status),
-        Jump::Return(_) => Err(left_out(left)),
+        Jump::Return(value) => settle_return(alloc, scope, site, left, value),
     }
 }
 

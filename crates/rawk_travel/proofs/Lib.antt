@@ -9,3 +9,4 @@ pub mod Travels
 pub mod Plains
 pub mod AtOnces
 pub mod Turns
+pub mod Calls

@@ -4,6 +4,7 @@
 mod act;
 mod at_once;
 mod borrowed;
+mod call;
 mod made;
 mod print;
 mod reading;

@@ -7,7 +7,7 @@ ghost use Rattle.rawk_travel.specs.Borrowed.{borrowed_value};
 ghost use Rattle.rawk_travel.specs.Lent.{lent_value};
 
 use crate::borrowed::{Borrowed, copy, number, truth};
-use rawk_syntax::{Joiner, Logic, Sign};
+use rawk_tree::{Joiner, Logic, Sign};
 use rawk_value::{
     Arithmetic, Bytes, Comparison, Fault, Value, combine, compare, neg, push_number, push_text,
 };

@@ -21,4 +21,8 @@ pub enum Transfer {
     Quit,
     /// to the reading of the next record, where a main rule runs
     NextRecord,
+    /// to the entry of a function, with so many operands that are still to be taken
+    Call(usize, usize),
+    /// out of the innermost activation, which is still to be removed
+    Return,
 }

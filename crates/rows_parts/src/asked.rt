@@ -1,10 +1,11 @@
 //! What is asked for: lines of a session, words of a command line, and how a session shows places and values.
 //!
-//! `command`, a line: the command that it is, its refusal, or nothing. `words`, words: the program, the input, the session and the
-//! limits that they ask for, or the first line of their refusal. `help`, options: whether the help names each. `shows` and `number`,
-//! `value`, `held` or `element`, and what is shown.
+//! `command`, a line: the command that it is, its refusal, or nothing. `words`, words: the program or the file that has it, the input,
+//! the session, the limits and the first values that they ask for, or the first line of their refusal. `help`, options: whether the
+//! help names each. `shows` and `number`, `value`, `held` or `element`, and what is shown.
 
 use crate::not_a_case;
+use rawk_code::Settings;
 use rawk_commands::{
     Command, Constant, Place, Spot, push_element, push_held, push_number, push_place, push_shown,
     push_value,
@@ -118,7 +119,7 @@ pub fn words_of(alloc: Global, words: &[&[u8]]) -> Result<Vec<u8>, AllocError> {
         Ok(asked) => {
             let text = invocation_text(alloc, &asked);
             drop(asked);
-            Ok(text?.into_bytes())
+            text
         }
         Err(refusal) => {
             let text = first_line(alloc, &refusal);
@@ -145,11 +146,15 @@ fn name_of(text: &Text) -> &str {
 }
 
 /// An invocation in one line.
-fn invocation_text(alloc: Global, asked: &Invocation) -> Result<String, AllocError> {
+fn invocation_text(alloc: Global, asked: &Invocation) -> Result<Vec<u8>, AllocError> {
+    let kind = match &asked.program {
+        Text::Bytes(_) => "program",
+        _ => "program of",
+    };
     let program = name_of(&asked.program);
     let input = name_of(&asked.input);
     let steps = asked.steps;
-    let mut text = format!(in alloc; "program {program}, input {input}")?;
+    let mut text = format!(in alloc; "{kind} {program}, input {input}")?;
     if let Some(commands) = &asked.commands {
         let commands = name_of(commands);
         text.push_str(format!(in alloc; ", commands {commands}")?.as_str())?;
@@ -158,7 +163,20 @@ fn invocation_text(alloc: Global, asked: &Invocation) -> Result<String, AllocErr
     if let Some(history) = asked.history {
         text.push_str(format!(in alloc; ", history {history}")?.as_str())?;
     }
+    let mut text = text.into_bytes();
+    push_settings(&mut text, &asked.settings)?;
     Ok(text)
+}
+
+/// Adds first values, each behind a comma.
+fn push_settings(out: &mut Vec<u8>, settings: &Settings) -> Result<(), AllocError> {
+    for value in settings.as_slice() {
+        out.extend_from_slice(b", ")?;
+        out.extend_from_slice(value.name.as_slice())?;
+        out.extend_from_slice(b" = ")?;
+        push_shown(out, value.text.as_slice())?;
+    }
+    Ok(())
 }
 
 /// Whether the help names each option.

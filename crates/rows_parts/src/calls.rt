@@ -33,7 +33,7 @@ fn make(alloc: Global, frames: &mut Frames, change: &[u8]) -> Result<(), AllocEr
     match change {
         b"step" => frames.forget(),
         b"back" => frames.undo_step(),
-        b"enter" => frames.enter(8, 3, 101)?,
+        b"enter" => frames.enter(8, 3, 101, Some(4), 25)?,
         b"leave" => {
             let _ = frames.leave();
         }
@@ -71,6 +71,8 @@ fn change_of(alloc: Global, change: &[u8]) -> Result<FramesChange, AllocError> {
             function: 8,
             arrays_before: 3,
             called_at: 101,
+            site: Some(4),
+            return_to: 25,
         },
         b"leave" => FramesChange::Leave,
         [b'l', b'o', b'c', b'a', b'l', b' ', local @ ..] => match written(alloc, local)? {

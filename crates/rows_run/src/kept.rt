@@ -3,6 +3,7 @@
 
 ghost use Rattle.std.specs.Prelude.{◌≡◌, None};
 
+use crate::back::compare;
 use rawk_code::{Code, Settings, compile};
 use rawk_machine::{Machine, Step};
 use rawk_store::Full;
@@ -11,10 +12,18 @@ use rawk_tape::BytesSource;
 use std::alloc::{AllocError, Global};
 
 /// How many points a program may reach here.
-const STEPS: u64 = 1_000;
+pub const STEPS: u64 = 1_000;
+
+/// What is told of a machine that goes there and back.
+#[derive(Clone, Copy, Debug, PartialEq, Eq)]
+pub enum Told {
+    OldValues,
+    /// whether it shows the same again
+    Likeness,
+}
 
 /// What a case of machines answers.
-pub fn answered(alloc: Global, parts: &[&[u8]]) -> Result<Vec<u8>, AllocError> {
+pub fn answered(alloc: Global, parts: &[&[u8]], told: Told) -> Result<Vec<u8>, AllocError> {
     let (program, input): (&[u8], &[u8]) = match parts {
         [program] => (program, &[]),
         [program, [b'<', input @ ..]] => (program, input),
@@ -28,12 +37,17 @@ pub fn answered(alloc: Global, parts: &[&[u8]]) -> Result<Vec<u8>, AllocError> {
     let code = code?;
     let input = Vec::from_slice(alloc, input)?;
     let source = BytesSource::new(input, Vec::new(alloc), None);
-    let text = there_and_back(alloc, code, source)?;
+    let text = there_and_back(alloc, code, source, told)?;
     Vec::from_slice(alloc, text.as_str().trim_start().as_bytes())
 }
 
-/// The points and what is kept there, up to the ending and back.
-fn there_and_back(alloc: Global, code: Code, source: BytesSource) -> Result<String, AllocError>
+/// What is told of a machine with this code.
+fn there_and_back(
+    alloc: Global,
+    code: Code,
+    source: BytesSource,
+    told: Told,
+) -> Result<String, AllocError>
     requires { source.over ≡ None }
 {
     let settings = Settings::new(alloc);
@@ -41,7 +55,10 @@ fn there_and_back(alloc: Global, code: Code, source: BytesSource) -> Result<Stri
     drop(settings);
     let mut machine = machine?;
     let mut text = String::new(alloc);
-    let walked = walk(alloc, &mut machine, &mut text);
+    let walked = match told {
+        Told::OldValues => walk(alloc, &mut machine, &mut text),
+        Told::Likeness => compare(alloc, &mut machine, &mut text),
+    };
     drop(machine);
     walked?;
     Ok(text)

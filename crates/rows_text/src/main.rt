@@ -4,6 +4,7 @@
 //! at its first token, or `none`, and what stands behind it. `string`, the inside of a string: the bytes that it stands for.
 //! `inside`, a word: the word without its quotes. `syntax`, a text: `read`, or the number of its refusal and the line. `sites`, a
 //! text: the line of each site, and how many names there are. `site`, a line and a text: the first site on the line, from 0.
+//! `entry`, a name and a text: the site of the entry of the function.
 #![tactic(auto)]
 
 use rawk_lexer::{Cursor, Kind, unescaped, unquoted};
@@ -30,7 +31,15 @@ fn outcome(alloc: Global, parts: &[&[u8]]) -> Result<Vec<u8>, AllocError> {
             answered(
                 alloc,
                 parse(alloc, text),
-                |program| site(alloc, program, line),
+                |program| numbered(alloc, program.site_on_line(line)),
+            )
+        }
+        [b"entry", name, text] => {
+            let name: &[u8] = name;
+            answered(
+                alloc,
+                parse(alloc, text),
+                |program| numbered(alloc, program.entry_of(name)),
             )
         }
         _ => Vec::from_slice(alloc, b"not a case"),
@@ -99,9 +108,9 @@ fn sites(alloc: Global, program: &Program) -> Result<String, AllocError> {
     Ok(text)
 }
 
-/// The first site on a line.
-fn site(alloc: Global, program: &Program, line: u64) -> Result<String, AllocError> {
-    match program.site_on_line(line) {
+/// The number of a site, if there is one.
+fn numbered(alloc: Global, site: Option<usize>) -> Result<String, AllocError> {
+    match site {
         Some(site) => format!(in alloc; "{site}"),
         None => "none".to_string(alloc),
     }

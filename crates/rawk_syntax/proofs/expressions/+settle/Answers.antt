@@ -1,13 +1,13 @@
 use Rattle.std.proofs.Common.{◌∙◌, ◌++◌, ◌∷◌, [], sym, ap, refl, Some, ◌&&◌}
 use Rattle.std.proofs.lemmas.Result.{err_from_is_err_and}
 use Rattle.rawk_syntax.specs.Covered.{unless, each, can_change, covers, place_cover, covers_link, joins}
-use Rattle.rawk_syntax.specs.Meant.{sense_of}
+use Rattle.rawk_syntax.specs.Meant.{is_there, sense_of}
 use Rattle.rawk_syntax.specs.Settled as spec
-use Rattle.rawk_syntax.specs.declared.tree.Link.TheVariants as tree_link
-use Rattle.rawk_syntax.specs.declared.tree.Joiner.TheVariants as joiner
+use Rattle.rawk_tree.specs.declared.tree.Link.TheVariants as tree_link
+use Rattle.rawk_tree.specs.declared.tree.Joiner.TheVariants as joiner
 use Rattle.rawk_value.specs.declared.operator.Arithmetic.TheVariants.{Pow}
-use Rattle.rawk_syntax.proofs.Coverings.{exits, passes, holds, sure, fails, both, first_false, second_false, each_more, each_stops, number_covers, text_covers, of_covers, group_covers, signed_covers, power_covers, chain_covers, logic_covers, choice_covers, before_covers, after_covers, assign_covers, other_covers, name_reads, field_cover, element_cover, link_covers, joiner_joins, joiner_not}
-use Rattle.rawk_syntax.proofs.Settlements.{text_settles, read_settles, group_settles, signed_settles, power_settles, chain_settles, logic_settles, choice_settles, before_settles, after_settles, test_settles, assign_settles, update_settles, name_settles, number_settles, field_settles, link_settles}
+use Rattle.rawk_syntax.proofs.Coverings.{exits, passes, holds, sure, fails, both, first_false, second_false, each_more, each_stops, number_covers, text_covers, of_covers, group_covers, signed_covers, power_covers, chain_covers, logic_covers, choice_covers, before_covers, after_covers, assign_covers, call_covers, none_there, other_covers, name_reads, field_cover, element_cover, link_covers, joiner_joins, joiner_not}
+use Rattle.rawk_syntax.proofs.Settlements.{text_settles, read_settles, group_settles, signed_settles, power_settles, chain_settles, logic_settles, choice_settles, before_settles, after_settles, test_settles, assign_settles, update_settles, name_settles, number_settles, field_settles, link_settles, call_settles, expr_settles}
 use Rattle.rawk_syntax.proofs.expressions.+settle.Goals as goal
 
 pub settle_expr-returns-in-Number-clause-settled : goal.settle_expr-returns-in-Number-clause-settled
@@ -218,7 +218,7 @@ pub settle_expr-returns-in_default : goal.settle_expr-returns-in_default
 settle_expr-returns-in_default t c =
     record {
       settled = tt;
-      judged = λ ne. fails (covers (sense_of c.args.scope.now) c.args.e.now) c.args.left (other_covers (sense_of c.args.scope.now) c.args.e.now c.in_default.not-Number c.in_default.not-Text c.in_default.not-Of c.in_default.not-Group c.in_default.not-Signed c.in_default.not-Power c.in_default.not-Chain c.in_default.not-Logic c.in_default.not-Choice c.in_default.not-Before c.in_default.not-After c.in_default.not-Assign) ∙ ap Some (sym c.left_out-in_default.ensures);
+      judged = λ ne. fails (covers (sense_of c.args.scope.now) c.args.e.now) c.args.left (other_covers (sense_of c.args.scope.now) c.args.e.now c.in_default.not-Number c.in_default.not-Text c.in_default.not-Of c.in_default.not-Group c.in_default.not-Signed c.in_default.not-Power c.in_default.not-Chain c.in_default.not-Logic c.in_default.not-Choice c.in_default.not-Before c.in_default.not-After c.in_default.not-Assign c.in_default.not-Call) ∙ ap Some (sym c.left_out-in_default.ensures);
     }
 
 pub settle_links-loop-link-init : goal.settle_links-loop-link-init
@@ -272,3 +272,38 @@ settle_place-returns-in_ok-number-in-Field-clause-judged t c =
 pub settle_place-returns-in-Element-clause-judged : goal.settle_place-returns-in-Element-clause-judged
 settle_place-returns-in-Element-clause-judged t c =
     λ ne. fails (place_cover (sense_of c.args.scope.now) c.args.place.now).reads c.args.left (ap (λ k. k.reads) (element_cover (sense_of c.args.scope.now) c.args.place.now _ _ c.in-Element.is)) ∙ ap Some (sym c.left_out-in-Element.ensures)
+
+pub settle_list-loop-e-init : goal.settle_list-loop-e-init
+settle_list-loop-e-init t c = record { settled = rw c.new-settled.ensures.items spec.no_exprs; judged = refl }
+
+pub settle_list-loop-e-preserved : goal.settle_list-loop-e-preserved
+settle_list-loop-e-preserved t c = record {
+  settled = expr_settles (sense_of c.args.scope.now) c.args.list.now c.loop-e.e-index c.e-item.result c.get.result.now c.loop-e.settled.items c.push.new.values.items c.in_ok-settle_expr.field-0
+      c.loop-e-test.true c.e-item.is c.get.ensures c.in_ok-push.ensures c.loop-e.invariant.settled c.in_ok-settle_expr.ensures.settled;
+  judged = each_more (covers (sense_of c.args.scope.now)) c.args.list.now c.loop-e.e-index c.e-item.result c.loop-e-test.true c.e-item.is c.loop-e.invariant.judged
+      (ap (covers (sense_of c.args.scope.now)) (sym c.get.ensures) ∙ sure (covers (sense_of c.args.scope.now) c.get.result.now) c.args.left c.in_ok-settle_expr.ensures.judged);
+}
+
+pub settle_list-returns-in_err-settle_expr-clause-judged : goal.settle_list-returns-in_err-settle_expr-clause-judged
+settle_list-returns-in_err-settle_expr-clause-judged t c =
+    let p = err_from_is_err_and c.from_residual.result c.from_residual.ensures.1 in
+    exits c.from_residual.result (unless (each (covers (sense_of c.args.scope.now)) c.args.list.now) c.args.left) c.in_err-settle_expr.field-0.0 p.0 p.1 p.2
+    (passes (covers (sense_of c.args.scope.now) c.get.result.now) (each (covers (sense_of c.args.scope.now)) c.args.list.now) c.args.left c.in_err-settle_expr.field-0.0
+    (λ h. each_stops (covers (sense_of c.args.scope.now)) c.args.list.now c.loop-e.e-index c.e-item.result c.loop-e-test.true c.e-item.is (ap (covers (sense_of c.args.scope.now)) (sym c.get.ensures) ∙ h)) c.in_err-settle_expr.ensures.judged)
+
+pub settle_expr-returns-in_default-called-clause-judged : goal.settle_expr-returns-in_default-called-clause-judged
+settle_expr-returns-in_default-called-clause-judged t c =
+    λ ne. fails (covers (sense_of c.args.scope.now) c.args.e.now) c.args.left (call_covers (sense_of c.args.scope.now) c.args.e.now c.in-Call.name c.as_slice-in-Call.result.now c.called.result c.in-Call.arguments c.in-Call.arguments c.in-Call.is c.as_slice-in-Call.ensures c.called.ensures refl ∙ first_false (is_there c.called.result) (each (covers (sense_of c.args.scope.now)) c.in-Call.arguments) (none_there c.called.result c.in_default-called.not-Some)) ∙ ap Some (sym c.left_out-in_default-called.ensures)
+
+pub settle_expr-returns-in_err-arguments-in-Call-clause-judged : goal.settle_expr-returns-in_err-arguments-in-Call-clause-judged
+settle_expr-returns-in_err-arguments-in-Call-clause-judged t c =
+    let p = err_from_is_err_and c.from_residual-in_err-arguments-in-Call.result c.from_residual-in_err-arguments-in-Call.ensures.1 in
+    exits c.from_residual-in_err-arguments-in-Call.result (unless (covers (sense_of c.args.scope.now) c.args.e.now) c.args.left) c.in_err-arguments-in-Call.field-0.0 p.0 p.1 p.2 (passes (each (covers (sense_of c.args.scope.now)) c.as_slice-in-Call-2.result.now) (covers (sense_of c.args.scope.now) c.args.e.now) c.args.left c.in_err-arguments-in-Call.field-0.0 (λ h. call_covers (sense_of c.args.scope.now) c.args.e.now c.in-Call.name c.as_slice-in-Call.result.now (Some c.in-Some.function) c.in-Call.arguments c.as_slice-in-Call-2.result.now c.in-Call.is c.as_slice-in-Call.ensures c.in-Some.ensures c.as_slice-in-Call-2.ensures ∙ h) c.in_err-arguments-in-Call.ensures.judged)
+
+pub settle_expr-returns-in_ok-arguments-in-Call-clause-settled : goal.settle_expr-returns-in_ok-arguments-in-Call-clause-settled
+settle_expr-returns-in_ok-arguments-in-Call-clause-settled t c =
+    call_settles (sense_of c.args.scope.now) c.args.e.now c.in-Call.name c.as_slice-in-Call.result.now c.in-Some.function c.in-Call.arguments c.as_slice-in-Call-2.result.now c.in_ok-arguments-in-Call.arguments c.in-Call.is c.as_slice-in-Call.ensures c.in-Some.ensures c.as_slice-in-Call-2.ensures c.in_ok-arguments-in-Call.ensures.settled
+
+pub settle_expr-returns-in_ok-arguments-in-Call-clause-judged : goal.settle_expr-returns-in_ok-arguments-in-Call-clause-judged
+settle_expr-returns-in_ok-arguments-in-Call-clause-judged t c =
+    holds (covers (sense_of c.args.scope.now) c.args.e.now) c.args.left (call_covers (sense_of c.args.scope.now) c.args.e.now c.in-Call.name c.as_slice-in-Call.result.now (Some c.in-Some.function) c.in-Call.arguments c.as_slice-in-Call-2.result.now c.in-Call.is c.as_slice-in-Call.ensures c.in-Some.ensures c.as_slice-in-Call-2.ensures ∙ sure (each (covers (sense_of c.args.scope.now)) c.as_slice-in-Call-2.result.now) c.args.left c.in_ok-arguments-in-Call.ensures.judged)

@@ -1,9 +1,9 @@
 use Rattle.std.proofs.Common.{◌≢◌, List, Result, Ok, Err, IfOk, [], ◌∷◌, ◌++◌, length, arith, ◌∙◌, ap}
 use Rattle.std.specs.Global.{Vec}
 use Rattle.rawk_parsing.specs.declared.tree.Expr as parsed
-use Rattle.rawk_syntax.specs.declared.tree.Expr.{Expr}
-use Rattle.rawk_syntax.specs.declared.tree.Expr.TheVariants as tree
-use Rattle.rawk_syntax.specs.declared.tree.Place.TheVariants as tree_place
+use Rattle.rawk_tree.specs.declared.tree.Expr.{Expr}
+use Rattle.rawk_tree.specs.declared.tree.Expr.TheVariants as tree
+use Rattle.rawk_tree.specs.declared.tree.Place.TheVariants as tree_place
 use Rattle.rawk_syntax.specs.Meant.{Sense, sense_of}
 use Rattle.rawk_syntax.specs.Settled.{Settles, SomeExprs, Prints}
 use Rattle.rawk_syntax.proofs.Coverings.{none_uncovered}

@@ -1,5 +1,6 @@
 use Rattle.std.proofs.Common.{◌≡◌, ◌++◌, map, drop}
 use Rattle.rawk_value.specs.Values.{text_of}
+use Rattle.rawk_frames.specs.LaidFrames.{frames_of}
 use Rattle.rawk_travel.specs.Borrowed.{borrowed_value}
 use Rattle.rawk_travel.specs.Line.{pieces_behind}
 use Rattle.rawk_travel.specs.Moving.{simple_of}
@@ -8,7 +9,7 @@ use Rattle.rawk_travel.proofs.print.print_simples.Given as goal
 abbrev pub invariant-loop-simple : goal.invariant-loop-simple
 invariant-loop-simple l = record {
   line :
-      l.fn.output.now ++ pieces_behind (text_of (borrowed_value l.separator)) l.fn.first (map (λ from. text_of (simple_of from l.globals.now l.current.now)) l.simples) ≡
-      l.output.now ++ pieces_behind (text_of (borrowed_value l.separator)) l.leads (map (λ from. text_of (simple_of from l.globals.now l.current.now)) (drop l.simple-index l.simples));
+      l.fn.output.now ++ pieces_behind (text_of (borrowed_value l.separator)) l.fn.first (map (λ from. text_of (simple_of from l.globals.now (frames_of l.frames.now) l.current.now)) l.simples) ≡
+      l.output.now ++ pieces_behind (text_of (borrowed_value l.separator)) l.leads (map (λ from. text_of (simple_of from l.globals.now (frames_of l.frames.now) l.current.now)) (drop l.simple-index l.simples));
   start : l.output.start ≡ l.fn.output.start;
 }

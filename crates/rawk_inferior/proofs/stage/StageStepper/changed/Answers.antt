@@ -4,9 +4,8 @@ use Rattle.rawk_record.specs.FieldRefs.{ref_value}
 use Rattle.std.proofs.lemmas.Bool.{ne_eqb}
 use Rattle.rawk_value.specs.declared.value.Value.{Value}
 use Rattle.rawk_value.specs.declared.value.Value.TheVariants.{Uninitialized, Input}
-use Rattle.rawk_machine.specs.Standing as machine
 use Rattle.rawk_debug.specs.declared.stop.Watched.TheVariants.{Global, Field}
-use Rattle.rawk_debug.specs.Watching.{Observed, seen, same_value, value_at, differs}
+use Rattle.rawk_debug.specs.Watching.{seen, same_value, differs}
 use Rattle.rawk_inferior.specs.Staged.{Staged, seen_or}
 use Rattle.rawk_inferior.proofs.Stages.{some_of, or_at}
 use Rattle.rawk_inferior.proofs.stage.StageStepper.changed.Goals as goal

@@ -1,8 +1,7 @@
-use Rattle.std.proofs.Common.{◌≡◌, ◌-◌, [], length, ap, sym, subst, arith}
-use Rattle.rawk_machine.specs.Standing.{Standing, MayCome, given_of}
+use Rattle.std.proofs.Common.{[], length, sym, subst, arith}
+use Rattle.rawk_machine.specs.Standing.{MayCome}
 use Rattle.rawk_machine.specs.InTrace.{exactly_in_trace}
-use Rattle.rawk_code.specs.Trace.{trace}
-use Rattle.rawk_debug.specs.Positions.{IsPosition, Stands, trace_under}
+use Rattle.rawk_debug.specs.Positions.{IsPosition, Stands}
 use Rattle.rawk_inferior.specs.Staged.{Staged, position_of, held_of}
 use Rattle.rawk_inferior.proofs.Stages.{raised_few, upto_all, stands_in}
 use Rattle.rawk_inferior.proofs.stage.StageStepper.known.Goals as goal

@@ -1,7 +1,5 @@
 use Rattle.std.proofs.Common.{◌∙◌, [], ap}
 use Rattle.rawk_machine.specs.Standing.{Standing}
-use Rattle.rawk_debug.specs.Positions.{has_set_at}
-use Rattle.rawk_inferior.specs.Staged.{Staged}
 use Rattle.rawk_inferior.proofs.Stages.{stage_kept, back_code, back_limit}
 use Rattle.rawk_inferior.proofs.stage.StageStepper.retreat.Goals as goal
 

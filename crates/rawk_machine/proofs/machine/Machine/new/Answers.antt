@@ -27,7 +27,7 @@ returns-clause-stands g c = λ input may.
     subst (λ (xs : List SetAt). StandsAt ground xs 0 (moment_in (now_of c.forget.new.self)) [] []) (sym c.new.ensures.items)
     (subst (λ (x : Layout). StandsAt ground [] 0 (moment_in x) [] []) (sym c.forget.ensures.now)
     (at_start g.R.Source.may_give c.args.code c.in_ok-settings.settings c.args.steps c.step.new.tape l (now_of c.step.new.store) input
-    starts (ap (λ (x : Layout). x.registers.site) c.in_ok-store.ensures.now) c.in_ok-step.ensures.did may.kept may.whole may.may))
+    starts c.in_ok-step.ensures.did may.kept may.whole may.may))
 
 pub returns-clause-stood : goal.returns-clause-stood
 returns-clause-stood g c = λ input may.

@@ -1,19 +1,16 @@
 use Rattle.std.proofs.Common.{◌≡◌, List, [], ◌∷◌, ◌++◌, length, reverse, refl, sym, ap, ◌∙◌, subst, arith}
-use Rattle.std.specs.Prelude.{slice_set}
 use Rattle.std.proofs.lemmas.List.{reverse-append}
 use Rattle.rawk_value.specs.declared.value.Value.{Value}
 use Rattle.rawk_store.specs.Groups.{Group}
-use Rattle.rawk_store.specs.declared.target.Target.{Target}
-use Rattle.rawk_store.specs.declared.target.Target.TheVariants.{Global}
-use Rattle.rawk_store.specs.Layout.{Layout, IsSound}
+use Rattle.rawk_store.specs.declared.registers.Registers.{Registers}
 use Rattle.rawk_store.specs.Saving.{saved_in}
-use Rattle.rawk_store.specs.GroupBack.{put_back}
 use Rattle.rawk_store.specs.Stores.{now_of}
 use Rattle.rawk_code.specs.Actions.{SetAt}
 use Rattle.rawk_machine.specs.Last.{Nothing, last_of}
 use Rattle.rawk_machine.specs.Standing.{Standing, Stood, set_made}
 use Rattle.rawk_machine.specs.Kept.{IsPlaced, Chain}
 use Rattle.rawk_machine.specs.Stood.{standing_of, IsBelow}
+use Rattle.rawk_machine.specs.Written.{IsWritten}
 use Rattle.rawk_machine.specs.Arrival.{ends_quietly}
 use Rattle.rawk_machine.proofs.Chains.{chain_set}
 use Rattle.rawk_machine.proofs.Leads.{no_ending, set_is}
@@ -25,27 +22,27 @@ invariant_of-self-2 g c =
     let i = c.self.inside in
     let v = c.self.invariant in
     let l = now_of i.store in
-    let n = now_of c.write_global.new.store in
+    let n = now_of c.write.new.store in
     let here = reverse i.here.items in
     let size = length i.tape.bytes in
     let kept = g.K.Keeper.kept i.keeper in
-    let w = c.in_ok-write_global.ensures in
+    let w = c.in_ok-write.ensures in
     let x = w.back.0 in
     let e : SetAt = record { point = i.point; target = c.args.target; value = c.args.value } in
     let going = no_ending i.store.registers.now.ending (ap (λ (m : Standing g.row.R.Denot). m.ending) c.self.view_is ∙ c.requires) in
     let placed : IsPlaced l i.point size = record { goes = going; here = (v.below going).0; consumed = omega (arith, v.consumed, c.consumed-consumed.ensures.in_range, c.consumed-consumed.ensures.value) } in
-    let last : reverse c.write_global.new.here.items ≡ x ∷ here = ap (λ (gs : List Group). reverse gs) w.back.1 ∙ reverse-append i.here.items (x ∷ []) in
+    let last : reverse c.write.new.here.items ≡ x ∷ here = ap (λ (gs : List Group). reverse gs) w.back.1 ∙ reverse-append i.here.items (x ∷ []) in
     let chain : Chain n i.point size (i.sets.items ++ e ∷ []) (x ∷ here) kept = chain_set l n i.point size i.sets.items e x here kept placed w.back.2 w.back.3 refl v.chain in
     let pushed : c.push.new.self.items ≡ i.sets.items ++ e ∷ [] = c.in_ok-push.ensures.items ∙ ap (λ (xs : List SetAt). xs ++ e ∷ []) c.reserve.ensures.items in
     let chain2 = subst (λ (xs : List SetAt). Chain n i.point size xs (x ∷ here) kept) (sym pushed) chain in
     record {
-      rest = c.write_global.ensures.rest;
-      sound = subst IsSound (sym w.did) (record { arrays = v.sound.arrays; frames = v.sound.frames; keys = v.sound.keys; operands = v.sound.operands });
-      consumed = v.consumed ∙ sym (ap (λ (m : Layout). m.registers.consumed) w.did);
-      below = subst (λ (m : Layout). IsBelow m.registers i.point i.steps) (sym w.did) v.below;
+      rest = c.write.ensures.rest;
+      sound = w.sound;
+      consumed = v.consumed ∙ sym (ap (λ (r : Registers). r.consumed) w.did.registers);
+      below = subst (λ (r : Registers). IsBelow r i.point i.steps) (sym w.did.registers) v.below;
       within = v.within;
-      quiet = subst (λ (m : Layout). ends_quietly m.registers.ending) (sym w.did) v.quiet;
-      failed = λ y. v.failed (sym (ap (λ (m : Layout). m.registers.ending) w.did) ∙ y);
+      quiet = subst (λ (r : Registers). ends_quietly r.ending) (sym w.did.registers) v.quiet;
+      failed = λ y. v.failed (sym (ap (λ (r : Registers). r.ending) w.did.registers) ∙ y);
       chain = subst (λ (gs : List Group). Chain n i.point size c.push.new.self.items gs kept) (sym last) chain2;
       few = v.few;
       clean = λ is. absurd (cc is);
@@ -57,30 +54,26 @@ returns-clause-made g c =
     let i = c.self.inside in
     let v = c.self.invariant in
     let l = now_of i.store in
-    let n = now_of c.write_global.new.store in
+    let n = now_of c.write.new.store in
     let here = reverse i.here.items in
     let size = length i.tape.bytes in
     let kept = g.K.Keeper.kept i.keeper in
     let limit = g.K.Keeper.limit i.keeper in
-    let w = c.in_ok-write_global.ensures in
+    let w = c.in_ok-write.ensures in
     let x = w.back.0 in
-    let number = c.global_of-number.result in
+    let target = c.args.target in
     let value = c.args.value in
-    let e : SetAt = record { point = i.point; target = c.args.target; value = value } in
-    let f : SetAt = record { point = i.point; target = Global number; value = value } in
-    let is : e ≡ f = ap (λ (t : Target). let d : SetAt = record { point = i.point; target = t; value = value } in d) c.global_of-number.ensures in
-    let last : reverse c.write_global.new.here.items ≡ x ∷ here = ap (λ (gs : List Group). reverse gs) w.back.1 ∙ reverse-append i.here.items (x ∷ []) in
+    let e : SetAt = record { point = i.point; target = target; value = value } in
+    let last : reverse c.write.new.here.items ≡ x ∷ here = ap (λ (gs : List Group). reverse gs) w.back.1 ∙ reverse-append i.here.items (x ∷ []) in
     let pushed : c.push.new.self.items ≡ i.sets.items ++ e ∷ [] = c.in_ok-push.ensures.items ∙ ap (λ (xs : List SetAt). xs ++ e ∷ []) c.reserve.ensures.items in
-    let did : n ≡ record l { globals = slice_set l.globals number value } = w.did ∙ ap (λ (y : Value). record l { globals = slice_set l.globals number y }) c.in_ok-kept.ensures in
-    let standing = λ (xs : List SetAt) (m : Layout) (gs : List Group). standing_of i.code i.settings i.steps xs i.point i.tape m i.executed gs kept limit Nothing in (
+    let did : IsWritten target value l n = subst (λ (y : Value). IsWritten target y l n) c.in_ok-kept.ensures w.did in
+    let standing = λ (xs : List SetAt) (gs : List Group). standing_of i.code i.settings i.steps xs i.point i.tape n i.executed gs kept limit Nothing in (
       refl,
       saved_in x,
-      ap (λ (xs : List SetAt). standing xs n (reverse c.write_global.new.here.items)) (pushed ∙ ap (λ (d : SetAt). i.sets.items ++ d ∷ []) is)
-          ∙ ap (λ (gs : List Group). standing (i.sets.items ++ f ∷ []) n gs) last
-          ∙ ap (λ (m : Layout). standing (i.sets.items ++ f ∷ []) m (x ∷ here)) did
-          ∙ set_is i.code i.settings i.steps i.sets.items i.point i.tape l i.executed x here kept limit (last_of i.last (g.K.Keeper.forth i.keeper)) number value (ap (λ (m : Layout). put_back m x) (sym did) ∙ w.back.2)
-          ∙ ap (λ (t : Target). set_made (saved_in x) t value (standing_of i.code i.settings i.steps i.sets.items i.point i.tape l i.executed here kept limit (last_of i.last (g.K.Keeper.forth i.keeper)))) (sym c.global_of-number.ensures)
-          ∙ ap (set_made (saved_in x) c.args.target value) c.self.view_is,
+      ap (λ (xs : List SetAt). standing xs (reverse c.write.new.here.items)) pushed
+          ∙ ap (standing (i.sets.items ++ e ∷ [])) last
+          ∙ set_is i.code i.settings i.steps i.sets.items i.point i.tape l n i.executed x here kept limit (last_of i.last (g.K.Keeper.forth i.keeper)) target value did w.back.2
+          ∙ ap (set_made (saved_in x) target value) c.self.view_is,
     )
 
 pub returns-clause-stood : goal.returns-clause-stood
@@ -88,5 +81,4 @@ returns-clause-stood g c = λ input stood.
     let old = c.args.self.now in
     let made = (returns-clause-made g c).2 in
     let saved = (returns-clause-made g c).1 in
-    subst (λ (m : Standing g.row.R.Denot). Stood m input) (sym made ∙ refl)
-    (subst (λ (t : Target). Stood (set_made saved t c.args.value old) input) (sym c.global_of-number.ensures) (stood_set saved old input c.global_of-number.result c.args.value c.requires stood))
+    subst (λ (m : Standing g.row.R.Denot). Stood m input) (sym made ∙ refl) (stood_set saved old input c.args.target c.args.value c.requires stood)

@@ -1,0 +1,3 @@
+mod Rows
+pub mod Parts
+pub mod Places

@@ -1,0 +1,25 @@
+//! How long a text is, and where a part stands in it.
+
+ghost use Rattle.std.specs.Prelude.{◌≡◌, pos, length};
+ghost use Rattle.rawk_builtins.specs.Builtins.{place_of};
+
+use memchr::memmem;
+
+/// How many bytes the text has (POSIX awk, String Functions).
+#[inline]
+pub fn length(text: &[u8]) -> i64
+    ensures { result ≡ pos (length text.now) }
+{
+    text.len() as i64
+}
+
+/// The place, counted from 1, where the part first stands in the text, or 0 where it stands nowhere (POSIX awk, String
+/// Functions). An empty part stands at 1. It takes no memory and one pass.
+pub fn index(text: &[u8], part: &[u8]) -> i64
+    ensures { result ≡ pos (place_of text.now part.now) }
+{
+    match memmem::find(text, part) {
+        Some(before) => before as i64 + 1,
+        None => 0,
+    }
+}

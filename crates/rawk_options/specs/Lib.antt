@@ -1,0 +1,2 @@
+pub mod FirstValues
+pub mod Words

@@ -1,0 +1,137 @@
+//! The tree of a program. Names are numbers, what the text leaves out is filled in, and each place where a point is reached has its site.
+
+use rawk_parsing::tree::{Logic, Sign};
+use rawk_value::{Arithmetic, Bytes, Comparison};
+
+/// What joins two values.
+#[derive(Clone, Copy, Debug, PartialEq, Eq)]
+pub enum Joiner {
+    Arithmetic(Arithmetic),
+    Comparison(Comparison),
+    /// two operands side by side
+    Concat,
+}
+
+/// An expression (POSIX awk, Expressions in awk).
+#[cycle(expressions)]
+#[derive(Drop)]
+pub enum Expr {
+    Number(i64),
+    Text(Bytes),
+    /// the value of a place
+    Read(Place),
+    /// a sign or `!` before an operand
+    Signed(Sign, Box<Expr>),
+    /// an operand, and more of them from left to right
+    Chain(Box<Expr>, Vec<Link>),
+    /// the second where the first is true, and else the third
+    Choice(Box<Expr>, Box<Expr>, Box<Expr>),
+    Assign(Place, Box<Expr>),
+    /// `+=`
+    Update(Arithmetic, Place, Box<Expr>),
+    /// `++` and `--` behind a place, which add 1 or take it away
+    After(Arithmetic, Place),
+    /// a call of a function, by its number from 0 in the order of the text, with its arguments: never more than it has parameters
+    Call(usize, Vec<Expr>),
+}
+
+/// A right operand, with its operator.
+#[cycle(expressions)]
+#[derive(Drop)]
+pub enum Link {
+    Combine(Joiner, Expr),
+    /// `&&` and `||`
+    Decide(Logic, Expr),
+}
+
+/// What can be read and assigned.
+#[cycle(expressions)]
+#[derive(Drop)]
+pub enum Place {
+    /// a global scalar; the special variables but NF have the first numbers
+    Global(usize),
+    /// a local of the function around: its parameters, from 0
+    Local(usize),
+    FieldCount,
+    /// `$0` has the number 0
+    Field(Box<Expr>),
+}
+
+/// A statement. Its number is the site of its point.
+#[cycle(statements)]
+#[derive(Drop)]
+pub enum Stmt {
+    Do(usize, Expr),
+    /// a missing list is `$0`
+    Print(usize, Vec<Expr>),
+    /// one after another
+    Block(Vec<Stmt>),
+    /// the branches that `else if` joins, and what is done where none is taken; a missing `else` does nothing
+    If(Vec<Branch>, Box<Stmt>),
+    /// the condition with its site, and the body
+    While(usize, Expr, Box<Stmt>),
+    /// the body, and behind it the condition with its site
+    DoWhile(Box<Stmt>, usize, Expr),
+    /// the beginning, the condition with its site, the step and the body; a missing condition is the number 1, what else is missing does nothing
+    For(Box<Stmt>, usize, Expr, Box<Stmt>, Box<Stmt>),
+    Break(usize),
+    Continue(usize),
+    Next(usize),
+    Exit(usize),
+    /// with a status
+    ExitWith(usize, Expr),
+    Return(usize),
+    /// with a value
+    ReturnWith(usize, Expr),
+}
+
+/// A condition of an `if` with its site, and what is done where it holds.
+#[cycle(statements)]
+#[derive(Drop)]
+pub struct Branch {
+    pub site: usize,
+    pub test: Expr,
+    pub body: Stmt,
+}
+
+/// When a main rule runs.
+#[derive(Drop)]
+pub enum Guard {
+    /// a missing pattern is the number 1
+    When(Expr),
+    /// a range, with the number of its flag from 0: from a record where the first holds up to one where the second does
+    Between(usize, Expr, Expr),
+}
+
+/// A main rule, with the site of its test.
+#[derive(Drop)]
+pub struct Rule {
+    pub site: usize,
+    pub guard: Guard,
+    pub action: Stmt,
+}
+
+/// A function: its name, the names of its parameters, the site of its entry and its body.
+#[derive(Drop)]
+pub struct Function {
+    pub name: Bytes,
+    pub parameters: Vec<Bytes>,
+    pub site: usize,
+    pub body: Stmt,
+}
+
+/// A program.
+#[derive(Drop)]
+pub struct Program {
+    /// the names of the global scalars that are not special, in the order of their first appearance
+    pub names: Vec<Bytes>,
+    /// in the order of the text; their numbers count from 0
+    pub functions: Vec<Function>,
+    /// how many ranges the main rules have
+    pub ranges: usize,
+    pub begin: Vec<Stmt>,
+    pub rules: Vec<Rule>,
+    pub end: Vec<Stmt>,
+    /// the line of each site, counted from 1; sites are numbered in the order of the text
+    pub lines: Vec<u64>,
+}

@@ -1,0 +1,169 @@
+//! Machines there and back: `@back`, a program and its input. The answer is `alike` where a machine, gone to its ending, back to point 0 and
+//! forward again, shows at each point what it showed there before, and the source was not asked again.
+
+use crate::kept::STEPS;
+use rawk_machine::{Machine, Step};
+use rawk_store::{FieldRef, Full, Local};
+use rawk_tape::BytesSource;
+use rawk_value::push_number;
+use rows_cases::push_value;
+use std::alloc::{AllocError, Global};
+
+/// How many globals and locals are looked at.
+const NAMES: usize = 40;
+
+/// Whether a machine shows the same on each way.
+pub fn compare(
+    alloc: Global,
+    machine: &mut Machine<BytesSource, Full>,
+    text: &mut String,
+) -> Result<(), AllocError> {
+    let mut seen = Vec::new(alloc);
+    seen.push(shown(alloc, machine)?)?;
+    for _ in 0..STEPS {
+        if machine.step() != Step::At {
+            break;
+        }
+        machine.advance(alloc)?;
+        seen.push(shown(alloc, machine)?)?;
+    }
+    if machine.step() == Step::At {
+        return text.push_str("no ending");
+    }
+    let held = machine.held();
+    let is_alike = goes_back(alloc, machine, &seen)?
+        && goes_forth(alloc, machine, &seen)?
+        && machine.held() == held;
+    text.push_str(if is_alike { "alike" } else { "different" })
+}
+
+/// Whether the way back shows the same, from the ending to point 0, and ends there.
+fn goes_back(
+    alloc: Global,
+    machine: &mut Machine<BytesSource, Full>,
+    seen: &[Vec<u8>],
+) -> Result<bool, AllocError> {
+    for behind in 1..seen.len() {
+        if !machine.retreat() || !is_at(alloc, machine, seen, seen.len() - 1 - behind)? {
+            return Ok(false);
+        }
+    }
+    Ok(!machine.retreat())
+}
+
+/// Whether the way forward again shows the same, from point 0 to the ending.
+fn goes_forth(
+    alloc: Global,
+    machine: &mut Machine<BytesSource, Full>,
+    seen: &[Vec<u8>],
+) -> Result<bool, AllocError> {
+    for at in 1..seen.len() {
+        machine.advance(alloc)?;
+        if !is_at(alloc, machine, seen, at)? {
+            return Ok(false);
+        }
+    }
+    Ok(machine.step() != Step::At)
+}
+
+/// Whether a machine shows what it showed at a point.
+fn is_at(
+    alloc: Global,
+    machine: &Machine<BytesSource, Full>,
+    seen: &[Vec<u8>],
+    point: usize,
+) -> Result<bool, AllocError> {
+    match seen.get(point) {
+        None => Ok(false),
+        Some(before) => Ok(shown(alloc, machine)?.as_slice() == before.as_slice()),
+    }
+}
+
+/// All that a machine shows where it stands.
+fn shown(alloc: Global, machine: &Machine<BytesSource, Full>) -> Result<Vec<u8>, AllocError> {
+    let point = machine.point();
+    let kept = machine.kept();
+    let depth = machine.depth();
+    let status = machine.status();
+    let arrays = machine.array_count();
+    let line = format!(in alloc; "{point} {kept} {depth} {status} {arrays}\n")?;
+    let mut out = Vec::from_slice(alloc, line.as_bytes())?;
+    push_site(alloc, &mut out, machine.site())?;
+    push_step(&mut out, machine.step())?;
+    out.extend_from_slice(machine.output())?;
+    out.push(b'\n')?;
+    push_record(&mut out, machine)?;
+    push_globals(&mut out, machine)?;
+    push_calls(alloc, &mut out, machine)?;
+    Ok(out)
+}
+
+fn push_site(alloc: Global, out: &mut Vec<u8>, site: Option<usize>) -> Result<(), AllocError> {
+    if let Some(site) = site {
+        out.extend_from_slice(format!(in alloc; "{site}")?.as_bytes())?;
+    }
+    out.push(b'\n')?;
+    Ok(())
+}
+
+fn push_step(out: &mut Vec<u8>, step: Step) -> Result<(), AllocError> {
+    match step {
+        Step::At => {}
+        Step::Ended(status) => push_number(out, i64::from(status))?,
+        Step::Faulted(fault) => out.extend_from_slice(fault.text().as_bytes())?,
+    }
+    out.push(b'\n')?;
+    Ok(())
+}
+
+fn push_record(out: &mut Vec<u8>, machine: &Machine<BytesSource, Full>) -> Result<(), AllocError> {
+    out.extend_from_slice(machine.text())?;
+    let count = machine.field_count();
+    for before in 0..count {
+        out.push(b'|')?;
+        match machine.field(before + 1) {
+            Some(FieldRef::Piece(text)) => out.extend_from_slice(text)?,
+            Some(FieldRef::Kept(value)) => push_value(out, value)?,
+            None => {}
+        }
+    }
+    out.push(b'\n')?;
+    Ok(())
+}
+
+fn push_globals(out: &mut Vec<u8>, machine: &Machine<BytesSource, Full>) -> Result<(), AllocError> {
+    for number in 0..NAMES {
+        if let Some(value) = machine.global(number) {
+            push_value(out, value)?;
+            out.push(b'|')?;
+        }
+    }
+    out.push(b'\n')?;
+    Ok(())
+}
+
+/// The activations, with their calling points, and the locals of the innermost.
+fn push_calls(
+    alloc: Global,
+    out: &mut Vec<u8>,
+    machine: &Machine<BytesSource, Full>,
+) -> Result<(), AllocError> {
+    let depth = machine.depth();
+    for number in 0..depth {
+        if let Some(activation) = machine.frame(number) {
+            let function = activation.function;
+            let called_at = activation.called_at;
+            let line = format!(in alloc; "{function} {called_at} ")?;
+            out.extend_from_slice(line.as_bytes())?;
+            push_site(alloc, out, activation.site)?;
+        }
+    }
+    for number in 0..NAMES {
+        match machine.local(number) {
+            Some(Local::Holds(value)) => push_value(out, value)?,
+            Some(Local::Names(_)) => out.push(b'a')?,
+            None => {}
+        }
+    }
+    Ok(())
+}
