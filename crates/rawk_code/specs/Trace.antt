@@ -117,7 +117,7 @@ trace p settings given =
     let w = scene p given in
     then_end (do_first (in_order (map (exec w) p.begin.items)) (main p w) (start p.names.items p.ranges settings)) (in_order (map (exec w) p.end.items))
 
--- the site where execution stands: that of the last point reached at its depth
+-- the site where execution stands: that of the point `here`
 abbrev pub site_now : Run → Option ℕ
 site_now run = run.state.site
 

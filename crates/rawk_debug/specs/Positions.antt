@@ -84,7 +84,7 @@ pub record IsTakenBack (old new : Position) : Type 0 where
   pub sets : old.sets ≡ new.sets ++ last ∷ []
   pub same : new ≡ record old { sets = new.sets }
 
--- a position that can be: what is kept is behind it, and no set is before it
+-- a position that can be: within the steps; what is kept is not beyond it, and no set stands at a later point
 pub record IsPosition (m : Position) : Type 0 where
   pub within : m.point ≤ m.steps
   pub kept : m.oldest ≤ m.point

@@ -17,7 +17,7 @@ pub use Rattle.rawk_special.specs.declared.special.TheConstants.{NR, FNR, FS, OF
 use Rattle.rawk_store.specs.declared.target.Target as target
 use Rattle.rawk_store.specs.declared.target.Target.TheVariants as place
 
--- the state: the special variables come first among the globals, `whole` is `$0`, `here` is the last point reached at the present depth, and `site` its site
+-- the state: the special variables come first among the globals, `whole` is `$0`, `here` is the last point reached at the present depth (0 before the first; after `exit` or `next` in a function, the point of that jump), and `site` its site
 pub record State : Type 0 where
   pub globals : List Value
   pub arrays : List Elements

@@ -22,7 +22,7 @@ pub enum Ending {
 }
 
 /// The place in the code (from 0), the phase, the exit status, the number of the last point reached at the present depth,
-/// the site of the last point, the bytes of the input consumed since bytes were last dropped, and how the run ended.
+/// the site of that point, the bytes of the input consumed since bytes were last dropped, and how the run ended.
 #[derive(Clone, Copy, Debug, PartialEq, Eq)]
 pub struct Registers {
     pub place: usize,

@@ -31,7 +31,7 @@ pub enum Expr {
     Update(Arithmetic, Place, Box<Expr>),
     /// `++` and `--` behind a place, which add 1 or take it away
     After(Arithmetic, Place),
-    /// a call of a function, by its number from 0 in the order of the text, with its arguments: never more than it has parameters
+    /// a call of a function, by its number from 0 in the order of the text, with its arguments
     Call(usize, Vec<Expr>),
 }
 
