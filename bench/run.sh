@@ -20,7 +20,7 @@ seconds() { # program, file: the best user + system seconds of three runs
 }
 
 beside() { # program, file: our time beside the others
-  echo "== $1"
+  echo "== $1 ($(basename "$2"))"
   base=""
   for awk in mawk gawk bin/rawk; do
     command -v "$awk" > /dev/null || continue
@@ -34,6 +34,10 @@ beside() { # program, file: our time beside the others
 
 for program in '{ s += $2 } END { print s }' '{ n += NF } END { print n, NR }' '{ print $3, $1 }'; do
   beside "$program" "$folder/input"
+done
+yes 'abcd 57 c 3' | head -n 1000000 > "$folder/lines"
+for program in '{ n += NF } END { print n, NR }' '{ s += $2 } END { print s }' '{ print $3, $1 }'; do
+  beside "$program" "$folder/lines"
 done
 yes x | head -n 3000000 > "$folder/short"
 for program in '{ x = 1; y = 2; z = x; x = 3; y = 4; z = 5; x = 6; y = 7 }' '{ n += 1 } END { print n }'; do

@@ -21,11 +21,13 @@ RUNS = [
     (["-v", "x=a\\tlong text, longer than a word", "-vy=1", "-F, *", "{ print x, y, $2 }"], b"a, b\n"),
     (["BEGIN { x = 9223372036854775807; print x; print x + 1 }"], b""),
     (['function f(n, t) { t = t "a text longer than a word"; return n < 1 ? t : f(n - 1, t) } BEGIN { print f(40) }'], b""),
+    (['{ printf "%s|%40d\\n", toupper($1) substr($0, 2, 30), index($0, "b"); x = sprintf("%40s", length) } END { print x, int("7.5") }'], b"a text longer than a word\nb\n"),
     (['function f() { if (NR == 2) next; return 1 + g() } function g() { exit 3 } { print f() } END { print NR }'], b"a\nb\n"),
 ]
 
 SESSIONS = [
     ("BEGIN { x = 1; x = x + 1; print x }", b"", ["step", "step", "print x", "reverse-step", "print x", "reverse-continue", "step", "step", "step", "step"]),
+    ('{ x = sprintf("%40s", substr($0, 2)); FS = ":"; printf "%s;%d", x, NR }', b"a text longer than a word\nb:c\n", ["step", "step", "step", "print x", "set OFS=\"a text longer than a word\"", "rs", "print x", "continue", "print x", "print $1", "rc", "continue"]),
     ("{ n += $1 } END { print n }", b"3\n4\n", ["continue", "print n", "rc", "step", "step", "step", "print $1", "rs", "print n", "continue", "rs", "backtrace"]),
     ("{ n += $1 } END { print n }", b"3\n4\n", ["watch n", "continue", "print $1", "c", "set n=10", "watch $1", "rc", "rc", "c", "unwatch 1", "set NF=-1", "reverse-set", "set n=5", "step", "rs", "reverse-set", "rn", "break 1", "c", "delete 3", "print q", "c", "set n=1", "rc"]),
     ('BEGIN { x = "a text"; y = x; print y, x }', b"", ["next", "next", "print y", "rn", "continue", "rc", "continue", "rs"]),

@@ -17,12 +17,26 @@ use Rattle.rawk_debug.specs.Transcript.{Transcript, Carries, IsReply, reply_text
 use Rattle.rawk_debug.specs.Runs.{Leads, leads_nowhere, leads_on, leads_to_quit, leads_to_end}
 use Rattle.rawk.specs.declared.dialog.Over.{Over}
 use Rattle.rawk.specs.declared.dialog.Over.TheVariants.{Ended, Unread, Unwritten, NoMemory}
-use Rattle.rawk.specs.Dialogs.{IsNextLine, LinesTo, HasNoLine, newline, IsDialog, to_end, to_quit, unread, no_memory, unwritten, over_of, quits_by}
+use Rattle.rawk_commands.specs.Reading.{reading}
+use Rattle.rawk_debug.specs.Transcript.{is_quit}
+use Rattle.rawk.specs.Dialogs.{IsNextLine, LinesTo, NoneQuits, HasNoLine, newline, IsDialog, to_end, to_quit, unread, no_memory, unwritten, over_of, quits_by}
 
 -- one line more
 pub lines_on : (asked : Input) (start : ℕ) (lines : List Bytes) (count : ℕ) (line : Bytes) (next : ℕ) → LinesTo asked start lines count → IsNextLine asked count line next → LinesTo asked start (lines ++ line ∷ []) next
 lines_on asked start [] count line next same is = (next, ap (λ k. next_record asked k newline) (sym same) ∙ is, refl)
 lines_on asked start (x ∷ lines) count line next (m, first, rest) is = (m, first, lines_on asked m lines count line next rest is)
+
+-- one more that does not quit
+none_quits_on : (lines : List Bytes) (line : Bytes) → NoneQuits lines → is_quit (reading line) ≡ false → NoneQuits (lines ++ line ∷ [])
+none_quits_on [] line none stays = (stays, tt)
+none_quits_on (x ∷ lines) line (first, rest) stays = (first, none_quits_on lines line rest stays)
+
+-- a line whose reply does not end the session does not quit
+stays_by : (input : Input) (line : Bytes) (old : Stand) (reply : Reply) (new : Stand) → quits_by reply ≡ false → Carries input line old reply new → is_quit (reading line) ≡ false
+stays_by input line old (Text t) new h c = c.0
+stays_by input line old (Line r) new h c = c.0
+stays_by input line old Nothing new h c = c.0
+stays_by input line old Quits new h c = absurd (cc h)
 
 -- of lines, nothing but a failed read is a fault
 abbrev IsRead : {A : Type 0} → Result A Fault → Type 0
@@ -74,13 +88,14 @@ stays_is Nothing h = tt
 stays_is Quits h = absurd (cc h)
 
 -- a part of an answer is written
-unwritten_part : (input asked : Input) (first new : Stand) (lines : List Bytes) (count : ℕ) (out text : Bytes) (size : ℕ) → LinesTo asked 0 lines count → Transcript input lines first (out ++ text) new → size < length text → IsDialog input asked first new Unwritten (out ++ take size text)
-unwritten_part input asked first new lines count out text size read all small =
+unwritten_part : (input asked : Input) (first mid new : Stand) (lines : List Bytes) (line : Bytes) (count : ℕ) (out text : Bytes) (size : ℕ) → LinesTo asked 0 (lines ++ line ∷ []) count → NoneQuits (lines ++ line ∷ [])
+    → Transcript input lines first out mid → Transcript input (lines ++ line ∷ []) first (out ++ text) new → size < length text → IsDialog input asked first new Unwritten (out ++ take size text)
+unwritten_part input asked first mid new lines line count out text size read stays before all small =
     let whole : out ++ text ≡ (out ++ take size text) ++ drop size text = ap (λ (b : Bytes). out ++ b) (sym (take-append-drop size text)) ∙ sym (append_assoc out (take size text) (drop size text)) in
     let a = length-append out text in
     let b = length-append out (take size text) in
     let n = length-take-le size text (omega (arith, small)) in
-    unwritten lines count (out ++ text) (out ++ take size text) read all (drop size text, whole) (omega (arith, a, b, n, small))
+    unwritten lines line count mid out (out ++ text) (out ++ take size text) read stays before all (take size text, refl) (drop size text, whole) (omega (arith, a, b, n, small))
 
 -- what was consumed changes nothing of what may come
 pub come_same : {S : Type 0} (may_give : S → Input → Type 0) (tape now : TapeState S) (count : ℕ) (asked : Input) → now ≡ record tape { consumed = count } → MayBe may_give now asked → MayBe may_give tape asked
@@ -103,6 +118,7 @@ pub record SoFar {M S V : Type 0} (may_be : M → Input → Type 0) (may_give : 
   pub lines : List Bytes
   pub out : Bytes
   pub leads : (input : Input) → may_be machine input → Leads input lines first out now
+  pub stays : (input : Input) → may_be machine input → NoneQuits lines
   pub narrows : (input : Input) → may_be machine input → may_be start input
   pub read : (commands : Input) → MayBe may_give asked commands → LinesTo commands 0 lines asked.consumed
   pub comes : (commands : Input) → MayBe may_give asked commands → MayBe may_give asked_first commands
@@ -120,6 +136,7 @@ begun may_be may_give may_hold first machine tape sink none = record {
   lines = [];
   out = [];
   leads = λ input may. leads_nowhere input first;
+  stays = λ input may. tt;
   narrows = λ input may. may;
   read = λ commands come. none;
   comes = λ commands come. come;
@@ -130,12 +147,12 @@ module _ {M S V : Type 0} (may_be : M → Input → Type 0) (may_give : S → In
   -- there is no next line
   pub unread_is : (over : Over) → ((asked : Input) → MayBe may_give tape2 asked → HasNoLine asked tape.consumed over) → IsOver may_be may_give may_hold first now machine tape2 sink_first sink over
   unread_is Ended none input asked may come held h =
-      (so.out, so.taken held h, to_end so.lines tape.consumed so.out (so.read asked (comes asked come)) (none asked come) (leads_to_end input so.lines first so.out now (so.leads input may)))
+      (so.out, so.taken held h, to_end so.lines tape.consumed so.out (so.read asked (comes asked come)) (so.stays input may) (none asked come) (leads_to_end input so.lines first so.out now (so.leads input may)))
   unread_is Unread none input asked may come held h =
-      (so.out, so.taken held h, unread so.lines tape.consumed so.out (so.read asked (comes asked come)) (none asked come) (leads_to_end input so.lines first so.out now (so.leads input may)))
+      (so.out, so.taken held h, unread so.lines tape.consumed so.out (so.read asked (comes asked come)) (so.stays input may) (none asked come) (leads_to_end input so.lines first so.out now (so.leads input may)))
   unread_is Unwritten none input asked may come held h = absurd (none asked come)
   unread_is NoMemory none input asked may come held h =
-      (so.out, so.taken held h, no_memory so.lines tape.consumed so.out (so.read asked (comes asked come)) (leads_to_end input so.lines first so.out now (so.leads input may)))
+      (so.out, so.taken held h, no_memory so.lines tape.consumed so.out (so.read asked (comes asked come)) (so.stays input may) (leads_to_end input so.lines first so.out now (so.leads input may)))
 
   module _ (line found : Bytes) (reply : Reply) (same : line ≡ found) (next : (asked : Input) → MayBe may_give tape2 asked → IsNextLine asked tape.consumed found tape2.consumed) (narrows : (input : Input) → may_be machine2 input → may_be machine input) (carries : (input : Input) → may_be machine2 input → Carries input line now reply new) where
     reads : (asked : Input) → MayBe may_give tape2 asked → LinesTo asked 0 (so.lines ++ line ∷ []) tape2.consumed
@@ -145,10 +162,13 @@ module _ {M S V : Type 0} (may_be : M → Input → Type 0) (may_give : S → In
     pub quitted : quits_by reply ≡ true → IsOver may_be may_give may_hold first new machine2 tape2 sink_first sink Ended
     quitted is input asked may come held h =
         let quit : Carries input line now Quits new = subst (λ (r : Reply). Carries input line now r new) (quits_is reply is) (carries input may) in
-        (so.out, so.taken held h, to_quit so.lines line tape2.consumed so.out (reads asked come) quit.0 (leads_to_quit input so.lines first so.out now (so.leads input (narrows input may)) line new [] quit))
+        (so.out, so.taken held h, to_quit so.lines line tape2.consumed so.out (reads asked come) (so.stays input (narrows input may)) quit.0 (leads_to_quit input so.lines first so.out now (so.leads input (narrows input may)) line new [] quit))
 
     leads_further : quits_by reply ≡ false → (input : Input) → may_be machine2 input → Leads input (so.lines ++ line ∷ []) first (so.out ++ reply_text reply) new
     leads_further is input may = leads_on input so.lines first so.out now (so.leads input (narrows input may)) line reply new (stays_is reply is) (carries input may)
+
+    stays_further : quits_by reply ≡ false → (input : Input) → may_be machine2 input → NoneQuits (so.lines ++ line ∷ [])
+    stays_further is input may = none_quits_on so.lines line (so.stays input (narrows input may)) (stays_by input line now reply new is (carries input may))
 
     -- its answer is written in part
     pub stopped : (text : Bytes) → text ≡ reply_text reply → quits_by reply ≡ false → ((held : Bytes) → may_hold sink held → (size : ℕ) × (size < length text) × may_hold sink2 (held ++ take size text))
@@ -157,7 +177,8 @@ module _ {M S V : Type 0} (may_be : M → Input → Type 0) (may_give : S → In
         let part = subst (λ (b : Bytes). (size : ℕ) × (size < length b) × may_hold sink2 ((held ++ so.out) ++ take size b)) bytes (cut (held ++ so.out) (so.taken held h)) in (
           so.out ++ take part.0 (reply_text reply),
           subst (λ (b : Bytes). may_hold sink2 b) (append_assoc held so.out (take part.0 (reply_text reply))) part.2,
-          unwritten_part input asked first new (so.lines ++ line ∷ []) tape2.consumed so.out (reply_text reply) part.0 (reads asked come) (leads_to_end input (so.lines ++ line ∷ []) first (so.out ++ reply_text reply) new (leads_further is input may)) part.1,
+          unwritten_part input asked first now new so.lines line tape2.consumed so.out (reply_text reply) part.0 (reads asked come) (stays_further is input may)
+              (leads_to_end input so.lines first so.out now (so.leads input (narrows input may))) (leads_to_end input (so.lines ++ line ∷ []) first (so.out ++ reply_text reply) new (leads_further is input may)) part.1,
         )
 
     -- its answer is written
@@ -166,6 +187,7 @@ module _ {M S V : Type 0} (may_be : M → Input → Type 0) (may_give : S → In
       lines = so.lines ++ line ∷ [];
       out = so.out ++ reply_text reply;
       leads = leads_further is;
+      stays = stays_further is;
       narrows = λ input may. so.narrows input (narrows input may);
       read = reads;
       comes = λ asked come. so.comes asked (comes asked come);

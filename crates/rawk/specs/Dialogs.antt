@@ -28,6 +28,11 @@ abbrev pub LinesTo : Input → ℕ → List Bytes → ℕ → Type 0
 LinesTo input count [] end = end ≡ count
 LinesTo input count (line ∷ lines) end = (next : ℕ) × IsNextLine input count line next × LinesTo input next lines end
 
+-- none of the lines asks for the session's end
+abbrev pub NoneQuits : List Bytes → Type 0
+NoneQuits [] = Unit {0}
+NoneQuits (line ∷ lines) = (is_quit (reading line) ≡ false) × NoneQuits lines
+
 -- how a dialog is over that has no next line to carry out
 abbrev pub HasNoLine : Input → ℕ → Over → Type 0
 HasNoLine input count Ended = next_record input count newline ≡ Ok None
@@ -35,18 +40,19 @@ HasNoLine input count Unread = next_record input count newline ≡ Err ReadFaile
 HasNoLine input count Unwritten = ⊥
 HasNoLine input count NoMemory = Unit {0}
 
--- A dialog on an input of the program, with these commands: from where the session stood to where it stands, how it is over, and what was written of the transcript of the lines that were read.
+-- A dialog on an input of the program, with these commands: from where the session stood to where it stands, how it is over, and what was written of the transcript of the lines that were read. Behind a `quit` no line is read.
 pub data IsDialog (input asked : Input) (first last : Stand) : Over → Bytes → Type 0 where
   -- the commands are at their end
-  to_end : (lines : List Bytes) (count : ℕ) (text : Bytes) → LinesTo asked 0 lines count → next_record asked count newline ≡ Ok None → Transcript input lines first text last → IsDialog input asked first last Ended text
+  to_end : (lines : List Bytes) (count : ℕ) (text : Bytes) → LinesTo asked 0 lines count → NoneQuits lines → next_record asked count newline ≡ Ok None → Transcript input lines first text last → IsDialog input asked first last Ended text
   -- the last line is `quit`
-  to_quit : (lines : List Bytes) (line : Bytes) (count : ℕ) (text : Bytes) → LinesTo asked 0 (lines ++ line ∷ []) count → is_quit (reading line) ≡ true → Transcript input (lines ++ line ∷ []) first text last → IsDialog input asked first last Ended text
+  to_quit : (lines : List Bytes) (line : Bytes) (count : ℕ) (text : Bytes) → LinesTo asked 0 (lines ++ line ∷ []) count → NoneQuits lines → is_quit (reading line) ≡ true → Transcript input (lines ++ line ∷ []) first text last → IsDialog input asked first last Ended text
   -- the next line could not be read
-  unread : (lines : List Bytes) (count : ℕ) (text : Bytes) → LinesTo asked 0 lines count → next_record asked count newline ≡ Err ReadFailed → Transcript input lines first text last → IsDialog input asked first last Unread text
+  unread : (lines : List Bytes) (count : ℕ) (text : Bytes) → LinesTo asked 0 lines count → NoneQuits lines → next_record asked count newline ≡ Err ReadFailed → Transcript input lines first text last → IsDialog input asked first last Unread text
   -- memory was refused for the reading of the next line
-  no_memory : (lines : List Bytes) (count : ℕ) (text : Bytes) → LinesTo asked 0 lines count → Transcript input lines first text last → IsDialog input asked first last NoMemory text
-  -- a part of the last answer was written at most
-  unwritten : (lines : List Bytes) (count : ℕ) (text taken : Bytes) → LinesTo asked 0 lines count → Transcript input lines first text last → IsBeginning taken text → length taken < length text → IsDialog input asked first last Unwritten taken
+  no_memory : (lines : List Bytes) (count : ℕ) (text : Bytes) → LinesTo asked 0 lines count → NoneQuits lines → Transcript input lines first text last → IsDialog input asked first last NoMemory text
+  -- all answers before the last one were written, and of that a part at most
+  unwritten : (lines : List Bytes) (line : Bytes) (count : ℕ) (mid : Stand) (before text taken : Bytes) → LinesTo asked 0 (lines ++ line ∷ []) count → NoneQuits (lines ++ line ∷ []) → Transcript input lines first before mid
+      → Transcript input (lines ++ line ∷ []) first text last → IsBeginning before taken → IsBeginning taken text → length taken < length text → IsDialog input asked first last Unwritten taken
 
 -- how a dialog is over whose next line is a fault
 abbrev pub over_of : Fault → Over

@@ -13,7 +13,6 @@ use Rattle.rawk_tree.specs.declared.tree.Joiner.{Joiner}
 use Rattle.rawk_tree.specs.declared.tree.Joiner.TheVariants as joiner
 use Rattle.rawk_tree.specs.declared.tree.Link.TheVariants as link
 use Rattle.rawk_tree.specs.declared.tree.Place.TheVariants as place
-use Rattle.rawk_tree.specs.declared.tree.Guard.{Guard}
 use Rattle.rawk_tree.specs.declared.tree.Guard.TheVariants as guard
 use Rattle.rawk_tree.specs.declared.tree.Stmt.{Stmt, end_of-Stmt, more_of-Stmt, end_of-Branch, more_of-Branch}
 use Rattle.rawk_tree.specs.declared.tree.Stmt.TheVariants as stmt
@@ -23,11 +22,12 @@ use Rattle.rawk_tree.specs.declared.tree.Program.{Program}
 use Rattle.rawk_special.specs.declared.special.TheConstants.{COUNT, NR}
 use Rattle.rawk_value.specs.Values.{Bytes}
 use Rattle.rawk_code.specs.declared.code.Instr.TheVariants as instr
-use Rattle.rawk_code.specs.declared.code.Operand.TheVariants.{Given as Known, Popped}
+use Rattle.rawk_code.specs.declared.code.Operand.TheVariants.{Given as Known, Popped, Computed}
+use Rattle.rawk_code.specs.declared.code.Computation.TheVariants as computation
 use Rattle.rawk_code.specs.declared.code.Destination.TheVariants as destination
 use Rattle.rawk_code.specs.declared.code.Simple.TheVariants as simple
 use Rattle.rawk_code.specs.Actions.{Point, Ended, Faulted, Limited}
-use Rattle.rawk_code.specs.Trace.{Trace, trace, out, number, status, line_of}
+use Rattle.rawk_code.specs.Trace.{Trace, trace, out, status, line_of}
 use Rattle.rawk_code.specs.Code.{program_code, entries_of}
 use Rattle.rawk_code.proofs.Rows.{vec, x, sites, given}
 
@@ -160,8 +160,8 @@ module _ (b : Box (Unit {0}) Global) (ptr : Ptr) (alloc : Global) where
       ∷ instr.Point (Some 4) ∷ instr.Print 0 (simple.Global y ∷ simple.Global x ∷ [])
       ∷ instr.BeginEnd ∷ instr.Halt
       ∷ instr.Point (Some 0)
-      ∷ instr.Point (Some 1) ∷ instr.Push (simple.Global x) ∷ instr.Combine (joiner.Arithmetic Add) (Known (simple.Number (pos 1))) ∷ instr.Store (destination.Global x) Popped
-      ∷ instr.Point (Some 2) ∷ instr.Push (simple.Local 0) ∷ instr.Combine (joiner.Arithmetic Mul) (Known (simple.Local 0)) ∷ instr.Return Popped
+      ∷ instr.Point (Some 1) ∷ instr.Store (destination.Global x) (Computed (computation.Arithmetic Add) (simple.Global x) (simple.Number (pos 1)))
+      ∷ instr.Point (Some 2) ∷ instr.Return (Computed (computation.Arithmetic Mul) (simple.Local 0) (simple.Local 0))
       ∷ instr.Return (Known simple.Uninitialized) ∷ []
   squaring-code = refl
 
@@ -296,10 +296,10 @@ module _ (b : Box (Unit {0}) Global) (ptr : Ptr) (alloc : Global) where
 
   -- the code of NR == 1, NR == 2 { print }
   between-code : program_code (between (is_record 1) (is_record 2)) ≡ instr.BeginMain
-      ∷ instr.Point None ∷ instr.ReadRecord 13
-      ∷ instr.Point (Some 1) ∷ instr.SkipIfOn 0 4
-      ∷ instr.Push (simple.Global NR) ∷ instr.Combine (joiner.Comparison comparison.Equal) (Known (simple.Number (pos 1))) ∷ instr.SkipIfFalse 7 Popped ∷ instr.SetRange 0 true
-      ∷ instr.Push (simple.Global NR) ∷ instr.Combine (joiner.Comparison comparison.Equal) (Known (simple.Number (pos 2))) ∷ instr.SkipIfFalse 1 Popped ∷ instr.SetRange 0 false
+      ∷ instr.Point None ∷ instr.ReadRecord 9
+      ∷ instr.Point (Some 1) ∷ instr.SkipIfOn 0 2
+      ∷ instr.SkipIfFalse 5 (Computed (computation.Comparison comparison.Equal) (simple.Global NR) (simple.Number (pos 1))) ∷ instr.SetRange 0 true
+      ∷ instr.SkipIfFalse 1 (Computed (computation.Comparison comparison.Equal) (simple.Global NR) (simple.Number (pos 2))) ∷ instr.SetRange 0 false
       ∷ instr.Point (Some 2) ∷ instr.Print 0 (simple.Field 0 ∷ [])
       ∷ instr.GoTo 1
       ∷ instr.BeginEnd ∷ instr.Halt

@@ -14,7 +14,7 @@ use Rattle.rawk_code.specs.declared.code.Instr.TheVariants as instr
 use Rattle.rawk_code.specs.Actions.{Point, Run, Ended, Limited, Stops, Goes, Breaks, sets_at, Given}
 use Rattle.rawk_code.specs.Trace.{reads, start}
 use Rattle.rawk_code.specs.Machine.{Phase, InBegin, InEnd, to_main, Places, Config, Going, goes_on, act, steps}
-use Rattle.rawk_code.specs.Code.{simple_of, operand_of, unless_simple, expr_code, Piece, nowhere, always, in_turn, Arm, then_to, branch_to, if_code, step_around, body_around, loop_code, jump_code, test_code, stmt_code, stmt_codes, arms_of, main_code, begin_code, end_at_of, functions_at_of, functions_code, program_code, HasAt}
+use Rattle.rawk_code.specs.Code.{operand_of, unless_ready, expr_code, Piece, nowhere, always, in_turn, Arm, then_to, branch_to, if_code, step_around, body_around, loop_code, jump_code, test_code, stmt_code, stmt_codes, arms_of, main_code, begin_code, end_at_of, functions_at_of, functions_code, program_code, HasAt}
 use Rattle.rawk_code.specs.Laws.{IsBeginning, FirstIsSilent, FirstOutputLaw}
 use Rattle.rawk_code.specs.Steps.{run_of, with_point, all_set_same, steps_grow, over_stays}
 use Rattle.rawk_code.proofs.Follows.{has_front, has_back, has_all}
@@ -140,12 +140,13 @@ module _ (code : List Instr) where
     stmt_opens : (s : Stmt) → Opens (stmt_code s)
     stmt_opens (stmt.Do site e) = point_opens site (always _)
     stmt_opens (stmt.Print site es) = point_opens site (always _)
+    stmt_opens (stmt.Printf site f es) = point_opens site (always _)
     stmt_opens (stmt.Block' shape all) = in_turn_opens (stmt_codes all) (stmts_open all)
     stmt_opens (stmt.If' shape branches p other) = if_opens (arms_of branches) (stmt_code other) (arms_tested branches) (stmt_opens other)
     stmt_opens (stmt.While' site e p body) = loop_opens false site _ _ (λ w at. []) (stmt_code body) none_opens (stmt_opens body)
     stmt_opens (stmt.DoWhile' p body site e) = loop_opens true site _ _ (λ w at. []) (stmt_code body) none_opens (stmt_opens body)
     stmt_opens (stmt.For' p first site e q step r body) =
-        in_turn_opens (stmt_code first ∷ loop_code false (test_code site e) (operand_of (simple_of e)) (stmt_code step) (stmt_code body) ∷ []) (stmt_opens first, (loop_opens false site _ _ (stmt_code step) (stmt_code body) (stmt_opens step) (stmt_opens body), tt))
+        in_turn_opens (stmt_code first ∷ loop_code false (test_code site e) (operand_of e) (stmt_code step) (stmt_code body) ∷ []) (stmt_opens first, (loop_opens false site _ _ (stmt_code step) (stmt_code body) (stmt_opens step) (stmt_opens body), tt))
     stmt_opens (stmt.Break site) = point_opens site (λ w at. jump_code w.exit)
     stmt_opens (stmt.Continue site) = point_opens site (λ w at. jump_code w.again)
     stmt_opens (stmt.Next site) = point_opens site (always _)
@@ -160,7 +161,7 @@ module _ (code : List Instr) where
 
     arms_tested : {m : _} → (row : Row_of-Branch m) → AllTested (arms_of row)
     arms_tested end_of-Branch = tt
-    arms_tested (more_of-Branch site e body rest) = (site, unless_simple (simple_of e) (expr_code e), refl, arms_tested rest)
+    arms_tested (more_of-Branch site e body rest) = (site, unless_ready (operand_of e) (expr_code e), refl, arms_tested rest)
 
   all_open : (ss : List Stmt) → AllOpen (map stmt_code ss)
   all_open [] = tt

@@ -28,7 +28,7 @@ use Rattle.rawk_code.specs.declared.code.Entry.{Entry}
 use Rattle.rawk_code.specs.declared.code.Instr.{Instr}
 use Rattle.rawk_code.specs.declared.code.Instr.TheVariants as instr
 use Rattle.rawk_code.specs.Trace.{reads}
-use Rattle.rawk_code.specs.Code.{simple_field, simple_of, operand_of, unless_simple, pushed, joined, assign_code, store_code, choice_code, decide_code, change_code, step_code, expr_code, expr_codes, effect_code, place_code, link_code, link_codes, front_of, simples_behind, Piece, nowhere, always, in_turn, when_code, Arm, then_to, branch_to, if_code, step_around, body_around, loop_code, jump_code, test_code, stmt_code, stmt_codes, arms_of, closing_code, opened_code, guard_code, rule_code, records_code, main_code, begin_code, record_at_of, end_at_of, functions_at_of, function_code, functions_code, entries_of, program_code, HasAt, variable_of}
+use Rattle.rawk_code.specs.Code.{simple_field, operand_of, unless_ready, pushed, joined, assign_code, store_code, choice_code, decide_code, change_code, step_code, expr_code, expr_codes, effect_code, place_code, link_code, link_codes, front_of, simples_behind, Piece, nowhere, always, in_turn, when_code, Arm, then_to, branch_to, if_code, step_around, body_around, loop_code, jump_code, test_code, stmt_code, stmt_codes, arms_of, closing_code, opened_code, guard_code, rule_code, records_code, main_code, begin_code, record_at_of, end_at_of, functions_at_of, function_code, functions_code, entries_of, program_code, HasAt, variable_of}
 use Rattle.rawk_code.specs.Valid.{rank_of, rank, IsEntry, Descends, IsValid}
 use Rattle.rawk_code.proofs.Follows.{has_front, has_back, has_all}
 use Rattle.rawk_code.proofs.Statements.{branches_length}
@@ -80,17 +80,18 @@ module _ (code : List Instr) where
   joined_fine [] all = fine_none
   joined_fine (c ∷ cs) all = fine_append c (joined cs) all.0 (joined_fine cs all.1)
 
-  unless_fine : (o : Option Simple) (c : List Instr) → Fine c → Fine (unless_simple o c)
-  unless_fine None c f = f
-  unless_fine (Some from) c f = fine_none
+  unless_fine : (o : Operand) (c : List Instr) → Fine c → Fine (unless_ready o c)
+  unless_fine operand.Popped c f = f
+  unless_fine (operand.Given from) c f = fine_none
+  unless_fine (operand.Computed op a b) c f = fine_none
 
   pushed_fine : (o : Option Simple) (c : List Instr) → Fine c → Fine (pushed o c)
   pushed_fine None c f = f
   pushed_fine (Some from) c f = fine_last [] (instr.Push from) (λ pc. tt) fine_none
 
-  assign_fine : (t : Option Destination) (instruction : Destination → Operand → Instr) (o : Option Simple) (c : List Instr) → ((x : Destination) (from : Operand) (pc : ℕ) → BackAt pc (instruction x from)) → Fine c → Fine (assign_code t instruction o c)
+  assign_fine : (t : Option Destination) (instruction : Destination → Operand → Instr) (o : Operand) (c : List Instr) → ((x : Destination) (from : Operand) (pc : ℕ) → BackAt pc (instruction x from)) → Fine c → Fine (assign_code t instruction o c)
   assign_fine None instruction o c h f = f
-  assign_fine (Some x) instruction o c h f = fine_last (unless_simple o c) (instruction x (operand_of o)) (h x (operand_of o)) (unless_fine o c f)
+  assign_fine (Some x) instruction o c h f = fine_last (unless_ready o c) (instruction x o) (h x o) (unless_fine o c f)
 
   choice_fine : (test : List Instr) (from : Operand) (first second : List Instr) → Fine test → Fine first → Fine second → Fine (choice_code test from first second)
   choice_fine test from first second ft fy fn =
@@ -114,13 +115,17 @@ module _ (code : List Instr) where
     expr_fine (expr.Number n) = fine_last [] (instr.Push _) (λ pc. tt) fine_none
     expr_fine (expr.Text text) = fine_last [] (instr.Push _) (λ pc. tt) fine_none
     expr_fine (expr.Read p) = place_fine p
-    expr_fine (expr.Signed' s p e) = fine_last (unless_simple (simple_of e) (expr_code e)) (instr.Sign s (operand_of (simple_of e))) (λ pc. tt) (unless_fine (simple_of e) (expr_code e) (expr_fine e))
+    expr_fine (expr.Unary' u p e) = fine_last (unless_ready (operand_of e) (expr_code e)) (instr.Unary u (operand_of e)) (λ pc. tt) (unless_fine (operand_of e) (expr_code e) (expr_fine e))
     expr_fine (expr.Chain' p first shape more) = fine_append (expr_code first) (joined (link_codes more)) (expr_fine first) (joined_fine (link_codes more) (links_fine more))
-    expr_fine (expr.Choice' p a q b r c) = choice_fine (unless_simple (simple_of a) (expr_code a)) (operand_of (simple_of a)) (expr_code b) (expr_code c) (unless_fine (simple_of a) (expr_code a) (expr_fine a)) (expr_fine b) (expr_fine c)
+    expr_fine (expr.Choice' p a q b r c) = choice_fine (unless_ready (operand_of a) (expr_code a)) (operand_of a) (expr_code b) (expr_code c) (unless_fine (operand_of a) (expr_code a) (expr_fine a)) (expr_fine b) (expr_fine c)
     expr_fine (expr.After op p) = change_fine op (variable_of p) (place_code p) (place_fine p)
-    expr_fine (expr.Assign' t p e) = assign_fine (variable_of t) instr.Assign (simple_of e) (expr_code e) (λ x from pc. tt) (expr_fine e)
-    expr_fine (expr.Update' op t p e) = assign_fine (variable_of t) (instr.Update op) (simple_of e) (expr_code e) (λ x from pc. tt) (expr_fine e)
+    expr_fine (expr.Assign' t p e) = assign_fine (variable_of t) instr.Assign (operand_of e) (expr_code e) (λ x from pc. tt) (expr_fine e)
+    expr_fine (expr.Update' op t p e) = assign_fine (variable_of t) (instr.Update op) (operand_of e) (expr_code e) (λ x from pc. tt) (expr_fine e)
     expr_fine (expr.Call' f shape args) = fine_last (joined (expr_codes args)) (instr.Call f (length (expr_codes args))) (λ pc. tt) (joined_fine (expr_codes args) (exprs_fine args))
+    expr_fine (expr.Part' p e q from r count) =
+        fine_append (expr_code e) (expr_code from ++ (expr_code count ++ instr.Part ∷ [])) (expr_fine e) (fine_append (expr_code from) (expr_code count ++ instr.Part ∷ []) (expr_fine from) (fine_last (expr_code count) instr.Part (λ pc. tt) (expr_fine count)))
+    expr_fine (expr.Sprintf' p f shape args) =
+        fine_append (expr_code f) (joined (expr_codes args) ++ instr.Sprintf (length (expr_codes args)) ∷ []) (expr_fine f) (fine_last (joined (expr_codes args)) (instr.Sprintf (length (expr_codes args))) (λ pc. tt) (joined_fine (expr_codes args) (exprs_fine args)))
 
     exprs_fine : {m : _} → (row : Row_of-Expr m) → AllFine (expr_codes row)
     exprs_fine end_of-Expr = tt
@@ -133,28 +138,30 @@ module _ (code : List Instr) where
     place_fine (place.Field' p e) = pushed_fine (simple_field e) (expr_code e ++ instr.FieldAt ∷ []) (fine_last (expr_code e) instr.FieldAt (λ pc. tt) (expr_fine e))
 
     link_fine : (l : Link) → Fine (link_code l)
-    link_fine (link.Combine op e) = fine_last (unless_simple (simple_of e) (expr_code e)) (instr.Combine op (operand_of (simple_of e))) (λ pc. tt) (unless_fine (simple_of e) (expr_code e) (expr_fine e))
-    link_fine (link.Decide l e) = decide_fine l (unless_simple (simple_of e) (expr_code e)) (operand_of (simple_of e)) (unless_fine (simple_of e) (expr_code e) (expr_fine e))
+    link_fine (link.Combine op e) = fine_last (unless_ready (operand_of e) (expr_code e)) (instr.Combine op (operand_of e)) (λ pc. tt) (unless_fine (operand_of e) (expr_code e) (expr_fine e))
+    link_fine (link.Decide l e) = decide_fine l (unless_ready (operand_of e) (expr_code e)) (operand_of e) (unless_fine (operand_of e) (expr_code e) (expr_fine e))
 
     links_fine : {m : _} → (row : Row_of-Link m) → AllFine (link_codes row)
     links_fine end_of-Link = tt
     links_fine (more_of-Link l rest) = (link_fine l, links_fine rest)
 
-  store_fine : (t : Option Destination) (instruction : Destination → Operand → Instr) (o : Option Simple) (c : List Instr) → ((x : Destination) (from : Operand) (pc : ℕ) → BackAt pc (instruction x from)) → Fine c → Fine (store_code t instruction o c)
+  store_fine : (t : Option Destination) (instruction : Destination → Operand → Instr) (o : Operand) (c : List Instr) → ((x : Destination) (from : Operand) (pc : ℕ) → BackAt pc (instruction x from)) → Fine c → Fine (store_code t instruction o c)
   store_fine None instruction o c h f = fine_last c instr.Pop (λ pc. tt) f
-  store_fine (Some x) instruction o c h f = fine_last (unless_simple o c) (instruction x (operand_of o)) (h x (operand_of o)) (unless_fine o c f)
+  store_fine (Some x) instruction o c h f = fine_last (unless_ready o c) (instruction x o) (h x o) (unless_fine o c f)
 
   effect_fine : (e : Expr) → Fine (effect_code e)
   effect_fine (expr.Number n) = fine_last _ instr.Pop (λ pc. tt) (expr_fine (expr.Number n))
   effect_fine (expr.Text text) = fine_last _ instr.Pop (λ pc. tt) (expr_fine (expr.Text text))
   effect_fine (expr.Read p) = fine_last _ instr.Pop (λ pc. tt) (expr_fine (expr.Read p))
-  effect_fine (expr.Signed' s p e) = fine_last _ instr.Pop (λ pc. tt) (expr_fine (expr.Signed' s p e))
+  effect_fine (expr.Unary' u p e) = fine_last _ instr.Pop (λ pc. tt) (expr_fine (expr.Unary' u p e))
   effect_fine (expr.Chain' p first shape more) = fine_last _ instr.Pop (λ pc. tt) (expr_fine (expr.Chain' p first shape more))
   effect_fine (expr.Choice' p a q b r c) = fine_last _ instr.Pop (λ pc. tt) (expr_fine (expr.Choice' p a q b r c))
   effect_fine (expr.After op p) = step_fine op (variable_of p) (place_code p) (place_fine p)
-  effect_fine (expr.Assign' t p e) = store_fine (variable_of t) instr.Store (simple_of e) (expr_code e) (λ x from pc. tt) (expr_fine e)
-  effect_fine (expr.Update' op t p e) = store_fine (variable_of t) (instr.StoreUpdate op) (simple_of e) (expr_code e) (λ x from pc. tt) (expr_fine e)
+  effect_fine (expr.Assign' t p e) = store_fine (variable_of t) instr.Store (operand_of e) (expr_code e) (λ x from pc. tt) (expr_fine e)
+  effect_fine (expr.Update' op t p e) = store_fine (variable_of t) (instr.StoreUpdate op) (operand_of e) (expr_code e) (λ x from pc. tt) (expr_fine e)
   effect_fine (expr.Call' f shape args) = fine_last _ instr.Pop (λ pc. tt) (expr_fine (expr.Call' f shape args))
+  effect_fine (expr.Part' p e q from r count) = fine_last _ instr.Pop (λ pc. tt) (expr_fine (expr.Part' p e q from r count))
+  effect_fine (expr.Sprintf' p f shape args) = fine_last _ instr.Pop (λ pc. tt) (expr_fine (expr.Sprintf' p f shape args))
 
   list_fine : (es : List Expr) → AllFine (map expr_code es)
   list_fine [] = tt
@@ -278,29 +285,33 @@ module _ (code : List Instr) where
       go pc (Some p) to safe le = (safe pc (omega (arith, le)), tt)
 
   -- a test's code behind its point
-  tested_fine : (e : Expr) → Fine (unless_simple (simple_of e) (expr_code e))
-  tested_fine e = unless_fine (simple_of e) (expr_code e) (expr_fine e)
+  tested_fine : (e : Expr) → Fine (unless_ready (operand_of e) (expr_code e))
+  tested_fine e = unless_fine (operand_of e) (expr_code e) (expr_fine e)
 
   mutual
     stmt_fine : (s : Stmt) → FinePiece (stmt_code s)
     stmt_fine (stmt.Do site e) = always_fine _ (fine_cons (instr.Point (Some site)) _ (λ pc. tt) (effect_fine e))
     stmt_fine (stmt.Print site es) =
         always_fine _ (fine_cons (instr.Point (Some site)) _ (λ pc. tt) (fine_last (joined (map expr_code (front_of es.items))) (instr.Print (length (front_of es.items)) (simples_behind es.items)) (λ pc. tt) (joined_fine _ (list_fine (front_of es.items)))))
+    stmt_fine (stmt.Printf site f es) =
+        let d = joined (map expr_code es.items) in
+        let i = instr.Printf (length es.items) in
+        always_fine _ (fine_cons (instr.Point (Some site)) _ (λ pc. tt) (fine_append (expr_code f) (d ++ i ∷ []) (expr_fine f) (fine_last d i (λ pc. tt) (joined_fine _ (list_fine es.items)))))
     stmt_fine (stmt.Block' shape all) = in_turn_fine (stmt_codes all) (stmts_fine all)
     stmt_fine (stmt.If' shape branches p other) = if_fine (arms_of branches) (stmt_code other) (arms_fine branches) (stmt_fine other)
-    stmt_fine (stmt.While' site e p body) = loop_fine false site (unless_simple (simple_of e) (expr_code e)) (operand_of (simple_of e)) (λ w at. []) (stmt_code body) (tested_fine e) (in_turn_fine [] tt) (stmt_fine body)
-    stmt_fine (stmt.DoWhile' p body site e) = loop_fine true site (unless_simple (simple_of e) (expr_code e)) (operand_of (simple_of e)) (λ w at. []) (stmt_code body) (tested_fine e) (in_turn_fine [] tt) (stmt_fine body)
+    stmt_fine (stmt.While' site e p body) = loop_fine false site (unless_ready (operand_of e) (expr_code e)) (operand_of e) (λ w at. []) (stmt_code body) (tested_fine e) (in_turn_fine [] tt) (stmt_fine body)
+    stmt_fine (stmt.DoWhile' p body site e) = loop_fine true site (unless_ready (operand_of e) (expr_code e)) (operand_of e) (λ w at. []) (stmt_code body) (tested_fine e) (in_turn_fine [] tt) (stmt_fine body)
     stmt_fine (stmt.For' p first site e q step r body) =
-        in_turn_fine (stmt_code first ∷ loop_code false (test_code site e) (operand_of (simple_of e)) (stmt_code step) (stmt_code body) ∷ [])
-        (stmt_fine first, (loop_fine false site (unless_simple (simple_of e) (expr_code e)) (operand_of (simple_of e)) (stmt_code step) (stmt_code body) (tested_fine e) (stmt_fine step) (stmt_fine body), tt))
+        in_turn_fine (stmt_code first ∷ loop_code false (test_code site e) (operand_of e) (stmt_code step) (stmt_code body) ∷ [])
+        (stmt_fine first, (loop_fine false site (unless_ready (operand_of e) (expr_code e)) (operand_of e) (stmt_code step) (stmt_code body) (tested_fine e) (stmt_fine step) (stmt_fine body), tt))
     stmt_fine (stmt.Break site) = jump_fine site (λ w. w.exit) (λ w to s. s.exit)
     stmt_fine (stmt.Continue site) = jump_fine site (λ w. w.again) (λ w to s. s.again)
     stmt_fine (stmt.Next site) = always_fine _ (fine_cons (instr.Point (Some site)) _ (λ pc. tt) (fine_cons instr.NextRecord [] (λ pc. tt) fine_none))
     stmt_fine (stmt.Exit site) = always_fine _ (fine_cons (instr.Point (Some site)) _ (λ pc. tt) (fine_cons instr.Quit [] (λ pc. tt) fine_none))
     stmt_fine (stmt.ExitWith site e) =
-        always_fine _ (fine_append (test_code site e) _ (fine_cons (instr.Point (Some site)) _ (λ pc. tt) (tested_fine e)) (fine_cons (instr.SetStatus (operand_of (simple_of e))) _ (λ pc. tt) (fine_cons instr.Quit [] (λ pc. tt) fine_none)))
+        always_fine _ (fine_append (test_code site e) _ (fine_cons (instr.Point (Some site)) _ (λ pc. tt) (tested_fine e)) (fine_cons (instr.SetStatus (operand_of e)) _ (λ pc. tt) (fine_cons instr.Quit [] (λ pc. tt) fine_none)))
     stmt_fine (stmt.Return site) = always_fine _ (fine_cons (instr.Point (Some site)) _ (λ pc. tt) (fine_cons (instr.Return (operand.Given simple.Uninitialized)) [] (λ pc. tt) fine_none))
-    stmt_fine (stmt.ReturnWith site e) = always_fine _ (fine_append (test_code site e) _ (fine_cons (instr.Point (Some site)) _ (λ pc. tt) (tested_fine e)) (fine_cons (instr.Return (operand_of (simple_of e))) [] (λ pc. tt) fine_none))
+    stmt_fine (stmt.ReturnWith site e) = always_fine _ (fine_append (test_code site e) _ (fine_cons (instr.Point (Some site)) _ (λ pc. tt) (tested_fine e)) (fine_cons (instr.Return (operand_of e)) [] (λ pc. tt) fine_none))
 
     stmts_fine : {m : _} → (row : Row_of-Stmt m) → AllPieces (stmt_codes row)
     stmts_fine end_of-Stmt = tt
@@ -316,17 +327,17 @@ module _ (code : List Instr) where
 
   guard_fine : (g : Guard) (site : ℕ) (piece : Piece) → FinePiece piece → FinePiece (guard_code g site piece)
   guard_fine (When e) site piece f =
-      when_fine (instr.Point (Some site) ∷ unless_simple (simple_of e) (expr_code e)) (operand_of (simple_of e)) piece (fine_cons (instr.Point (Some site)) _ (λ pc. tt) (unless_fine (simple_of e) (expr_code e) (expr_fine e))) f
+      when_fine (instr.Point (Some site) ∷ unless_ready (operand_of e) (expr_code e)) (operand_of e) piece (fine_cons (instr.Point (Some site)) _ (λ pc. tt) (unless_fine (operand_of e) (expr_code e) (expr_fine e))) f
   guard_fine (Between range first last) site piece f =
       let closes = closing_code range last in
-      let closes_fine = fine_append (unless_simple (simple_of last) (expr_code last)) _ (tested_fine last) (fine_cons (instr.SkipIfFalse 1 (operand_of (simple_of last))) _ (λ pc. tt) (fine_cons (instr.SetRange range false) [] (λ pc. tt) fine_none)) in
+      let closes_fine = fine_append (unless_ready (operand_of last) (expr_code last)) _ (tested_fine last) (fine_cons (instr.SkipIfFalse 1 (operand_of last)) _ (λ pc. tt) (fine_cons (instr.SetRange range false) [] (λ pc. tt) fine_none)) in
       let opened : FinePiece (opened_code range last piece) = record {
         by = λ w pc to has le safe.
             let a = piece w (pc + 1 + length closes) in
             (tt, backs_append (pc + 1) closes a (closes_fine.by (pc + 1) (has_front code (pc + 1) closes a has.1)) (f.by w (pc + 1 + length closes) to (has_back code (pc + 1) closes a has.1) (omega (arith, le, length-append closes a)) safe));
       } in
-      let test = unless_simple (simple_of first) (expr_code first) in
-      let whole = when_fine test (operand_of (simple_of first)) (opened_code range last piece) (tested_fine first) opened in
+      let test = unless_ready (operand_of first) (expr_code first) in
+      let whole = when_fine test (operand_of first) (opened_code range last piece) (tested_fine first) opened in
       record { by = λ w pc to has le safe. (tt, (tt, whole.by w (pc + 1 + 1) to has.1.1 (omega (arith, le)) safe)) }
 
   rules_fine : (rs : List Rule) → AllPieces (map rule_code rs)
@@ -468,7 +479,7 @@ module _ (code : List Instr) where
   descends again entries ready begins pc (Some instr.Pop) h back = onward pc instr.Pop h refl (pc + 1) (omega arith)
   descends again entries ready begins pc (Some instr.FieldAt) h back = onward pc instr.FieldAt h refl (pc + 1) (omega arith)
   descends again entries ready begins pc (Some (instr.Combine op from)) h back = onward pc (instr.Combine op from) h refl (pc + 1) (omega arith)
-  descends again entries ready begins pc (Some (instr.Sign s from)) h back = onward pc (instr.Sign s from) h refl (pc + 1) (omega arith)
+  descends again entries ready begins pc (Some (instr.Unary u from)) h back = onward pc (instr.Unary u from) h refl (pc + 1) (omega arith)
   descends again entries ready begins pc (Some (instr.Decide l k)) h back = (onward pc (instr.Decide l k) h refl (pc + 1) (omega arith), onward pc (instr.Decide l k) h refl (pc + 1 + k) (omega arith))
   descends again entries ready begins pc (Some (instr.Truth from)) h back = onward pc (instr.Truth from) h refl (pc + 1) (omega arith)
   descends again entries ready begins pc (Some (instr.After op x)) h back = onward pc (instr.After op x) h refl (pc + 1) (omega arith)
@@ -477,6 +488,9 @@ module _ (code : List Instr) where
   descends again entries ready begins pc (Some (instr.Store x from)) h back = onward pc (instr.Store x from) h refl (pc + 1) (omega arith)
   descends again entries ready begins pc (Some (instr.StoreUpdate op x from)) h back = onward pc (instr.StoreUpdate op x from) h refl (pc + 1) (omega arith)
   descends again entries ready begins pc (Some (instr.Print m simples)) h back = onward pc (instr.Print m simples) h refl (pc + 1) (omega arith)
+  descends again entries ready begins pc (Some (instr.Printf m)) h back = onward pc (instr.Printf m) h refl (pc + 1) (omega arith)
+  descends again entries ready begins pc (Some (instr.Sprintf m)) h back = onward pc (instr.Sprintf m) h refl (pc + 1) (omega arith)
+  descends again entries ready begins pc (Some instr.Part) h back = onward pc instr.Part h refl (pc + 1) (omega arith)
   descends again entries ready begins pc (Some instr.BeginMain) h back = onward pc instr.BeginMain h refl (pc + 1) (omega arith)
   descends again entries ready begins pc (Some instr.BeginEnd) h back = onward pc instr.BeginEnd h refl (pc + 1) (omega arith)
 

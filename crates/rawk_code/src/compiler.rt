@@ -1,7 +1,7 @@
 // The whole program.
 
 ghost use Rattle.std.specs.Prelude.{◌≡◌, [], ◌∷◌, ◌++◌, ◌+◌, IfOk, OnOk, map, length};
-ghost use Rattle.rawk_code.specs.Code.{simple_of, operand_of, unless_simple, expr_code, in_turn, nowhere, when_code, closing_code, opened_code, guard_code, rule_code, function_code, functions_code, entries_from, records_code, main_code, stmt_code, IsCompiled, HasPlaces};
+ghost use Rattle.rawk_code.specs.Code.{operand_of, unless_ready, expr_code, in_turn, nowhere, when_code, closing_code, opened_code, guard_code, rule_code, function_code, functions_code, entries_from, records_code, main_code, stmt_code, IsCompiled, HasPlaces};
 ghost use Rattle.rawk_code.specs.Correct.{CodeOf};
 ghost use Rattle.rawk_code.specs.Trace.{reads};
 
@@ -183,8 +183,8 @@ fn emit_range(
     last: &Expr,
     action: &Stmt,
 ) -> Result<usize, AllocError>
-    ensures items { IfOk result (λ behind. code.new.items ≡ code.old.items ++ when_code (unless_simple (simple_of first.now) (expr_code first.now)) (operand_of (simple_of first.now)) (opened_code range last.now (stmt_code action.now)) nowhere (length code.old.items)) }
-    ensures behind { IfOk result (λ behind. behind ≡ length code.old.items + length (unless_simple (simple_of first.now) (expr_code first.now)) + 2) }
+    ensures items { IfOk result (λ behind. code.new.items ≡ code.old.items ++ when_code (unless_ready (operand_of first.now) (expr_code first.now)) (operand_of first.now) (opened_code range last.now (stmt_code action.now)) nowhere (length code.old.items)) }
+    ensures behind { IfOk result (λ behind. behind ≡ length code.old.items + length (unless_ready (operand_of first.now) (expr_code first.now)) + 2) }
 {
     let from = emit_operand(alloc, code, first)?;
     let skip = code.len();

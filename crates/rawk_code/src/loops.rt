@@ -1,7 +1,7 @@
 // Loops: what stands before and behind their bodies.
 
 ghost use Rattle.std.specs.Prelude.{◌≡◌, [], ◌∷◌, ◌++◌, ◌+◌, ◌<◌, ◌≤◌, ◌^◌, if◌then◌else◌, IfOk, OnOk, length};
-ghost use Rattle.rawk_code.specs.Code.{simple_of, operand_of, test_code, jump_code, step_around, body_around};
+ghost use Rattle.rawk_code.specs.Code.{operand_of, test_code, jump_code, step_around, body_around};
 ghost use Rattle.rawk_code.specs.Written.{loop_written};
 
 use crate::code::{Around, Instr, Operand};
@@ -27,7 +27,7 @@ pub(crate) fn begin_loop(
     ensures items { IfOk result (λ loop. code.new.items ≡ code.old.items ++ Instr.GoOn 0 ∷ (Instr.GoOn 0 ∷ (Instr.GoOn 0 ∷ (test_code site e.now ++ Instr.GoOn 0 ∷ [])))) }
     ensures start { IfOk result (λ loop. loop.start ≡ length code.old.items) }
     ensures test { IfOk result (λ loop. loop.test_end ≡ length code.old.items + 3 + length (test_code site e.now)) }
-    ensures from { IfOk result (λ loop. loop.from ≡ operand_of (simple_of e.now)) }
+    ensures from { IfOk result (λ loop. loop.from ≡ operand_of e.now) }
     ensures room { IfOk result (λ loop. loop.start + 3 < 2 ^ 63) }
 {
     let start = code.len();

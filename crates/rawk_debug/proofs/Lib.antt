@@ -3,3 +3,4 @@ pub mod Absent
 pub mod Refused
 pub mod Undone
 mod Outward
+mod Backward

@@ -138,6 +138,12 @@ Does input Quit old answer came new = (answer ≡ Left) × (new ≡ old)
 abbrev pub needs_memory : Command → Bool
 needs_memory command = names_something command
 
+-- the commands that go forward: these alone read of the input
+abbrev pub goes_forward : Command → Bool
+goes_forward (Move Forward goal) = true
+goes_forward Run = true
+goes_forward other = false
+
 -- A command has been executed, the state before its last step being as a watch saw it, or it was refused, which changes nothing.
 abbrev pub Executes : Input → Command → Stand → Result Answer C → Observed → Stand → Type 0
 Executes input command old (Ok answer) came new = (refusal command old (here input old.machine) ≡ None) × Does input command old answer came new

@@ -1,5 +1,5 @@
 -- What a session's names are in a program.
-use Rattle.std.specs.Prelude.{ℕ, Bool, true, List, nat_eq, nat_lt, if◌then◌else◌, position, Option, Some, None, is_some, option_map, Result, Ok, Err}
+use Rattle.std.specs.Prelude.{ℕ, Bool, true, List, nat_eq, if◌then◌else◌, position, Option, Some, None, is_some, option_map, Result, Ok, Err}
 use Rattle.std.specs.Str.{bytes_eq}
 use Rattle.rawk_tree.specs.declared.tree.Program.{Program}
 use Rattle.rawk_tree.specs.Sites.{entry_of}
@@ -8,7 +8,6 @@ use Rattle.rawk_value.specs.declared.value.Value.TheVariants.{Number, String}
 use Rattle.rawk_value.specs.Values.{Bytes}
 use Rattle.rawk_store.specs.State.{State, Target, assigned}
 use Rattle.rawk_store.specs.declared.target.Target.TheVariants as target
-use Rattle.rawk_special.specs.declared.special.TheConstants.{COUNT}
 use Rattle.rawk_special.specs.Special.{global_number, is_field_count}
 use Rattle.rawk_commands.specs.declared.command.Place.{Place}
 use Rattle.rawk_commands.specs.declared.command.Place.TheVariants.{Name, Element, Field}
@@ -58,9 +57,9 @@ abbrev pub site_of : Program → Spot → Option ℕ
 site_of p (Line line) = position (λ at. nat_eq at line) p.lines.items
 site_of p (Function name) = entry_of p.functions.items name
 
--- what can be assigned: special variables and fields cannot
+-- what can be assigned: NF and fields cannot
 abbrev pub shared_target : Watched → Option Target
-shared_target (watched.Global number) = if nat_lt number COUNT then None else Some (target.Global number)
+shared_target (watched.Global number) = Some (target.Global number)
 shared_target watched.FieldCount = None
 shared_target (watched.Field number) = None
 

@@ -6,10 +6,11 @@ use Rattle.rawk_value.specs.Values.{Bytes}
 use Rattle.rawk_commands.specs.declared.command.Command.{Command}
 use Rattle.rawk_commands.specs.declared.command.Command.TheVariants.{Quit}
 use Rattle.rawk_commands.specs.declared.command.C.{C}
-use Rattle.rawk_commands.specs.declared.command.C.TheVariants.{AnswerLost}
+use Rattle.rawk_commands.specs.declared.command.C.TheVariants.{AnswerLost, OutOfMemory}
 use Rattle.rawk_commands.specs.Reading.{reading}
 use Rattle.rawk_commands.specs.Refusals.{refusal_line}
 use Rattle.rawk_debug.specs.declared.answer.Answer.{Answer}
+use Rattle.rawk_debug.specs.declared.answer.Answer.TheVariants.{Halted}
 use Rattle.rawk_debug.specs.declared.transcript.Reply.{Reply}
 use Rattle.rawk_debug.specs.declared.transcript.Reply.TheVariants.{Text, Line, Nothing, Quits}
 use Rattle.rawk_debug.specs.Positions.{here}
@@ -18,9 +19,14 @@ use Rattle.rawk_debug.specs.Moves.{Stand}
 use Rattle.rawk_debug.specs.Commands.{Executes}
 use Rattle.rawk_debug.specs.Answers.{text_of}
 
--- the text of an outcome that left the session so; an answer is lost where its text is refused memory
+-- the line that stands for an answer whose text is refused memory: the answer is lost where the command was carried out, and where want of memory stopped it that is told
+abbrev pub lost : Answer → C
+lost (Halted from) = OutOfMemory
+lost other = AnswerLost
+
+-- the text of an outcome that left the session so, or the line that stands for it
 abbrev pub Says : Input → Stand → Observed → Result Answer C → Bytes → Type 0
-Says input new came (Ok answer) text = (text ≡ text_of new (here input new.machine) came answer) ⊎ (text ≡ refusal_line AnswerLost)
+Says input new came (Ok answer) text = (text ≡ text_of new (here input new.machine) came answer) ⊎ (text ≡ refusal_line (lost answer))
 Says input new came (Err reason) text = text ≡ refusal_line reason
 
 -- a command is executed, or refused, and the outcome told

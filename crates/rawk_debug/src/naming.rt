@@ -8,7 +8,7 @@ ghost use Rattle.rawk_debug.specs.Naming.{named, named_here, place_of, lvalue_of
 use crate::stepper::Stepper;
 use crate::stop::{Lvalue, Watched};
 use rawk_commands::{C, Constant, Place, Spot};
-use rawk_special::{COUNT, global_number, is_field_count};
+use rawk_special::{global_number, is_field_count};
 use rawk_store::Target;
 use rawk_tree::Program;
 use rawk_value::{Bytes, Value};
@@ -108,13 +108,7 @@ fn shared_target(place: Watched) -> Option<Target>
     ensures { result ≡ shared_target place }
 {
     match place {
-        Watched::Global(number) => {
-            if number < COUNT {
-                None
-            } else {
-                Some(Target::Global(number))
-            }
-        }
+        Watched::Global(number) => Some(Target::Global(number)),
         Watched::FieldCount => None,
         Watched::Field(_) => None,
     }

@@ -84,6 +84,7 @@ impl<M: Stepper> Session<M> {
         ensures found { (input : Input) → M.may_be self.new.machine input
             → result ≡ is_found input goal (stand M.position self.old) (M.position self.new.machine).point }
         ensures narrows { (input : Input) → M.may_be self.new.machine input → M.may_be self.old.machine input }
+        ensures reads_nothing { (input : Input) → M.may_be self.old.machine input → M.may_be self.new.machine input }
     {
         laws::sets_below();
         self.machine.known();
@@ -106,6 +107,7 @@ impl<M: Stepper> Session<M> {
     fn rewind(&mut self)
         ensures rewound { stand M.position self.new ≡ rewound (stand M.position self.old) }
         ensures narrows { (input : Input) → M.may_be self.new.machine input → M.may_be self.old.machine input }
+        ensures reads_nothing { (input : Input) → M.may_be self.old.machine input → M.may_be self.new.machine input }
     {
         self.machine.known();
         'all: loop {
@@ -137,6 +139,7 @@ impl<M: Stepper> Session<M> {
             → Backwards input goal (stand M.position self.old) result (M.before self.new.machine) (stand M.position self.new) }
         ensures ready { IsReady (M.fresh self.new.machine) result }
         ensures narrows { (input : Input) → M.may_be self.new.machine input → M.may_be self.old.machine input }
+        ensures reads_nothing { (input : Input) → M.may_be self.old.machine input → M.may_be self.new.machine input }
     {
         let found = self.back(goal);
         Answer::Returned(found)

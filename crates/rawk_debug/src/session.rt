@@ -3,7 +3,7 @@
 ghost use Rattle.std.specs.Prelude.{◌≡◌, ◌≢◌, ◌<◌, [], false, not, filter, Err, None, IfOk, IfErr};
 ghost use Rattle.rawk_tape.specs.Records.{Input};
 ghost use Rattle.rawk_commands.specs.declared.command.C.TheVariants.{OutOfMemory, NoSuchNumber};
-ghost use Rattle.rawk_debug.specs.Commands.{Makes, Removes, Executes, IsReady, needs_memory, entry_of, is_entry, is_kind, lvalue_at, most};
+ghost use Rattle.rawk_debug.specs.Commands.{Makes, Removes, Executes, IsReady, goes_forward, needs_memory, entry_of, is_entry, is_kind, lvalue_at, most};
 ghost use Rattle.rawk_debug.specs.Sessions.{stand, machine_of};
 
 use crate::answer::Answer;
@@ -106,6 +106,7 @@ impl<M: Stepper> Session<M> {
             → Executes input (Command.Break spot) (stand M.position self.old) result (M.before self.new.machine) (stand M.position self.new) }
         ensures ready { IfOk result (λ answer. IsReady (M.fresh self.new.machine) answer) }
         ensures narrows { (input : Input) → M.may_be self.new.machine input → M.may_be self.old.machine input }
+        ensures reads_nothing { (input : Input) → M.may_be self.old.machine input → M.may_be self.new.machine input }
     {
         if self.made >= MOST {
             return Err(C::BadArgument);
@@ -122,6 +123,7 @@ impl<M: Stepper> Session<M> {
             → Executes input (Command.Watch place) (stand M.position self.old) result (M.before self.new.machine) (stand M.position self.new) }
         ensures ready { IfOk result (λ answer. IsReady (M.fresh self.new.machine) answer) }
         ensures narrows { (input : Input) → M.may_be self.new.machine input → M.may_be self.old.machine input }
+        ensures reads_nothing { (input : Input) → M.may_be self.old.machine input → M.may_be self.new.machine input }
     {
         if self.made >= MOST {
             return Err(C::BadArgument);
@@ -178,6 +180,7 @@ impl<M: Stepper> Session<M> {
             → Executes input (Command.Set place constant) (stand M.position self.old) result (M.before self.new.machine) (stand M.position self.new) }
         ensures ready { IfOk result (λ answer. IsReady (M.fresh self.new.machine) answer) }
         ensures narrows { (input : Input) → M.may_be self.new.machine input → M.may_be self.old.machine input }
+        ensures reads_nothing { (input : Input) → M.may_be self.old.machine input → M.may_be self.new.machine input }
     {
         self.machine.known();
         let place = match self.lvalue_at(&place) {
@@ -204,6 +207,7 @@ impl<M: Stepper> Session<M> {
         ensures ready { IfOk result (λ answer. IsReady (M.fresh self.new.machine) answer) }
         ensures narrows { (input : Input) → M.may_be self.new.machine input → M.may_be self.old.machine input }
         ensures free { result ≢ Err OutOfMemory }
+        ensures reads_nothing { way ≡ Way.Back → (input : Input) → M.may_be self.old.machine input → M.may_be self.new.machine input }
     {
         self.machine.known();
         match way {
@@ -232,6 +236,7 @@ impl<M: Stepper> Session<M> {
         ensures ready { IfOk result (λ answer. IsReady (M.fresh self.new.machine) answer) }
         ensures narrows { (input : Input) → M.may_be self.new.machine input → M.may_be self.old.machine input }
         ensures free { result ≢ Err OutOfMemory }
+        ensures reads_nothing { (input : Input) → M.may_be self.old.machine input → M.may_be self.new.machine input }
     {
         if self.machine.take_back() {
             Ok(Answer::TakenBack)
@@ -240,13 +245,14 @@ impl<M: Stepper> Session<M> {
         }
     }
 
-    /// Executes a command. What goes back and what takes back takes no memory, and always succeeds.
+    /// Executes a command. What goes back and what takes back takes no memory, and always succeeds; what does not go forward reads nothing.
     pub fn execute(&mut self, alloc: Global, command: Command) -> Result<Answer, C>
         ensures executes { (input : Input) → M.may_be (machine_of self.new) input
             → Executes input command (stand M.position self.old) result (M.before (machine_of self.new)) (stand M.position self.new) }
         ensures ready { IfOk result (λ answer. IsReady (M.fresh (machine_of self.new)) answer) }
         ensures narrows { (input : Input) → M.may_be (machine_of self.new) input → M.may_be (machine_of self.old) input }
         ensures free { needs_memory command ≡ false → result ≢ Err OutOfMemory }
+        ensures reads_nothing { goes_forward command ≡ false → (input : Input) → M.may_be (machine_of self.old) input → M.may_be (machine_of self.new) input }
     {
         match command {
             Command::Break(spot) => self.break_at(spot),

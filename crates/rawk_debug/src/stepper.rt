@@ -121,7 +121,7 @@ pub trait Stepper: Drop {
         ensures narrows { (input : Input) → may_be self.new input → may_be self.old input };
 
     /// Goes back to the point before, and takes back the sets made at this one. `false` only at the oldest point kept, and
-    /// then nothing changes. It takes no memory.
+    /// then nothing changes. It takes no memory and reads nothing: whatever might have been the input still may.
     fn retreat(&mut self) -> bool
         ensures moved { IsTrue result → position self.new ≡ back_at ((position self.old).point - 1) (position self.old) }
         ensures kept { IsTrue result → (position self.old).oldest < (position self.old).point }
@@ -129,7 +129,8 @@ pub trait Stepper: Drop {
         ensures fresh { IsTrue result → IsTrue (fresh self.new) }
         ensures oldest { IsFalse result → (position self.old).point ≡ (position self.old).oldest }
         ensures same { IsFalse result → position self.new ≡ position self.old }
-        ensures narrows { (input : Input) → may_be self.new input → may_be self.old input };
+        ensures narrows { (input : Input) → may_be self.new input → may_be self.old input }
+        ensures reads_nothing { (input : Input) → may_be self.old input → may_be self.new input };
 
     /// Assigns at this point. A fault changes nothing. It fails where memory is refused, and then nothing changes.
     fn set(
@@ -143,12 +144,14 @@ pub trait Stepper: Drop {
         ensures fault { IfOk result (λ fault. fault ≡ fault_of (assigned target value (held self.old).state)) }
         ensures same { IfOk result (λ fault. IsTrue (is_some fault) → position self.new ≡ position self.old) }
         ensures err { OnErr result (position self.new ≡ position self.old) }
-        ensures narrows { (input : Input) → may_be self.new input → may_be self.old input };
+        ensures narrows { (input : Input) → may_be self.new input → may_be self.old input }
+        ensures reads_nothing { (input : Input) → may_be self.old input → may_be self.new input };
 
     /// Takes back the last set made at this point. `false`: there is none, and nothing changes. It takes no memory.
     fn take_back(&mut self) -> bool
         ensures result { result ≡ has_set_at (position self.old).point (position self.old).sets }
         ensures taken { IsTrue result → IsTakenBack (position self.old) (position self.new) }
         ensures same { IsFalse result → position self.new ≡ position self.old }
-        ensures narrows { (input : Input) → may_be self.new input → may_be self.old input };
+        ensures narrows { (input : Input) → may_be self.new input → may_be self.old input }
+        ensures reads_nothing { (input : Input) → may_be self.old input → may_be self.new input };
 }

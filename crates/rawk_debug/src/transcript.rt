@@ -4,7 +4,7 @@ ghost use Rattle.std.specs.Prelude.{◌≡◌, Ok};
 ghost use Rattle.rawk_tape.specs.Records.{Input};
 ghost use Rattle.rawk_debug.specs.Commands.{IsReady};
 ghost use Rattle.rawk_debug.specs.Sessions.{stand, machine_of};
-ghost use Rattle.rawk_debug.specs.Transcript.{reply_text, Carries, Obeys, Says, IsReply, quits};
+ghost use Rattle.rawk_debug.specs.Transcript.{reply_text, Carries, Obeys, Says, IsReply, lost, quits};
 
 use crate::answer::Answer;
 use crate::session::Session;
@@ -39,7 +39,17 @@ impl Reply {
     }
 }
 
-/// The reply of an answer: its text, or that it was lost where its text was refused memory.
+/// What stands for an answer whose text is refused memory.
+fn lost(answer: Answer) -> C
+    ensures { result ≡ lost answer }
+{
+    match answer {
+        Answer::Halted(_) => C::OutOfMemory,
+        _ => C::AnswerLost,
+    }
+}
+
+/// The reply of an answer: its text, or where that is refused memory the line that stands for it.
 fn told<M: Stepper>(alloc: Global, session: &Session<M>, answer: Answer) -> Reply
     requires { IsReady (M.fresh session.now.machine) answer }
     ensures says { (input : Input) → M.may_be session.now.machine input
@@ -49,7 +59,7 @@ fn told<M: Stepper>(alloc: Global, session: &Session<M>, answer: Answer) -> Repl
     session.machine.known();
     match answer.bytes(alloc, session) {
         Ok(text) => Reply::Text(text),
-        Err(AllocError) => Reply::Line(C::AnswerLost),
+        Err(AllocError) => Reply::Line(lost(answer)),
     }
 }
 
@@ -76,7 +86,7 @@ fn obey<M: Stepper>(alloc: Global, session: &mut Session<M>, command: Command) -
 }
 
 /// Carries out a line of a session, and tells what it is answered. Where memory is refused for the answer's text, what was
-/// asked for is done, and the answer says that it is lost.
+/// asked for is done, and the answer says that it is lost; a move that want of memory stopped says that.
 pub fn carry_out<M: Stepper>(alloc: Global, session: &mut Session<M>, line: &[u8]) -> Reply
     ensures carries { (input : Input) → M.may_be (machine_of session.new) input
         → Carries input line.now (stand M.position session.old) result (stand M.position session.new) }

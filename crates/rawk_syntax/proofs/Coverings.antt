@@ -1,6 +1,6 @@
 -- What of the parser's tree is covered, from its parts.
-use Rattle.std.proofs.Common.{◌≡◌, ◌≢◌, ℕ, ℤ, ◌+◌, ◌<◌, ◌≤◌, suc, Bool, true, false, not, ◌&&◌, List, [], ◌∷◌, ◌++◌, length, take, drop, map, get_or, Option, Some, None, Result, Err, refl, sym, ap, ◌∙◌, arith}
-use Rattle.std.proofs.lemmas.List.{take_more, take-append-drop, drop_all}
+use Rattle.std.proofs.Common.{◌≡◌, ◌≢◌, ℕ, ℤ, ◌+◌, ◌<◌, ◌≤◌, suc, Bool, true, false, not, ◌&&◌, List, [], ◌∷◌, ◌++◌, length, take, drop, map, get_or, Option, Some, None, Result, Err, refl, sym, ap, subst, ◌∙◌, arith}
+use Rattle.std.proofs.lemmas.List.{take_more, take-append-drop, drop_all, length-map}
 use Rattle.std.proofs.Math.Seq.{drop-cons}
 use Rattle.rawk_parsing.specs.declared.parse_error.ParseError.{ParseError}
 use Rattle.rawk_parsing.specs.declared.parse_error.ParseError.TheVariants.{OutOfMemory}
@@ -11,10 +11,11 @@ use Rattle.rawk_parsing.specs.declared.tree.Sign.{Sign}
 use Rattle.rawk_parsing.specs.declared.tree.Logic.{Logic}
 use Rattle.rawk_parsing.specs.declared.tree.Change.{Change}
 use Rattle.rawk_parsing.specs.declared.tree.Operator.TheVariants as op
+use Rattle.rawk_parsing.specs.declared.tree.Function.{Function}
 use Rattle.rawk_parsing.specs.declared.tree.Name as word
 use Rattle.rawk_parsing.specs.declared.tree.Expr.{Expr, out-Expr, roll-Expr, roll-out-Expr, map-Expr, fold-roll-Expr, fold_out-Expr}
 use Rattle.rawk_parsing.specs.declared.tree.Expr.TheVariants as tree
-use Rattle.rawk_parsing.specs.declared.tree.Expr.TheVariants.{rolls-Number, rolls-Text, rolls-Of, rolls-Group, rolls-Signed, rolls-Power, rolls-Chain, rolls-Logic, rolls-Choice, rolls-Before, rolls-After, rolls-Assign, rolls-Call}
+use Rattle.rawk_parsing.specs.declared.tree.Expr.TheVariants.{rolls-Number, rolls-Text, rolls-Of, rolls-Group, rolls-Signed, rolls-Power, rolls-Chain, rolls-Logic, rolls-Choice, rolls-Before, rolls-After, rolls-Assign, rolls-Call, rolls-Builtin}
 use Rattle.rawk_parsing.specs.declared.tree.Expr.TheOpen as expr
 use Rattle.rawk_parsing.specs.declared.tree.Expr.TheOpen.{Expr-F, Place-F, Link-F}
 use Rattle.rawk_parsing.specs.declared.tree.Link.{Link, fold_out-Link}
@@ -22,7 +23,8 @@ use Rattle.rawk_parsing.specs.declared.tree.Place.{Place, out-Place, roll-Place,
 use Rattle.rawk_parsing.specs.declared.tree.Place.TheVariants as spot
 use Rattle.rawk_tree.specs.declared.tree.Place as spot_place
 use Rattle.rawk_parsing.specs.declared.tree.Place.TheVariants.{rolls-Name, rolls-Field, rolls-Element}
-use Rattle.rawk_special.specs.Special.{is_special}
+use Rattle.rawk_special.specs.Special.{is_field_count}
+use Rattle.rawk_builtin_trees.specs.Calls.{has_builtin}
 use Rattle.rawk_syntax.specs.Meant.{Sense, is_there}
 use Rattle.rawk_grammar.specs.declared.tree.Item.{Item}
 use Rattle.rawk_syntax.specs.Covered.{Judges, Cover, item_gap, gap_from, functions_behind, unless, or_then, first_of, each, can_change, joiner_of, joins, expr_step, place_step, link_step, covers, place_cover, covers_link}
@@ -103,6 +105,10 @@ first_stops f xs i x e h at so here = ap (first_of f) (around xs i x h at) ∙ f
 
 -- ---- expressions
 
+first_alone : (a b : Bool) → b ≡ true → (a && b) ≡ a
+first_alone true b h = h
+first_alone false b h = refl
+
 covers_roll : (m : Sense) (d : Expr-F Expr Place Link) → covers m (roll-Expr d) ≡ expr_step m (map-Expr Expr Place Link Bool Cover Bool (covers m) (place_cover m) (covers_link m) d)
 unfolding covers place_cover covers_link
 covers_roll m d = fold-roll-Expr Bool Cover Bool (expr_step m) (place_step m) link_step d
@@ -164,6 +170,19 @@ call_covers m e n w o xs ys is same found all =
     ap (covers m) (is ∙ sym (rolls-Call n xs)) ∙ covers_roll m (expr.Call n xs) ∙ ap (λ b. is_there (m.function n.word) && b) (each_mapped (λ b. b) (covers m) xs)
     ∙ ap (λ v. is_there (m.function v) && each (covers m) xs) (sym same) ∙ ap (λ v. is_there v && each (covers m) xs) (sym found) ∙ ap (λ l. is_there o && each (covers m) l) (sym all)
 
+-- a call of a built-in function, by its number of arguments
+pub builtin_covers : (m : Sense) (e : Expr) (f : Function) (xs ys : List Expr) → e ≡ tree.Builtin f xs → ys ≡ xs → covers m e ≡ (has_builtin f (length ys) && each (covers m) ys)
+builtin_covers m e f xs ys is all =
+    ap (covers m) (is ∙ sym (rolls-Builtin f xs)) ∙ covers_roll m (expr.Builtin f xs) ∙ ap (λ b. has_builtin f (length (map (covers m) xs)) && b) (each_mapped (λ b. b) (covers m) xs)
+    ∙ ap (λ n. has_builtin f n && each (covers m) xs) (length-map xs (covers m)) ∙ ap (λ l. has_builtin f (length l) && each (covers m) l) (sym all)
+
+-- of covered arguments
+pub builtin_judged : {A : Type 0} (r : Result A ParseError) (m : Sense) (e : Expr) (f : Function) (xs ys : List Expr) (n left : ℕ)
+    → e ≡ tree.Builtin f xs → ys ≡ xs → each (covers m) ys ≡ true → n ≡ length ys → Judges (unless (has_builtin f n) left) r → Judges (unless (covers m e) left) r
+builtin_judged r m e f xs ys n left is all so count h =
+    let same : has_builtin f n ≡ covers m e = ap (has_builtin f) count ∙ sym (first_alone (has_builtin f (length ys)) (each (covers m) ys) so) ∙ sym (builtin_covers m e f xs ys is all) in
+    subst (λ (b : Bool). Judges (unless b left) r) same h
+
 covers_out : (m : Sense) (e : Expr) → covers m e ≡ expr_step m (map-Expr Expr Place Link Bool Cover Bool (covers m) (place_cover m) (covers_link m) (out-Expr e))
 unfolding covers place_cover covers_link
 covers_out m e = fold_out-Expr Bool Cover Bool (expr_step m) (place_step m) link_step e
@@ -171,8 +190,8 @@ covers_out m e = fold_out-Expr Bool Cover Bool (expr_step m) (place_step m) link
 -- no other expression is covered
 pub other_covers : (m : Sense) (e : Expr) → ((n : ℤ) → e ≡ tree.Number n → ⊥) → ((w : List ℕ) → e ≡ tree.Text w → ⊥) → ((p : Place) → e ≡ tree.Of p → ⊥) → ((x : Expr) → e ≡ tree.Group x → ⊥)
     → ((s : Sign) (x : Expr) → e ≡ tree.Signed s x → ⊥) → ((x y : Expr) → e ≡ tree.Power x y → ⊥) → ((x : Expr) (xs : List Link) → e ≡ tree.Chain x xs → ⊥) → ((l : Logic) (xs : List Expr) → e ≡ tree.Logic l xs → ⊥) → ((x y z : Expr) → e ≡ tree.Choice x y z → ⊥) → ((c : Change) (p : Place) → e ≡ tree.Before c p → ⊥) → ((c : Change) (p : Place) → e ≡ tree.After c p → ⊥)
-    → ((how : Assignment) (p : Place) (x : Expr) → e ≡ tree.Assign how p x → ⊥) → ((n : word.Name) (xs : List Expr) → e ≡ tree.Call n xs → ⊥) → covers m e ≡ false
-other_covers m e number text place group signed power chain logic choice before after assign call = covers_out m e ∙ go (out-Expr e) (sym (roll-out-Expr e))
+    → ((how : Assignment) (p : Place) (x : Expr) → e ≡ tree.Assign how p x → ⊥) → ((n : word.Name) (xs : List Expr) → e ≡ tree.Call n xs → ⊥) → ((f : Function) (xs : List Expr) → e ≡ tree.Builtin f xs → ⊥) → covers m e ≡ false
+other_covers m e number text place group signed power chain logic choice before after assign call builtin = covers_out m e ∙ go (out-Expr e) (sym (roll-out-Expr e))
   where
     go : (d : Expr-F Expr Place Link) → e ≡ roll-Expr d → expr_step m (map-Expr Expr Place Link Bool Cover Bool (covers m) (place_cover m) (covers_link m) d) ≡ false
     go (expr.Number n) q = absurd (number n (q ∙ rolls-Number n))
@@ -188,6 +207,7 @@ other_covers m e number text place group signed power chain logic choice before 
     go (expr.After c p) q = absurd (after c p (q ∙ rolls-After c p))
     go (expr.Assign how p x) q = absurd (assign how p x (q ∙ rolls-Assign how p x))
     go (expr.Call n xs) q = absurd (call n xs (q ∙ rolls-Call n xs))
+    go (expr.Builtin f xs) q = absurd (builtin f xs (q ∙ rolls-Builtin f xs))
     go _ q = refl
 
 -- ---- places
@@ -197,7 +217,7 @@ unfolding covers place_cover covers_link
 place_roll m d = fold-roll-Place Bool Cover Bool (expr_step m) (place_step m) link_step d
 
 abbrev named : Sense → word.Name → Cover
-named m n = record { reads = is_there (m.place n.word); sets = not (is_special n.word) }
+named m n = record { reads = is_there (m.place n.word); sets = not (is_field_count n.word) }
 
 pub name_cover : (m : Sense) (p : Place) (n : word.Name) → p ≡ spot.Name n → place_cover m p ≡ named m n
 name_cover m p n is = ap (place_cover m) (is ∙ sym (rolls-Name n)) ∙ place_roll m (expr.Name n)

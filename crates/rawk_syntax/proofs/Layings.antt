@@ -31,7 +31,7 @@ use Rattle.rawk_tree.specs.declared.tree.Function.{Function}
 use Rattle.rawk_parsing.specs.declared.tree.Name.{Name}
 use Rattle.rawk_tree.specs.declared.tree.Program.{Program}
 use Rattle.rawk_syntax.specs.Meant.{Sense}
-use Rattle.rawk_syntax.specs.Settled.{Settles, AnExpr, Prints}
+use Rattle.rawk_syntax.specs.Settled.{Settles, AnExpr, SomeExprs, Prints}
 use Rattle.rawk_syntax.specs.Laid as spec
 use Rattle.rawk_syntax.specs.Laid.{sited, rule_of, range_of, ranges_of, words_of, Simply, Exits, Returns, Jumps, Tests, Lays, AStmt, SomeStmts, AnOther, SomeBranches, Heads, branch_with, head_with, for_with, Does, Rules, Defines, IsLaidWith}
 
@@ -56,6 +56,15 @@ print_lays means text x es ys ss n old new is same count lines h =
     let whole : Simply text means (simple_at x.left (act.Print es)) (tree.Print (length old) ss) old (sited text x.left old) = spec.print x.left es ss g in
     let counted : Simply text means (simple_at x.left (act.Print es)) (tree.Print n ss) old new = rw (count, lines) whole in
     subst (λ z. Simply text means z (tree.Print n ss) old new) k counted
+
+pub printf_lays : (means : Sense) (text : List ℕ) (x : Simple) (es ys : List parsed.Expr) (s : Expr) (ss : Vec Expr) (n : ℕ) (old new : List ℕ)
+    → x.act ≡ act.Printf es → ys ≡ es → n ≡ length old → new ≡ sited text x.left old → Settles means (SomeExprs ys (s ∷ ss.items)) → Simply text means x (tree.Printf n s ss) old new
+printf_lays means text x es ys s ss n old new is same count lines h =
+    let g : Settles means (SomeExprs es (s ∷ ss.items)) = subst (λ (z : List parsed.Expr). Settles means (SomeExprs z (s ∷ ss.items))) same h in
+    let k : simple_at x.left (act.Printf es) ≡ x = sym (simple_is x ∙ ap (simple_at x.left) is) in
+    let whole : Simply text means (simple_at x.left (act.Printf es)) (tree.Printf (length old) s ss) old (sited text x.left old) = spec.printf x.left es ss g in
+    let counted : Simply text means (simple_at x.left (act.Printf es)) (tree.Printf n s ss) old new = rw (count, lines) whole in
+    subst (λ z. Simply text means z (tree.Printf n s ss) old new) k counted
 
 pub empty_lays : (means : Sense) (text : List ℕ) (s : step.Stmt) (ts : Vec Stmt) (m : List ℕ) → s ≡ from.Empty → ts.items ≡ [] → Lays text means (AStmt s (tree.Block ts)) m m
 empty_lays means text s ts m is none = rw is (spec.empty ts none)

@@ -1,6 +1,6 @@
 -- The steps of settling, over plain variables.
 use Rattle.std.proofs.Common.{◌≡◌, ℕ, ℤ, ◌+◌, ◌<◌, ◌≢◌, suc, true, List, [], ◌∷◌, ◌++◌, length, take, get_or, Some, Result, Ok, Err, IfOk, refl, sym, ap, subst, ◌∙◌, arith, pos}
-use Rattle.std.proofs.lemmas.List.{take_more}
+use Rattle.std.proofs.lemmas.List.{take_more, length-append}
 use Rattle.std.specs.Global.{Box, Vec}
 use Rattle.rawk_value.specs.declared.operator.Arithmetic.{Arithmetic}
 use Rattle.rawk_value.specs.declared.operator.Arithmetic.TheVariants.{Pow}
@@ -8,6 +8,7 @@ use Rattle.rawk_parsing.specs.declared.tree.Assignment.TheVariants as setting
 use Rattle.rawk_parsing.specs.declared.tree.Sign.{Sign}
 use Rattle.rawk_parsing.specs.declared.tree.Logic.{Logic}
 use Rattle.rawk_parsing.specs.declared.tree.Change.{Change}
+use Rattle.rawk_parsing.specs.declared.tree.Function.{Function}
 use Rattle.rawk_parsing.specs.declared.tree.Name as word
 use Rattle.rawk_parsing.specs.declared.tree.Expr as parsed
 use Rattle.rawk_parsing.specs.declared.tree.Expr.TheVariants as from
@@ -19,10 +20,12 @@ use Rattle.rawk_tree.specs.declared.tree.Expr.{Expr}
 use Rattle.rawk_tree.specs.declared.tree.Expr.TheVariants as tree
 use Rattle.rawk_tree.specs.declared.tree.Joiner.{Joiner}
 use Rattle.rawk_tree.specs.declared.tree.Joiner.TheVariants as joiner
+use Rattle.rawk_tree.specs.declared.tree.Unary.TheVariants as unary
 use Rattle.rawk_tree.specs.declared.tree.Link.{Link}
 use Rattle.rawk_tree.specs.declared.tree.Link.TheVariants as tree_link
 use Rattle.rawk_tree.specs.declared.tree.Place.{Place}
 use Rattle.rawk_tree.specs.declared.tree.Place.TheVariants as tree_place
+use Rattle.rawk_builtin_trees.specs.Calls.{Applies}
 use Rattle.rawk_syntax.specs.Covered.{place_cover, joiner_of}
 use Rattle.rawk_syntax.specs.Settled as spec
 use Rattle.rawk_syntax.specs.Meant.{Sense}
@@ -54,7 +57,7 @@ chain_settles m e x y xs ys s first more is same all held h g =
     rw is (spec.chain first more h' g')
 
 pub signed_settles : (m : Sense) (sign : Sign) (e x y : parsed.Expr) (s : Expr) (operand : Box Expr)
-    → e ≡ from.Signed sign x → y ≡ x → operand.value ≡ s → Settles m (AnExpr y s) → Settles m (AnExpr e (tree.Signed sign operand))
+    → e ≡ from.Signed sign x → y ≡ x → operand.value ≡ s → Settles m (AnExpr y s) → Settles m (AnExpr e (tree.Unary (unary.Sign sign) operand))
 signed_settles m sign e x y s operand is same held h = rw is (spec.signed operand (boxed m x y s operand same held h))
 
 pub power_settles : (m : Sense) (e x y v w : parsed.Expr) (s t : Expr) (base : Box Expr) (powers : Vec Link)
@@ -130,6 +133,18 @@ pub call_settles : (m : Sense) (e : parsed.Expr) (n : word.Name) (w : List ℕ) 
 call_settles m e n w f xs ys ss is same found all h =
     let g : Settles m (SomeExprs xs ss.items) = subst (λ (zs : List parsed.Expr). Settles m (SomeExprs zs ss.items)) all h in
     rw is (spec.call ss (ap m.function (sym same) ∙ sym found) g)
+
+-- as many arguments are settled as there are
+pub same_count : (m : Sense) {es : List parsed.Expr} {ss : List Expr} → Settles m (SomeExprs es ss) → length ss ≡ length es
+same_count m spec.no_exprs = refl
+same_count m (spec.an_expr {es = es} {ss = ss} {e = e} {s = s} h g) = length-append ss (s ∷ []) ∙ ap (λ n. n + 1) (same_count m h) ∙ sym (length-append es (e ∷ []))
+
+pub builtin_settles : (m : Sense) {E : Type 0} (r : Result Expr E) (e : parsed.Expr) (f : Function) (xs ys : List parsed.Expr) (ss : List Expr)
+    → e ≡ from.Builtin f xs → ys ≡ xs → Settles m (SomeExprs ys ss) → IfOk r (λ s. Applies f ss s) → IfOk r (λ s. Settles m (AnExpr e s))
+builtin_settles m (Ok s) e f xs ys ss is all h applies =
+    let g : Settles m (SomeExprs xs ss) = subst (λ (zs : List parsed.Expr). Settles m (SomeExprs zs ss)) all h in
+    rw is (spec.builtin g applies)
+builtin_settles m (Err d) e f xs ys ss is all h applies = tt
 
 pub all_printed : (m : Sense) (es : List parsed.Expr) (ss : List Expr) → length es ≢ 0 → Settles m (SomeExprs es ss) → spec.Prints m es ss
 all_printed m [] ss h g = absurd (h refl)

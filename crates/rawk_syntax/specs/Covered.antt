@@ -1,5 +1,5 @@
 -- What of the parser's tree the settled tree has, and where the rest is refused.
-use Rattle.std.specs.Prelude.{◌≡◌, ◌≢◌, ℕ, suc, Bool, true, false, not, ◌&&◌, List, [], ◌∷◌, Option, Some, None, Result, Ok, Err}
+use Rattle.std.specs.Prelude.{◌≡◌, ◌≢◌, ℕ, suc, Bool, true, false, not, ◌&&◌, List, [], ◌∷◌, length, Option, Some, None, Result, Ok, Err}
 use Rattle.rawk_parsing.specs.declared.refusal.RefusalKind.TheVariants.{LeftOut}
 use Rattle.rawk_parsing.specs.declared.parse_error.ParseError.{ParseError}
 use Rattle.rawk_parsing.specs.declared.parse_error.ParseError.TheVariants.{OutOfMemory, Here}
@@ -27,7 +27,8 @@ use Rattle.rawk_grammar.specs.declared.tree.Action.{Action}
 use Rattle.rawk_grammar.specs.declared.tree.Action.TheVariants as does
 use Rattle.rawk_grammar.specs.declared.tree.Item.{Item}
 use Rattle.rawk_grammar.specs.declared.tree.Item.TheVariants as part
-use Rattle.rawk_special.specs.Special.{is_special}
+use Rattle.rawk_special.specs.Special.{is_field_count}
+use Rattle.rawk_builtin_trees.specs.Calls.{has_builtin}
 use Rattle.rawk_tree.specs.declared.tree.Joiner.{Joiner}
 use Rattle.rawk_tree.specs.declared.tree.Joiner.TheVariants as joiner
 use Rattle.rawk_syntax.specs.Meant.{Sense, is_there}
@@ -100,11 +101,12 @@ expr_step means (expr.Before c p) = can_change p
 expr_step means (expr.After c p) = can_change p
 expr_step means (expr.Assign how p e) = p.sets && (p.reads && e)
 expr_step means (expr.Call n es) = is_there (means.function n.word) && each (λ b. b) es
+expr_step means (expr.Builtin f es) = has_builtin f (length es) && each (λ b. b) es
 expr_step means _ = false
 
--- what can be assigned is a name that is not special
+-- what can be assigned is a name other than NF
 abbrev pub place_step : Sense → Place-F Bool Cover Bool → Cover
-place_step means (expr.Name n) = record { reads = is_there (means.place n.word); sets = not (is_special n.word) }
+place_step means (expr.Name n) = record { reads = is_there (means.place n.word); sets = not (is_field_count n.word) }
 place_step means (expr.Field e) = record { reads = e; sets = false }
 place_step means (expr.Element n es) = record { reads = false; sets = false }
 
@@ -123,9 +125,15 @@ covers_link means l = fold-Link Bool Cover Bool (expr_step means) (place_step me
 
 -- ---- statements, from what their parts are
 
+-- a `printf` has a format
+abbrev pub formatted_gap : Sense → ℕ → List Expr → Option ParseError
+formatted_gap means left [] = left_out left
+formatted_gap means left (e ∷ es) = unless (each (covers means) (e ∷ es)) left
+
 abbrev pub act_gap : Sense → ℕ → Act → Option ParseError
 act_gap means left (act.Evaluate e) = unless (covers means e) left
 act_gap means left (act.Print es) = unless (each (covers means) es) left
+act_gap means left (act.Printf es) = formatted_gap means left es
 act_gap means left _ = left_out left
 
 abbrev pub simple_gap : Sense → Simple → Option ParseError

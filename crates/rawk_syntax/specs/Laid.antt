@@ -32,7 +32,7 @@ use Rattle.rawk_tree.specs.declared.tree.Function.{Function}
 use Rattle.rawk_tree.specs.declared.tree.Program.{Program}
 use Rattle.rawk_names.specs.Named.{Known}
 use Rattle.rawk_syntax.specs.Meant.{Sense, sense, global_words}
-use Rattle.rawk_syntax.specs.Settled.{Settles, AnExpr, Prints}
+use Rattle.rawk_syntax.specs.Settled.{Settles, AnExpr, SomeExprs, Prints}
 
 -- one site more, at a place of the text
 abbrev pub sited : List ℕ → ℕ → List ℕ → List ℕ
@@ -44,6 +44,9 @@ pub data Simply (text : List ℕ) (means : Sense) : Simple → Stmt → List ℕ
       → Settles means (AnExpr e s) → Simply text means (simple_at left (act.Evaluate e)) (tree.Do (length lines) s) lines (sited text left lines)
   print : {lines : List ℕ} (left : ℕ) (es : List parsed.Expr) (ss : Vec Expr)
       → Prints means es ss.items → Simply text means (simple_at left (act.Print es)) (tree.Print (length lines) ss) lines (sited text left lines)
+  -- the first one is the format
+  printf : {s : Expr} {lines : List ℕ} (left : ℕ) (es : List parsed.Expr) (ss : Vec Expr)
+      → Settles means (SomeExprs es (s ∷ ss.items)) → Simply text means (simple_at left (act.Printf es)) (tree.Printf (length lines) s ss) lines (sited text left lines)
 
 -- an `exit` with its site, and a status where one is given
 pub data Exits (means : Sense) : ℕ → Option parsed.Expr → Stmt → Type 0 where

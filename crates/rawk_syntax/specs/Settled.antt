@@ -10,6 +10,7 @@ use Rattle.rawk_parsing.specs.declared.tree.Logic.{Logic}
 use Rattle.rawk_parsing.specs.declared.tree.Logic.TheVariants as logic
 use Rattle.rawk_parsing.specs.declared.tree.Change.{Change}
 use Rattle.rawk_parsing.specs.declared.tree.Change.TheVariants as change
+use Rattle.rawk_parsing.specs.declared.tree.Function.{Function}
 use Rattle.rawk_parsing.specs.declared.tree.Name as word
 use Rattle.rawk_parsing.specs.declared.tree.Expr as parsed
 use Rattle.rawk_parsing.specs.declared.tree.Expr.TheVariants as from
@@ -21,10 +22,12 @@ use Rattle.rawk_tree.specs.declared.tree.Expr.{Expr}
 use Rattle.rawk_tree.specs.declared.tree.Expr.TheVariants as tree
 use Rattle.rawk_tree.specs.declared.tree.Joiner.{Joiner}
 use Rattle.rawk_tree.specs.declared.tree.Joiner.TheVariants as joiner
+use Rattle.rawk_tree.specs.declared.tree.Unary.TheVariants as unary
 use Rattle.rawk_tree.specs.declared.tree.Link.{Link}
 use Rattle.rawk_tree.specs.declared.tree.Link.TheVariants as tree_link
 use Rattle.rawk_tree.specs.declared.tree.Place.{Place}
 use Rattle.rawk_tree.specs.declared.tree.Place.TheVariants as tree_place
+use Rattle.rawk_builtin_trees.specs.Calls.{Applies}
 use Rattle.rawk_syntax.specs.Meant.{Sense}
 use Rattle.rawk_syntax.specs.Covered.{place_cover, joiner_of}
 
@@ -52,7 +55,7 @@ pub data Settles (means : Sense) : Pair → Type 0 where
   text : {w : List ℕ} → Settles means (AnExpr (from.Text w) (tree.Text w))
   read : {p : spot.Place} {q : Place} → Settles means (APlace p q) → Settles means (AnExpr (from.Of p) (tree.Read q))
   group : {e : parsed.Expr} {s : Expr} → Settles means (AnExpr e s) → Settles means (AnExpr (from.Group e) s)
-  signed : {sign : Sign} {e : parsed.Expr} (s : Box Expr) → Settles means (AnExpr e s.value) → Settles means (AnExpr (from.Signed sign e) (tree.Signed sign s))
+  signed : {sign : Sign} {e : parsed.Expr} (s : Box Expr) → Settles means (AnExpr e s.value) → Settles means (AnExpr (from.Signed sign e) (tree.Unary (unary.Sign sign) s))
   -- a power is a chain of one link
   power : {e f : parsed.Expr} {t : Expr} (s : Box Expr) (ys : Vec Link)
       → Settles means (AnExpr e s.value) → Settles means (AnExpr f t) → ys.items ≡ tree_link.Combine (joiner.Arithmetic Pow) t ∷ [] → Settles means (AnExpr (from.Power e f) (tree.Chain s ys))
@@ -67,12 +70,13 @@ pub data Settles (means : Sense) : Pair → Type 0 where
   before : {c : Change} {p : spot.Place} {q : Place} (one : Box Expr)
       → (place_cover means p).sets ≡ true → Settles means (APlace p q) → one.value ≡ tree.Number (pos 1) → Settles means (AnExpr (from.Before c p) (tree.Update (operator_of c) q one))
   after : {c : Change} {p : spot.Place} {q : Place} → (place_cover means p).sets ≡ true → Settles means (APlace p q) → Settles means (AnExpr (from.After c p) (tree.After (operator_of c) q))
-  -- what is assigned is a name that is not special
+  -- what is assigned is a name other than NF
   assign : {p : spot.Place} {q : Place} {e : parsed.Expr} (s : Box Expr)
       → (place_cover means p).sets ≡ true → Settles means (APlace p q) → Settles means (AnExpr e s.value) → Settles means (AnExpr (from.Assign setting.Plain p e) (tree.Assign q s))
   update : {operator : Arithmetic} {p : spot.Place} {q : Place} {e : parsed.Expr} (s : Box Expr)
       → (place_cover means p).sets ≡ true → Settles means (APlace p q) → Settles means (AnExpr e s.value) → Settles means (AnExpr (from.Assign (setting.Update operator) p e) (tree.Update operator q s))
   call : {n : word.Name} {es : List parsed.Expr} {f : ℕ} (ss : Vec Expr) → means.function n.word ≡ Some f → Settles means (SomeExprs es ss.items) → Settles means (AnExpr (from.Call n es) (tree.Call f ss))
+  builtin : {f : Function} {es : List parsed.Expr} {ss : List Expr} {s : Expr} → Settles means (SomeExprs es ss) → Applies f ss s → Settles means (AnExpr (from.Builtin f es) s)
   name : {n : word.Name} {q : Place} → means.place n.word ≡ Some q → Settles means (APlace (from_place.Name n) q)
   field : {e : parsed.Expr} (s : Box Expr) → Settles means (AnExpr e s.value) → Settles means (APlace (from_place.Field e) (tree_place.Field s))
   no_links : Settles means (SomeLinks [] [])

@@ -1,9 +1,10 @@
 //! Expressions: names become numbers, and parentheses go.
 
-ghost use Rattle.std.specs.Prelude.{◌≡◌, IfOk, true};
+ghost use Rattle.std.specs.Prelude.{◌≡◌, ◌∷◌, IfOk, length, true};
 ghost use Rattle.rawk_parsing.specs.declared.parse_error.ParseError.TheVariants.{Here};
 ghost use Rattle.rawk_parsing.specs.declared.refusal.RefusalKind.TheVariants as refused;
 ghost use Rattle.rawk_tree.specs.declared.tree.Expr.TheVariants as tree;
+ghost use Rattle.rawk_builtin_trees.specs.Calls.{Applies, has_builtin};
 ghost use Rattle.rawk_syntax.specs.Covered as cover;
 ghost use Rattle.rawk_syntax.specs.Covered.{Judges, unless};
 ghost use Rattle.rawk_syntax.specs.Meant.{Sense, sense_of};
@@ -11,11 +12,12 @@ ghost use Rattle.rawk_syntax.specs.Settled.{Settles, AnExpr, APlace, SomeLinks, 
 
 use crate::growth::{boxed, push};
 use crate::scope::{Scope, called, meant};
+use rawk_builtin_trees::{apply, format_and_arguments};
 use rawk_items::Boxed;
-use rawk_parsing::tree::{Assignment, Change, Logic, Operator};
+use rawk_parsing::tree::{Assignment, Change, Function, Logic, Operator};
 use rawk_parsing::{ParseError, RefusalKind, tree as parsed};
-use rawk_special::is_special;
-use rawk_tree::{Expr, Joiner, Link, Place};
+use rawk_special::is_field_count;
+use rawk_tree::{Expr, Joiner, Link, Place, Unary};
 use rawk_value::{Arithmetic, Bytes};
 use std::alloc::Global;
 
@@ -26,12 +28,12 @@ pub fn left_out(left: usize) -> ParseError
     ParseError::Here(RefusalKind::LeftOut, left)
 }
 
-/// Whether a place can be assigned: a name that is not special.
+/// Whether a place can be assigned: a name other than NF.
 fn can_set(place: &parsed::Place) -> bool
     ensures { (means : Sense) → result ≡ (cover.place_cover means place.now).sets }
 {
     match place {
-        parsed::Place::Name(name) => !is_special(name.word.as_slice()),
+        parsed::Place::Name(name) => !is_field_count(name.word.as_slice()),
         _ => false,
     }
 }
@@ -157,6 +159,22 @@ fn number_of(n: &i64) -> Expr
     Expr::Number(*n)
 }
 
+/// A call of a built-in function with these arguments, where the settled tree has it.
+fn settle_builtin(
+    alloc: Global,
+    left: usize,
+    function: Function,
+    arguments: Vec<Expr>,
+) -> Result<Expr, ParseError>
+    ensures settled { IfOk result (λ s. Applies function arguments.items s) }
+    ensures judged { Judges (unless (has_builtin function (length arguments.items)) left) result }
+{
+    match apply(alloc, function, arguments)? {
+        Some(call) => Ok(call),
+        None => Err(left_out(left)),
+    }
+}
+
 /// An expression of a statement or pattern at a place.
 #[cycle(settle)]
 pub fn settle_expr(
@@ -175,7 +193,7 @@ pub fn settle_expr(
         parsed::Expr::Group(inner) => settle_expr(alloc, scope, left, inner.get()),
         parsed::Expr::Signed(sign, operand) => {
             let operand = boxed(alloc, settle_expr(alloc, scope, left, operand.get())?)?;
-            Ok(Expr::Signed(*sign, operand))
+            Ok(Expr::Unary(Unary::Sign(*sign), operand))
         }
         parsed::Expr::Power(base, exponent) => {
             let base = boxed(alloc, settle_expr(alloc, scope, left, base.get())?)?;
@@ -230,6 +248,10 @@ pub fn settle_expr(
             let arguments = settle_list(alloc, scope, left, arguments.as_slice())?;
             Ok(Expr::Call(function, arguments))
         }
+        parsed::Expr::Builtin(function, arguments) => {
+            let arguments = settle_list(alloc, scope, left, arguments.as_slice())?;
+            settle_builtin(alloc, left, *function, arguments)
+        }
         _ => Err(left_out(left)),
     }
 }
@@ -269,4 +291,21 @@ pub fn settle_printed(
         return Ok(record);
     }
     settle_list(alloc, scope, left, list)
+}
+
+/// The format and the arguments of a `printf` at a place.
+pub fn settle_formatted(
+    alloc: Global,
+    scope: &Scope<'_>,
+    left: usize,
+    list: &[Boxed<parsed::Expr>],
+) -> Result<(Expr, Vec<Expr>), ParseError>
+    ensures settled { IfOk result (λ p. Settles (sense_of scope.now) (SomeExprs list.now (p.0 ∷ p.1.items))) }
+    ensures judged { Judges (cover.formatted_gap (sense_of scope.now) left list.now) result }
+{
+    let values = settle_list(alloc, scope, left, list)?;
+    match format_and_arguments(values) {
+        Some(parts) => Ok(parts),
+        None => Err(left_out(left)),
+    }
 }

@@ -11,7 +11,7 @@ ghost use Rattle.rawk_syntax.specs.Meant.{sense_of};
 ghost use Rattle.rawk_syntax.specs.Settled.{Settles, AnExpr};
 ghost use Rattle.rawk_syntax.specs.Laid.{sited, Simply, Exits, Returns, Jumps, Tests, Lays, AStmt, SomeStmts, SomeBranches, AnOther, Heads, branch_with, head_with, for_with};
 
-use crate::expressions::{left_out, settle_expr, settle_printed};
+use crate::expressions::{left_out, settle_expr, settle_formatted, settle_printed};
 use crate::growth::{boxed, push};
 use crate::lines::Sites;
 use crate::scope::Scope;
@@ -44,7 +44,11 @@ fn settle_simple(
             let list = settle_printed(alloc, scope, simple.left, list.as_slice())?;
             Ok(Stmt::Print(site, list))
         }
-        Act::Printf(_) | Act::Delete(_) => Err(left_out(simple.left)),
+        Act::Printf(list) => {
+            let (format, arguments) = settle_formatted(alloc, scope, simple.left, list.as_slice())?;
+            Ok(Stmt::Printf(site, format, arguments))
+        }
+        Act::Delete(_) => Err(left_out(simple.left)),
     }
 }
 

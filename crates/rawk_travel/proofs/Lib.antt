@@ -2,6 +2,8 @@ pub mod Quiets
 pub mod Acts
 pub mod BorrowedLemmas
 pub mod Faults
+pub mod Formatted
+pub mod Parts
 pub mod Lines
 pub mod Takings
 pub mod Readings

@@ -1,7 +1,6 @@
 pub mod Moving
 pub mod Reading
 pub mod Borrowed
-pub mod Lent
 pub mod Travel
 pub mod Gets
 pub mod Line

@@ -14,7 +14,9 @@ ghost use Rattle.rawk_tape.specs.declared.source.Ending.{Ending};
 ghost use Rattle.rawk_code.specs.Actions.{Point};
 
 use crate::at_once::global_number;
-use crate::borrowed::{global_borrowed, number, text_borrowed};
+use crate::borrowed::global_borrowed;
+use itoa::Buffer;
+use rawk_operators::{number, text_borrowed};
 use rawk_special::{FNR, FS, NR, RS};
 use rawk_store::{Cells, Store};
 use rawk_tape::{Found, Source, Tape};
@@ -52,8 +54,8 @@ fn show(
     ensures start { start_of store.new ≡ start_of store.old }
     ensures plain { IsPlainMove store.old store.new }
 {
-    let mut buffer = Vec::new(alloc);
-    let separator = text_borrowed(global_borrowed(&store.globals, FS), &mut buffer)?;
+    let mut digits = Buffer::new();
+    let separator = text_borrowed(global_borrowed(&store.globals, FS), &mut digits);
     match store.current.read(alloc, text, separator, paragraph) {
         Ok(()) => Ok(None),
         Err(Fault::OutOfMemory) => Err(AllocError),
@@ -162,8 +164,8 @@ pub fn read<R: Source + Drop>(
     ensures quiet { IfOk result IsQuietReading }
     ensures failed { IfOk result (λ r. r ≡ Reading.Faulted Fault.ReadFailed → R.over tape.new.source ≡ Some Ending.Failed) }
 {
-    let mut buffer = Vec::new(alloc);
-    let separator = text_borrowed(global_borrowed(&store.globals, RS), &mut buffer)?;
+    let mut digits = Buffer::new();
+    let separator = text_borrowed(global_borrowed(&store.globals, RS), &mut digits);
     let paragraph = separator.len() == 0;
     match tape.next(separator) {
         Err(fault) => refused(fault),

@@ -5,4 +5,4 @@ mod lines;
 pub mod tree;
 
 pub use rawk_parsing::tree::{Logic, Sign};
-pub use tree::{Branch, Expr, Function, Guard, Joiner, Link, Place, Program, Rule, Stmt};
+pub use tree::{Branch, Expr, Function, Guard, Joiner, Link, Place, Program, Rule, Stmt, Unary};

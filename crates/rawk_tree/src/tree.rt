@@ -10,6 +10,22 @@ pub enum Joiner {
     Comparison(Comparison),
     /// two operands side by side
     Concat,
+    /// the place of the right text in the left one
+    Index,
+    /// the bytes of the left text from the place on that the right number says
+    Substr,
+}
+
+/// What makes a value of one (POSIX awk, Expressions in awk, Arithmetic Functions, String Functions).
+#[derive(Clone, Copy, Debug, PartialEq, Eq)]
+pub enum Unary {
+    /// a sign or `!`
+    Sign(Sign),
+    /// how many bytes its text has
+    Length,
+    ToLower,
+    ToUpper,
+    Int,
 }
 
 /// An expression (POSIX awk, Expressions in awk).
@@ -20,8 +36,8 @@ pub enum Expr {
     Text(Bytes),
     /// the value of a place
     Read(Place),
-    /// a sign or `!` before an operand
-    Signed(Sign, Box<Expr>),
+    /// an operator or a function of one operand
+    Unary(Unary, Box<Expr>),
     /// an operand, and more of them from left to right
     Chain(Box<Expr>, Vec<Link>),
     /// the second where the first is true, and else the third
@@ -33,6 +49,10 @@ pub enum Expr {
     After(Arithmetic, Place),
     /// a call of a function, by its number from 0 in the order of the text, with its arguments
     Call(usize, Vec<Expr>),
+    /// the bytes of a text from a place on, so many: `substr` with three arguments
+    Part(Box<Expr>, Box<Expr>, Box<Expr>),
+    /// `sprintf`: the format and its arguments
+    Sprintf(Box<Expr>, Vec<Expr>),
 }
 
 /// A right operand, with its operator.
@@ -83,6 +103,8 @@ pub enum Stmt {
     Return(usize),
     /// with a value
     ReturnWith(usize, Expr),
+    /// the format and its arguments
+    Printf(usize, Expr, Vec<Expr>),
 }
 
 /// A condition of an `if` with its site, and what is done where it holds.

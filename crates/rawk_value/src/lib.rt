@@ -14,7 +14,7 @@ pub mod value;
 pub use arithmetic::{add, combine, div, mul, neg, pow, rem, sub};
 pub use bytes::Bytes;
 pub use fault::Fault;
-pub use number::{input_number, int_of, number_of, truth_of};
+pub use number::{input_number, input_truth, int_of, number_of, truth_of};
 pub use operator::{Arithmetic, Comparison};
 pub use order::{compare, order_of};
 pub use text::{push_number, push_text, text_of};

@@ -64,8 +64,8 @@ pub fn truth_of(value: &Value) -> Result<bool, Fault>
     }
 }
 
-// The same of an input text.
-fn input_truth(text: &[u8]) -> Result<bool, Fault>
+/// The same of an input text.
+pub fn input_truth(text: &[u8]) -> Result<bool, Fault>
     ensures { result ≡ input_truth text.now }
 {
     let scan = scanned(text);

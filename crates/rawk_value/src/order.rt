@@ -35,7 +35,9 @@ pub fn compare(comparison: Comparison, left: &Value, right: &Value) -> Result<bo
     Ok(holds(comparison, order))
 }
 
-fn holds(comparison: Comparison, order: Ordering) -> bool
+/// Whether a comparison holds of two things that stand so to one another.
+#[inline]
+pub fn holds(comparison: Comparison, order: Ordering) -> bool
     ensures { result ≡ holds comparison order }
 {
     match comparison {
@@ -61,9 +63,9 @@ pub fn number_if_counts(value: &Value) -> Option<Result<i64, Fault>>
     }
 }
 
-// The number of a numeric string.
+/// The number of a numeric string; another text has none here.
 #[inline]
-fn number_if_numeric(text: &[u8]) -> Option<Result<i64, Fault>>
+pub fn number_if_numeric(text: &[u8]) -> Option<Result<i64, Fault>>
     ensures { result ≡ (if is_numeric text.now then Some (front_number (front text.now)) else None) }
 {
     let scan = scanned(text);
@@ -74,7 +76,8 @@ fn number_if_numeric(text: &[u8]) -> Option<Result<i64, Fault>>
     }
 }
 
-fn number_order(left: Result<i64, Fault>, right: Result<i64, Fault>) -> Result<Ordering, Fault>
+/// How two numbers stand to one another, or the fault of the left one, or else of the right one.
+pub fn number_order(left: Result<i64, Fault>, right: Result<i64, Fault>) -> Result<Ordering, Fault>
     ensures { result ≡ next_ok left (λ x. next_ok right (λ y. Ok (int_order x y))) }
 {
     let x = left?;
@@ -115,8 +118,9 @@ pub fn text_in<'a>(value: &'a Value, digits: &'a mut Buffer) -> &'a [u8]
     }
 }
 
+/// The decimal digits of a number, with `-` before them where it is negative; they stand in the buffer.
 #[inline]
-fn digits_in(n: i64, digits: &mut Buffer) -> &[u8]
+pub fn digits_in(n: i64, digits: &mut Buffer) -> &[u8]
     ensures { result.now ≡ int_text n }
 {
     digits.format(n).as_bytes()

@@ -1,13 +1,14 @@
-use Rattle.std.proofs.Common.{◌∙◌, ◌++◌, ◌∷◌, [], sym, ap, refl, Some, ◌&&◌}
+use Rattle.std.proofs.Common.{◌∙◌, ◌++◌, ◌∷◌, [], sym, ap, refl, length, Some, ◌&&◌}
 use Rattle.std.proofs.lemmas.Result.{err_from_is_err_and}
+use Rattle.rawk_builtin_trees.specs.Calls.{has_builtin}
 use Rattle.rawk_syntax.specs.Covered.{unless, each, can_change, covers, place_cover, covers_link, joins}
 use Rattle.rawk_syntax.specs.Meant.{is_there, sense_of}
 use Rattle.rawk_syntax.specs.Settled as spec
 use Rattle.rawk_tree.specs.declared.tree.Link.TheVariants as tree_link
 use Rattle.rawk_tree.specs.declared.tree.Joiner.TheVariants as joiner
 use Rattle.rawk_value.specs.declared.operator.Arithmetic.TheVariants.{Pow}
-use Rattle.rawk_syntax.proofs.Coverings.{exits, passes, holds, sure, fails, both, first_false, second_false, each_more, each_stops, number_covers, text_covers, of_covers, group_covers, signed_covers, power_covers, chain_covers, logic_covers, choice_covers, before_covers, after_covers, assign_covers, call_covers, none_there, other_covers, name_reads, field_cover, element_cover, link_covers, joiner_joins, joiner_not}
-use Rattle.rawk_syntax.proofs.Settlements.{text_settles, read_settles, group_settles, signed_settles, power_settles, chain_settles, logic_settles, choice_settles, before_settles, after_settles, test_settles, assign_settles, update_settles, name_settles, number_settles, field_settles, link_settles, call_settles, expr_settles}
+use Rattle.rawk_syntax.proofs.Coverings.{exits, passes, holds, sure, fails, both, first_false, second_false, each_more, each_stops, number_covers, text_covers, of_covers, group_covers, signed_covers, power_covers, chain_covers, logic_covers, choice_covers, before_covers, after_covers, assign_covers, call_covers, builtin_covers, builtin_judged, none_there, other_covers, name_reads, field_cover, element_cover, link_covers, joiner_joins, joiner_not}
+use Rattle.rawk_syntax.proofs.Settlements.{text_settles, read_settles, group_settles, signed_settles, power_settles, chain_settles, logic_settles, choice_settles, before_settles, after_settles, test_settles, assign_settles, update_settles, name_settles, number_settles, field_settles, link_settles, call_settles, builtin_settles, same_count, expr_settles}
 use Rattle.rawk_syntax.proofs.expressions.+settle.Goals as goal
 
 pub settle_expr-returns-in-Number-clause-settled : goal.settle_expr-returns-in-Number-clause-settled
@@ -218,7 +219,7 @@ pub settle_expr-returns-in_default : goal.settle_expr-returns-in_default
 settle_expr-returns-in_default t c =
     record {
       settled = tt;
-      judged = λ ne. fails (covers (sense_of c.args.scope.now) c.args.e.now) c.args.left (other_covers (sense_of c.args.scope.now) c.args.e.now c.in_default.not-Number c.in_default.not-Text c.in_default.not-Of c.in_default.not-Group c.in_default.not-Signed c.in_default.not-Power c.in_default.not-Chain c.in_default.not-Logic c.in_default.not-Choice c.in_default.not-Before c.in_default.not-After c.in_default.not-Assign c.in_default.not-Call) ∙ ap Some (sym c.left_out-in_default.ensures);
+      judged = λ ne. fails (covers (sense_of c.args.scope.now) c.args.e.now) c.args.left (other_covers (sense_of c.args.scope.now) c.args.e.now c.in_default.not-Number c.in_default.not-Text c.in_default.not-Of c.in_default.not-Group c.in_default.not-Signed c.in_default.not-Power c.in_default.not-Chain c.in_default.not-Logic c.in_default.not-Choice c.in_default.not-Before c.in_default.not-After c.in_default.not-Assign c.in_default.not-Call c.in_default.not-Builtin) ∙ ap Some (sym c.left_out-in_default.ensures);
     }
 
 pub settle_links-loop-link-init : goal.settle_links-loop-link-init
@@ -307,3 +308,17 @@ settle_expr-returns-in_ok-arguments-in-Call-clause-settled t c =
 pub settle_expr-returns-in_ok-arguments-in-Call-clause-judged : goal.settle_expr-returns-in_ok-arguments-in-Call-clause-judged
 settle_expr-returns-in_ok-arguments-in-Call-clause-judged t c =
     holds (covers (sense_of c.args.scope.now) c.args.e.now) c.args.left (call_covers (sense_of c.args.scope.now) c.args.e.now c.in-Call.name c.as_slice-in-Call.result.now (Some c.in-Some.function) c.in-Call.arguments c.as_slice-in-Call-2.result.now c.in-Call.is c.as_slice-in-Call.ensures c.in-Some.ensures c.as_slice-in-Call-2.ensures ∙ sure (each (covers (sense_of c.args.scope.now)) c.as_slice-in-Call-2.result.now) c.args.left c.in_ok-arguments-in-Call.ensures.judged)
+
+pub settle_expr-returns-in_err-arguments-in-Builtin-clause-judged : goal.settle_expr-returns-in_err-arguments-in-Builtin-clause-judged
+settle_expr-returns-in_err-arguments-in-Builtin-clause-judged t c =
+    let p = err_from_is_err_and c.from_residual-in_err-arguments-in-Builtin.result c.from_residual-in_err-arguments-in-Builtin.ensures.1 in
+    exits c.from_residual-in_err-arguments-in-Builtin.result (unless (covers (sense_of c.args.scope.now) c.args.e.now) c.args.left) c.in_err-arguments-in-Builtin.field-0.0 p.0 p.1 p.2 (passes (each (covers (sense_of c.args.scope.now)) c.as_slice-in-Builtin.result.now) (covers (sense_of c.args.scope.now) c.args.e.now) c.args.left c.in_err-arguments-in-Builtin.field-0.0 (λ h. builtin_covers (sense_of c.args.scope.now) c.args.e.now c.in-Builtin.function c.in-Builtin.arguments c.as_slice-in-Builtin.result.now c.in-Builtin.is c.as_slice-in-Builtin.ensures ∙ second_false (has_builtin c.in-Builtin.function (length c.as_slice-in-Builtin.result.now)) (each (covers (sense_of c.args.scope.now)) c.as_slice-in-Builtin.result.now) h) c.in_err-arguments-in-Builtin.ensures.judged)
+
+pub settle_expr-returns-in_ok-arguments-in-Builtin-clause-settled : goal.settle_expr-returns-in_ok-arguments-in-Builtin-clause-settled
+settle_expr-returns-in_ok-arguments-in-Builtin-clause-settled t c =
+    builtin_settles (sense_of c.args.scope.now) c.settle_builtin.result c.args.e.now c.in-Builtin.function c.in-Builtin.arguments c.as_slice-in-Builtin.result.now c.in_ok-arguments-in-Builtin.arguments.items c.in-Builtin.is c.as_slice-in-Builtin.ensures c.in_ok-arguments-in-Builtin.ensures.settled c.settle_builtin.ensures.settled
+
+pub settle_expr-returns-in_ok-arguments-in-Builtin-clause-judged : goal.settle_expr-returns-in_ok-arguments-in-Builtin-clause-judged
+settle_expr-returns-in_ok-arguments-in-Builtin-clause-judged t c =
+    builtin_judged c.settle_builtin.result (sense_of c.args.scope.now) c.args.e.now c.in-Builtin.function c.in-Builtin.arguments c.as_slice-in-Builtin.result.now (length c.in_ok-arguments-in-Builtin.arguments.items) c.args.left c.in-Builtin.is c.as_slice-in-Builtin.ensures
+    (sure (each (covers (sense_of c.args.scope.now)) c.as_slice-in-Builtin.result.now) c.args.left c.in_ok-arguments-in-Builtin.ensures.judged) (same_count (sense_of c.args.scope.now) c.in_ok-arguments-in-Builtin.ensures.settled) c.settle_builtin.ensures.judged

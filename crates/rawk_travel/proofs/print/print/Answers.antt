@@ -2,7 +2,7 @@ use Rattle.std.proofs.Common.{◌∙◌, ◌++◌, List, ap, map}
 use Rattle.rawk_value.specs.Values.{text_of}
 use Rattle.rawk_store.specs.Stacked.{live_values}
 use Rattle.rawk_code.specs.declared.code.Simple.{Simple}
-use Rattle.rawk_travel.specs.Borrowed.{borrowed_value}
+use Rattle.rawk_operators.specs.Borrowed.{borrowed_value}
 use Rattle.rawk_travel.specs.Line.{pieces_behind}
 use Rattle.rawk_travel.specs.Moving.{moving, simple_of}
 use Rattle.rawk_travel.proofs.Lines.{print_line}

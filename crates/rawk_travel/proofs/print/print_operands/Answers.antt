@@ -1,7 +1,7 @@
 use Rattle.std.proofs.Common.{◌≡◌, ◌∙◌, ◌+◌, ◌-◌, ◌<◌, ap, arith, length, map, reverse, take}
 use Rattle.rawk_value.specs.Values.{text_of}
 use Rattle.rawk_store.specs.Stacked.{live_values}
-use Rattle.rawk_travel.specs.Borrowed.{borrowed_value}
+use Rattle.rawk_operators.specs.Borrowed.{borrowed_value}
 use Rattle.rawk_travel.proofs.Lines.{operand_printed}
 use Rattle.rawk_travel.proofs.print.print_operands.Goals as goal
 

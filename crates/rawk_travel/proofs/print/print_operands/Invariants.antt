@@ -1,7 +1,7 @@
 use Rattle.std.proofs.Common.{◌≡◌, ◌≤◌, List, ◌++◌, length, map, reverse, take, true}
 use Rattle.rawk_value.specs.Values.{Bytes, text_of}
 use Rattle.rawk_store.specs.Stacked.{live_values}
-use Rattle.rawk_travel.specs.Borrowed.{borrowed_value}
+use Rattle.rawk_operators.specs.Borrowed.{borrowed_value}
 use Rattle.rawk_travel.specs.Line.{pieces_behind}
 use Rattle.rawk_travel.proofs.print.print_operands.Given as goal
 

@@ -2,7 +2,7 @@ use Rattle.std.proofs.Common.{◌∙◌, ◌++◌, ap, arith, map}
 use Rattle.rawk_value.specs.Values.{text_of}
 use Rattle.rawk_frames.specs.LaidFrames.{frames_of}
 use Rattle.rawk_code.specs.declared.code.Simple.{Simple}
-use Rattle.rawk_travel.specs.Borrowed.{borrowed_value}
+use Rattle.rawk_operators.specs.Borrowed.{borrowed_value}
 use Rattle.rawk_travel.specs.Line.{pieces_behind}
 use Rattle.rawk_travel.specs.Moving.{simple_of}
 use Rattle.rawk_travel.proofs.Lines.{simple_printed}

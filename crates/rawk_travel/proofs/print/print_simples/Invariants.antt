@@ -1,7 +1,7 @@
 use Rattle.std.proofs.Common.{◌≡◌, ◌++◌, map, drop}
 use Rattle.rawk_value.specs.Values.{text_of}
 use Rattle.rawk_frames.specs.LaidFrames.{frames_of}
-use Rattle.rawk_travel.specs.Borrowed.{borrowed_value}
+use Rattle.rawk_operators.specs.Borrowed.{borrowed_value}
 use Rattle.rawk_travel.specs.Line.{pieces_behind}
 use Rattle.rawk_travel.specs.Moving.{simple_of}
 use Rattle.rawk_travel.proofs.print.print_simples.Given as goal

@@ -8,29 +8,29 @@ use Rattle.rawk_travel.proofs.reading.read.Goals as goal
 
 pub returns-in-Err-clause-did : goal.returns-in-Err-clause-did
 returns-in-Err-clause-did g c =
-    fault_did g.R.Source.may_give c.next.new.self c.refused.result c.in-Err.fault (moving c.args.store.now) c.args.tape.now.consumed c.in_ok-separator.separator.now c.in-Err.ensures.next c.requires
-    (c.in_ok-separator.ensures ∙ ap text_of c.global_borrowed.ensures) c.refused.ensures
+    fault_did g.R.Source.may_give c.next.new.self c.refused.result c.in-Err.fault (moving c.args.store.now) c.args.tape.now.consumed c.text_borrowed-separator.result.now c.in-Err.ensures.next c.requires
+    (c.text_borrowed-separator.ensures ∙ ap text_of c.global_borrowed.ensures) c.refused.ensures
 
 pub returns-in-Err-clause-quiet : goal.returns-in-Err-clause-quiet
 returns-in-Err-clause-quiet g c =
-    fault_quiet g.R.Source.may_give c.next.new.self c.refused.result c.in-Err.fault c.args.tape.now.consumed c.in_ok-separator.separator.now g.met.R.Source.gives_some c.in-Err.ensures.next c.refused.ensures
+    fault_quiet g.R.Source.may_give c.next.new.self c.refused.result c.in-Err.fault c.args.tape.now.consumed c.text_borrowed-separator.result.now g.met.R.Source.gives_some c.in-Err.ensures.next c.refused.ensures
 
 pub returns-in-Ok-None-clause-did : goal.returns-in-Ok-None-clause-did
 returns-in-Ok-None-clause-did g c =
-    missing_did g.R.Source.may_give c.next.new.self c.in-Ok-None.field-0 (moving c.args.store.now) c.args.tape.now.consumed c.in_ok-separator.separator.now c.in-Ok-None.field-0-is c.in-Ok-None.ensures.next c.requires
-    (c.in_ok-separator.ensures ∙ ap text_of c.global_borrowed.ensures)
+    missing_did g.R.Source.may_give c.next.new.self c.in-Ok-None.field-0 (moving c.args.store.now) c.args.tape.now.consumed c.text_borrowed-separator.result.now c.in-Ok-None.field-0-is c.in-Ok-None.ensures.next c.requires
+    (c.text_borrowed-separator.ensures ∙ ap text_of c.global_borrowed.ensures)
 
-pub returns-clause-did : goal.returns-clause-did
-returns-clause-did g c =
-    found_did g.R.Source.may_give c.next.new.self c.take_found.new.tape c.take_found.result c.in-Ok-Some.field-0 c.in-Ok-Some.found (moving c.args.store.now) (moving c.take_found.new.store) c.args.tape.now.consumed c.in_ok-separator.separator.now
-    c.in-Ok-Some.field-0-is c.in-Ok-Some.ensures.next c.take_found.ensures.tape c.requires (c.in_ok-separator.ensures ∙ ap text_of c.global_borrowed.ensures) c.take_found.ensures.did
+pub returns-in-Ok-Some-clause-did : goal.returns-in-Ok-Some-clause-did
+returns-in-Ok-Some-clause-did g c =
+    found_did g.R.Source.may_give c.next.new.self c.take_found.new.tape c.take_found.result c.in-Ok-Some.field-0 c.in-Ok-Some.found (moving c.args.store.now) (moving c.take_found.new.store) c.args.tape.now.consumed c.text_borrowed-separator.result.now
+    c.in-Ok-Some.field-0-is c.in-Ok-Some.ensures.next c.take_found.ensures.tape c.requires (c.text_borrowed-separator.ensures ∙ ap text_of c.global_borrowed.ensures) c.take_found.ensures.did
 
-pub returns-clause-quiet : goal.returns-clause-quiet
-returns-clause-quiet g c =
+pub returns-in-Ok-Some-clause-quiet : goal.returns-in-Ok-Some-clause-quiet
+returns-in-Ok-Some-clause-quiet g c =
     let bytes = c.next.new.self.bytes in
     found_quiet c.take_found.result (slice_range bytes c.in-Ok-Some.found.start c.in-Ok-Some.found.end) c.in-Ok-Some.found.count (moving c.args.store.now) (moving c.take_found.new.store) c.take_found.ensures.did
 
-pub returns-clause-failed : goal.returns-clause-failed
-returns-clause-failed g c =
+pub returns-in-Ok-Some-clause-failed : goal.returns-in-Ok-Some-clause-failed
+returns-in-Ok-Some-clause-failed g c =
     let bytes = c.next.new.self.bytes in
     found_calm (g.R.Source.over c.take_found.new.tape.source ≡ Some Failed) c.take_found.result (slice_range bytes c.in-Ok-Some.found.start c.in-Ok-Some.found.end) c.in-Ok-Some.found.count (moving c.args.store.now) (moving c.take_found.new.store) c.take_found.ensures.did

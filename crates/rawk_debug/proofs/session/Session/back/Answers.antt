@@ -42,6 +42,7 @@ search-preserved g c =
           backs_on c.sets_below.ensures input c.args.goal old mid _ _ _ _ _ start (c.search.invariant.so_far input was) (c.known-in-search.ensures.stands input was)
           (record { depth_is = c.search.invariant.depth; asked_is = c.is_sought.ensures }) _ _ c.if-is_sought.false (moved.kept refl) (moved.moved refl) refl refl (moved.before refl);
       narrows = λ input may. c.search.invariant.narrows input (moved.narrows input may);
+      reads_nothing = λ input may. moved.reads_nothing input (c.search.invariant.reads_nothing input may);
       fresh = moved.fresh refl;
       depth = c.search.invariant.depth;
     }

@@ -14,6 +14,7 @@ invariant-search g l =
     record {
       so_far : (input : Input) → may_be now input → Backs input l.goal (stand position l.fn.self) (stand position l.self) (g.M.Stepper.before now);
       narrows : (input : Input) → may_be now input → may_be first input;
+      reads_nothing : (input : Input) → may_be first input → may_be now input;
       fresh : IsTrue (g.M.Stepper.fresh now);
       depth : l.depth ≡ depth_of (g.M.Stepper.held first);
     }

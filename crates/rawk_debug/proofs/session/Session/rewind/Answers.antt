@@ -12,4 +12,5 @@ all-preserved g c =
       same = back_twice old mid _ c.all.invariant.same (moved.moved refl) refl refl;
       kept = back_keeps old mid _ c.all.invariant.same (moved.moved refl) (moved.kept refl);
       narrows = λ input may. c.all.invariant.narrows input (moved.narrows input may);
+      reads_nothing = λ input may. moved.reads_nothing input (c.all.invariant.reads_nothing input may);
     }

@@ -12,6 +12,7 @@ invariant-all g l =
       same : now ≡ record first { machine = back_at now.machine.point first.machine };
       kept : first.machine.oldest ≤ now.machine.point;
       narrows : (input : Input) → g.M.Stepper.may_be l.self.machine input → g.M.Stepper.may_be l.fn.self.machine input;
+      reads_nothing : (input : Input) → g.M.Stepper.may_be l.fn.self.machine input → g.M.Stepper.may_be l.self.machine input;
     }
 
 abbrev pub decreases-all : goal.decreases-all

@@ -1,0 +1,3 @@
+pub mod Operators
+pub mod Borrowed
+pub mod Joined

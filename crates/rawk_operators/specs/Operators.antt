@@ -1,0 +1,44 @@
+-- What operators and functions make of values, after POSIX.1-2017, utility awk, sections `Expressions in awk`, `Arithmetic Functions`, `String Functions`.
+use Rattle.std.specs.Prelude.{pos, neg_ℤ, not, List, ◌++◌, length, map, Some, None, Result, Ok}
+use Rattle.rawk_value.specs.declared.value.Value.{Value}
+use Rattle.rawk_value.specs.declared.value.Value.TheVariants.{Number, String}
+use Rattle.rawk_value.specs.declared.fault.Fault.{Fault}
+use Rattle.rawk_value.specs.Values.{Bytes, next_ok, checked, number_of, int_of, text_of, truth_of, flag, order_of, holds, combined}
+use Rattle.rawk_format.specs.Format.{formatted}
+use Rattle.rawk_builtins.specs.Builtins.{place_of, substring, lower, upper}
+use Rattle.rawk_parsing.specs.declared.tree.Sign.{Sign}
+use Rattle.rawk_parsing.specs.declared.tree.Sign.TheVariants as sign
+use Rattle.rawk_tree.specs.declared.tree.Joiner.{Joiner}
+use Rattle.rawk_tree.specs.declared.tree.Joiner.TheVariants as joiner
+use Rattle.rawk_tree.specs.declared.tree.Unary.{Unary}
+use Rattle.rawk_tree.specs.declared.tree.Unary.TheVariants as unary
+
+-- what two values make: a number; 1 where a comparison holds, and else 0; their texts side by side; the place of a text in another; the part of a text from a place on
+abbrev pub both_make : Joiner → Value → Value → Result Value Fault
+both_make (joiner.Arithmetic op) v w = next_ok (number_of v) (λ x. next_ok (number_of w) (λ y. next_ok (combined op x y) (λ z. Ok (Number z))))
+both_make (joiner.Comparison comparison) v w = next_ok (order_of v w) (λ order. Ok (flag (holds comparison order)))
+both_make joiner.Concat v w = Ok (String (text_of v ++ text_of w))
+both_make joiner.Index v w = Ok (Number (pos (place_of (text_of v) (text_of w))))
+both_make joiner.Substr v w = next_ok (number_of w) (λ m. Ok (String (substring (text_of v) m None)))
+
+-- what a sign makes of a value: its number, that number with the other sign, or 1 where the value is false, and else 0
+abbrev pub signed : Sign → Value → Result Value Fault
+signed sign.Plus v = next_ok (number_of v) (λ x. Ok (Number x))
+signed sign.Minus v = next_ok (number_of v) (λ x. next_ok (checked (neg_ℤ x)) (λ y. Ok (Number y)))
+signed sign.Not v = next_ok (truth_of v) (λ b. Ok (flag (not b)))
+
+-- what an operator or a function of one operand makes of a value
+abbrev pub one_makes : Unary → Value → Result Value Fault
+one_makes (unary.Sign s) v = signed s v
+one_makes unary.Length v = Ok (Number (pos (length (text_of v))))
+one_makes unary.ToLower v = Ok (String (map lower (text_of v)))
+one_makes unary.ToUpper v = Ok (String (map upper (text_of v)))
+one_makes unary.Int v = next_ok (int_of v) (λ x. Ok (Number x))
+
+-- the part of a text from a place on, so many bytes
+abbrev pub part_of : Value → Value → Value → Result Value Fault
+part_of v m n = next_ok (number_of m) (λ x. next_ok (number_of n) (λ y. Ok (String (substring (text_of v) x (Some y)))))
+
+-- what a format makes of its arguments, in their order
+abbrev pub formatted_by : Value → List Value → Result Bytes Fault
+formatted_by format vs = formatted (text_of format) vs

@@ -1,0 +1,14 @@
+//! What operators and functions make of values, which lie where they stand.
+#![tactic(auto)]
+
+mod borrowed;
+mod formats;
+mod made;
+mod ordered;
+mod parts;
+
+pub use borrowed::{Borrowed, copy, join, number, push_borrowed, text_borrowed, truth};
+pub use formats::format;
+pub use made::{flag, make, make_unary};
+pub use ordered::{compare, compare_numbers};
+pub use parts::make_part;

@@ -1,0 +1,76 @@
+//! Comparison of values in place.
+
+ghost use Rattle.std.specs.Prelude.{◌≡◌, Ok, Some, None, if◌then◌else◌};
+ghost use Rattle.std.specs.Cmp.Lexicographic.{slice_cmp};
+ghost use Rattle.std.specs.Ordering.{nat_cmp};
+ghost use Rattle.rawk_value.specs.Values.{counts, holds, int_order, next_ok, number_of, order_of, text_of};
+ghost use Rattle.rawk_operators.specs.Borrowed.{borrowed_value};
+
+use crate::borrowed::{Borrowed, text_borrowed};
+use itoa::Buffer;
+use rawk_value::order::{holds, number_if_counts, number_if_numeric, number_order};
+use rawk_value::{Comparison, Fault};
+use std::cmp::Ordering;
+
+/// Its number, where a comparison takes it as a number.
+#[inline]
+fn number_if_compared(value: Borrowed<'_>) -> Option<Result<i64, Fault>>
+    ensures { result ≡ (if counts (borrowed_value value.entry) then Some (number_of (borrowed_value value.entry)) else None) }
+{
+    match value {
+        Borrowed::Nothing => Some(Ok(0)),
+        Borrowed::Number(n) => Some(Ok(n)),
+        Borrowed::Text(_) => None,
+        Borrowed::Input(text) => number_if_numeric(text),
+        Borrowed::Kept(value) => number_if_counts(value),
+    }
+}
+
+/// The order of their texts, byte by byte.
+fn text_order(left: Borrowed<'_>, right: Borrowed<'_>) -> Ordering
+    ensures { result ≡ slice_cmp nat_cmp (text_of (borrowed_value left.entry)) (text_of (borrowed_value right.entry)) }
+{
+    let mut left_digits = Buffer::new();
+    let mut right_digits = Buffer::new();
+    text_borrowed(left, &mut left_digits).cmp(&text_borrowed(right, &mut right_digits))
+}
+
+/// How they stand to one another, or the fault of the left number, or else of the right one.
+fn order(left: Borrowed<'_>, right: Borrowed<'_>) -> Result<Ordering, Fault>
+    ensures { result ≡ order_of (borrowed_value left.entry) (borrowed_value right.entry) }
+{
+    match number_if_compared(left) {
+        None => Ok(text_order(left, right)),
+        Some(x) => match number_if_compared(right) {
+            None => Ok(text_order(left, right)),
+            Some(y) => number_order(x, y),
+        },
+    }
+}
+
+/// Whether a comparison of them holds, or the fault of the left number, or else of the right one. It takes no memory.
+pub fn compare(
+    comparison: Comparison,
+    left: Borrowed<'_>,
+    right: Borrowed<'_>,
+) -> Result<bool, Fault>
+    ensures { result ≡ next_ok (order_of (borrowed_value left.entry) (borrowed_value right.entry)) (λ order. Ok (holds comparison order)) }
+{
+    let order = order(left, right)?;
+    Ok(holds(comparison, order))
+}
+
+/// Whether a comparison of two numbers holds.
+#[inline(always)]
+pub fn compare_numbers(comparison: Comparison, left: i64, right: i64) -> bool
+    ensures { result ≡ holds comparison (int_order left right) }
+{
+    match comparison {
+        Comparison::Less => left < right,
+        Comparison::LessEqual => left <= right,
+        Comparison::Equal => left == right,
+        Comparison::NotEqual => left != right,
+        Comparison::Greater => left > right,
+        Comparison::GreaterEqual => left >= right,
+    }
+}
