@@ -1,5 +1,5 @@
 -- What is reported of a session, of any text, first values, source, commands and sink.
-use Rattle.std.specs.Prelude.{◌≡◌, ℕ, ◌≤◌, ◌++◌, true, false, List, [], Option}
+use Rattle.std.specs.Prelude.{◌≡◌, ℕ, ◌++◌, true, false, List, [], Option}
 use Rattle.rawk_value.specs.Values.{Bytes}
 use Rattle.rawk_tape.specs.Records.{Input}
 use Rattle.rawk_tree.specs.declared.tree.Program.{Program}
