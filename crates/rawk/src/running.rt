@@ -136,8 +136,6 @@ fn run_prepared<R: Source + Drop, W: Sink>(
 /// was written. F11 is reported exactly where the sink failed, at the point behind the step whose output failed. F12 is
 /// reported where memory was refused, at the last point reached and with its line. The source is asked for nothing after its end or failure,
 /// and for at most 65,536 bytes more than the record at hand needs.
-///
-/// A step costs no allocation; a record costs the bytes of its text.
 pub fn run<R: Source + Drop, W: Sink>(
     alloc: Global,
     settings: &Settings,
