@@ -157,8 +157,8 @@ def main():
     with open(ROWS, encoding="utf-8") as file:
         for number, line in enumerate(file, 1):
             head, arrow, answer = line.rstrip("\n").rpartition(" =>")
-            if not arrow or line.startswith("#") or "\\{" in line:
-                continue
+            if not arrow or line.startswith("#") or "\t" in head or "\\{" in line:
+                continue  # (a row with parts asks for something else than a tree)
             text, answer = unescaped(head), unescaped(answer[1:])
             theirs = code_of(text)
             if re.fullmatch(r"P[46] at line \d+", answer):

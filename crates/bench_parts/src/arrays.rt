@@ -24,18 +24,23 @@ fn work_on<R: Input + Print + AllocGlobal>(rt: &R, arrays: &mut Arrays) -> Resul
     rest(alloc, arrays);
     for line in rt.lines(alloc) {
         let line = line?;
-        let mut words = line.as_str().split_whitespace();
-        let verb = words.next().unwrap_or("");
-        let first = number(words.next());
-        let second = number(words.next());
-        let answer = match verb {
-            "set" | "touch" | "delete" | "get" | "has" => one(alloc, arrays, verb, first, second)?,
-            "rest" | "undo" | "back" | "again" => step(alloc, arrays, verb)?,
-            _ => work(alloc, arrays, verb, first, second)?,
-        };
-        rt.println(format!(in alloc; "{verb} {answer}")?)?;
+        rt.println(told(alloc, arrays, line.as_str())?)?;
     }
     Ok(())
+}
+
+/// Carries out a line, and tells what came of it.
+fn told(alloc: Global, arrays: &mut Arrays, line: &str) -> Result<String> {
+    let mut words = line.split_whitespace();
+    let verb = words.next().unwrap_or("");
+    let first = number(words.next());
+    let second = number(words.next());
+    let answer = match verb {
+        "set" | "touch" | "delete" | "get" | "has" => one(alloc, arrays, verb, first, second)?,
+        "rest" | "undo" | "back" | "again" => step(alloc, arrays, verb)?,
+        _ => work(alloc, arrays, verb, first, second)?,
+    };
+    Ok(format!(in alloc; "{verb} {answer}")?)
 }
 
 /// The number that a word is, and 0 without one.
@@ -46,7 +51,7 @@ fn number(word: Option<&str>) -> u64 {
     }
 }
 
-/// Carries out a line, and tells what came of it.
+/// Carries out a line that is neither on one element nor the end of a step.
 fn work(alloc: Global, arrays: &mut Arrays, verb: &str, first: u64, second: u64) -> Result<u64> {
     match verb {
         "bump" => Ok(bump(alloc, arrays, first, second)?),
@@ -67,23 +72,41 @@ fn one(alloc: Global, arrays: &mut Arrays, verb: &str, first: u64, second: u64) 
     let mut key = Vec::new(alloc);
     push_number(&mut key, i64::try_from(first).unwrap_or(0))?;
     match verb {
+        "has" => Ok(u64::from(arrays.has(0, &key))),
+        "get" => Ok(held(arrays, &key)),
+        _ => {
+            change(alloc, arrays, verb, &key, second)?;
+            Ok(arrays.count(0) as u64)
+        }
+    }
+}
+
+/// The number that an element is, and 0 without one.
+fn held(arrays: &Arrays, key: &[u8]) -> u64 {
+    match arrays.element(0, key) {
+        Some(Value::Number(n)) => n.unsigned_abs(),
+        _ => 0,
+    }
+}
+
+/// Sets, touches or deletes an element.
+fn change(
+    alloc: Global,
+    arrays: &mut Arrays,
+    verb: &str,
+    key: &[u8],
+    second: u64,
+) -> Result<(), AllocError> {
+    match verb {
         "set" => arrays.set(
             alloc,
             0,
-            &key,
+            key,
             Value::Number(i64::try_from(second).unwrap_or(0)),
-        )?,
-        "touch" => arrays.touch(alloc, 0, &key)?,
-        "delete" => arrays.delete(alloc, 0, &key)?,
-        "has" => return Ok(u64::from(arrays.has(0, &key))),
-        _ => {
-            return match arrays.element(0, &key) {
-                Some(Value::Number(n)) => Ok(n.unsigned_abs()),
-                _ => Ok(0),
-            };
-        }
+        ),
+        "touch" => arrays.touch(alloc, 0, key),
+        _ => arrays.delete(alloc, 0, key),
     }
-    Ok(arrays.count(0) as u64)
 }
 
 /// Ends a step that is not kept.
@@ -118,22 +141,27 @@ fn bump(alloc: Global, arrays: &mut Arrays, times: u64, count: u64) -> Result<u6
     for _ in 0..times {
         key.clear();
         push_number(&mut key, i64::try_from(next).unwrap_or(0))?;
-        let Some(place) = arrays.place(alloc, 0, &key)? else {
-            break;
-        };
-        let value = match arrays.value_at(place) {
-            Some(Value::Number(n)) => n.saturating_add(1),
-            _ => 1,
-        };
-        arrays.set_at(place, Value::Number(value))?;
-        rest(alloc, arrays);
-        sum = sum.wrapping_add(value.unsigned_abs());
+        sum = sum.wrapping_add(bump_one(alloc, arrays, &key)?);
         next = next.wrapping_add(1);
         if next >= count {
             next = 0;
         }
     }
     Ok(sum)
+}
+
+/// Adds 1 to an element, and gives what it is.
+fn bump_one(alloc: Global, arrays: &mut Arrays, key: &[u8]) -> Result<u64, AllocError> {
+    let Some(place) = arrays.place(alloc, 0, key)? else {
+        return Ok(0);
+    };
+    let value = match arrays.value_at(place) {
+        Some(Value::Number(n)) => n.saturating_add(1),
+        _ => 1,
+    };
+    arrays.set_at(place, Value::Number(value))?;
+    rest(alloc, arrays);
+    Ok(value.unsigned_abs())
 }
 
 /// How many bytes the keys have, and that each is above the one before.

@@ -1,14 +1,16 @@
 -- A dialog, line by line.
-use Rattle.std.proofs.Common.{◌≡◌, ◌≢◌, ℕ, ◌+◌, ◌<◌, Bool, true, false, List, [], ◌∷◌, ◌++◌, length, take, drop, refl, sym, ap, ◌∙◌, subst, arith, append_assoc, Option, Some, None, Result, Ok, Err}
-use Rattle.std.specs.Prelude.{slice_range, nat_lt, ◌==◌, if◌then◌else◌}
+use Rattle.std.proofs.Common.{◌≡◌, ◌≢◌, ℕ, ◌+◌, ◌-◌, ◌<◌, ◌≤◌, ◌⊎◌, inl, inr, Bool, true, false, List, [], ◌∷◌, ◌++◌, length, take, drop, refl, sym, ap, ◌∙◌, subst, arith, append_assoc, Option, Some, None, Result, Ok, Err}
+use Rattle.std.specs.Prelude.{slice_range, slice_index, nat_lt, ◌==◌, if◌then◌else◌}
 use Rattle.std.specs.List.{position_or_len}
 use Rattle.rawk_value.specs.Values.{is_empty}
-use Rattle.std.proofs.lemmas.List.{append-nil, length-append, take-append-drop, length-take-le}
+use Rattle.std.proofs.lemmas.Bool.{ltb-false, eq-eqb, false≢true}
+use Rattle.std.proofs.lemmas.List.{append-nil, length-append, length-drop, take-append-drop, length-take-le, get_or-drop}
+use Rattle.std.proofs.lemmas.List.Sums.{fails_before_first}
 use Rattle.rawk_value.specs.Values.{Bytes}
 use Rattle.rawk_value.specs.declared.fault.Fault.{Fault}
 use Rattle.rawk_value.specs.declared.fault.Fault.TheVariants as fault
-use Rattle.rawk_tape.specs.Records.{Input, Found, found, next_record}
-use Rattle.rawk_tape.specs.Tapes.{TapeState, MayBe, Answers}
+use Rattle.rawk_tape.specs.Records.{Input, Found, found, last_line, next_record}
+use Rattle.rawk_tape.specs.Tapes.{TapeState, MayBe, Answers, LastRead, IsUnsettled}
 use Rattle.rawk_tape.specs.declared.found.Found.{Found as Place}
 use Rattle.rawk_debug.specs.declared.transcript.Reply.{Reply}
 use Rattle.rawk_debug.specs.declared.transcript.Reply.TheVariants.{Text, Line, Nothing, Quits}
@@ -19,7 +21,37 @@ use Rattle.rawk.specs.declared.dialog.Over.{Over}
 use Rattle.rawk.specs.declared.dialog.Over.TheVariants.{Ended, Unread, Unwritten, NoMemory}
 use Rattle.rawk_commands.specs.Reading.{reading}
 use Rattle.rawk_debug.specs.Transcript.{is_quit}
-use Rattle.rawk.specs.Dialogs.{IsNextLine, LinesTo, NoneQuits, HasNoLine, newline, IsDialog, to_end, to_quit, unread, no_memory, unwritten, over_of, quits_by}
+use Rattle.rawk.specs.Dialogs.{IsNextLine, LinesTo, NoneQuits, HasNoLine, newline, IsDue, IsDialog, to_end, to_quit, unread, no_memory, unwritten, over_of, quits_by}
+
+-- bytes that do not settle a line are held up to its end at most
+far_by : (b : Bool) (rest : Bytes) (count size : ℕ) → nat_lt size (length rest) ≡ b → (if b then found (take size rest) (count + size + 1) else last_line true rest count) ≡ Err fault.ReadFailed → length rest ≤ size
+far_by true rest count size is h = absurd (cc h)
+far_by false rest count size is h = ltb-false _ _ is
+
+-- bytes that do not settle a line have no newline from its first byte on
+unsettled_without : (held : Bytes) (count : ℕ) → IsUnsettled newline held count → (k : ℕ) → count ≤ k → k < length held → slice_index held k ≢ 10
+unsettled_without held count part k low high is =
+    let rest = drop count held in
+    let size = position_or_len (λ c. c == 10) rest in
+    let far : length rest ≤ size = far_by (nat_lt size (length rest)) rest count size refl part in
+    let n : length rest ≡ length held - count = length-drop count held in
+    let miss : (slice_index rest (k - count) == 10) ≡ false = fails_before_first (λ c. c == 10) rest (k - count) 0 (omega arith) in
+    let e : count + (k - count) ≡ k = omega arith in
+    let same : slice_index rest (k - count) ≡ 10 = get_or-drop count held (k - count) 0 ∙ ap (λ j. slice_index held j) e ∙ is in
+    absurd (false≢true (sym miss ∙ eq-eqb _ _ same))
+
+-- the line that is due begins here, or later
+due_on : (read : Bytes) (k m : ℕ) → k ≤ m → IsDue read k → IsDue read m
+due_on read k m low due = record { held = due.held; chunk = due.chunk; whole = due.whole; bounded = due.bounded; without = λ j h. due.without j (omega (arith, low, h)) }
+
+-- what was read for the line that is due
+due_by : (old new : Bytes) (k m : ℕ) → k ≤ m → IsDue old k → (new ≡ old) ⊎ LastRead newline m old new → IsDue new m
+due_by old new k m low due (inl same) = subst (λ (b : Bytes). IsDue b m) (sym same) (due_on old k m low due)
+due_by old new k m low due (inr last) = record { held = last.held; chunk = last.chunk; whole = last.whole; bounded = last.bounded; without = unsettled_without last.held m last.last }
+
+-- nothing is read
+none_due : (read : Bytes) (count : ℕ) → read ≡ [] → IsDue read count
+none_due read count none = record { held = []; chunk = []; whole = none; bounded = omega arith; without = λ k low high. absurd (omega (arith, high)) }
 
 -- one line more
 pub lines_on : (asked : Input) (start : ℕ) (lines : List Bytes) (count : ℕ) (line : Bytes) (next : ℕ) → LinesTo asked start lines count → IsNextLine asked count line next → LinesTo asked start (lines ++ line ∷ []) next
@@ -88,14 +120,14 @@ stays_is Nothing h = tt
 stays_is Quits h = absurd (cc h)
 
 -- a part of an answer is written
-unwritten_part : (input asked : Input) (first mid new : Stand) (lines : List Bytes) (line : Bytes) (count : ℕ) (out text : Bytes) (size : ℕ) → LinesTo asked 0 (lines ++ line ∷ []) count → NoneQuits (lines ++ line ∷ [])
-    → Transcript input lines first out mid → Transcript input (lines ++ line ∷ []) first (out ++ text) new → size < length text → IsDialog input asked first new Unwritten (out ++ take size text)
-unwritten_part input asked first mid new lines line count out text size read stays before all small =
+unwritten_part : (input asked : Input) (read : Bytes) (first mid new : Stand) (lines : List Bytes) (line : Bytes) (count next : ℕ) (out text : Bytes) (size : ℕ) → LinesTo asked 0 lines count → IsNextLine asked count line next → IsDue read count → NoneQuits (lines ++ line ∷ [])
+    → Transcript input lines first out mid → Transcript input (lines ++ line ∷ []) first (out ++ text) new → size < length text → IsDialog input asked read first new Unwritten (out ++ take size text)
+unwritten_part input asked read first mid new lines line count next out text size to is due stays before all small =
     let whole : out ++ text ≡ (out ++ take size text) ++ drop size text = ap (λ (b : Bytes). out ++ b) (sym (take-append-drop size text)) ∙ sym (append_assoc out (take size text) (drop size text)) in
     let a = length-append out text in
     let b = length-append out (take size text) in
     let n = length-take-le size text (omega (arith, small)) in
-    unwritten lines line count mid out (out ++ text) (out ++ take size text) read stays before all (take size text, refl) (drop size text, whole) (omega (arith, a, b, n, small))
+    unwritten lines line count next mid out (out ++ text) (out ++ take size text) to is due stays before all (take size text, refl) (drop size text, whole) (omega (arith, a, b, n, small))
 
 -- what was consumed changes nothing of what may come
 pub come_same : {S : Type 0} (may_give : S → Input → Type 0) (tape now : TapeState S) (count : ℕ) (asked : Input) → now ≡ record tape { consumed = count } → MayBe may_give now asked → MayBe may_give tape asked
@@ -108,6 +140,11 @@ line_is {S} may_give tape now count place found is at answers asked come =
     let answer : Answers (next_record asked count newline) tape.bytes (Ok place) = answers asked (come_same may_give tape now found.count asked is come) in
     let next : IsNextLine asked count (slice_range tape.bytes found.start found.end) found.count = subst (λ (p : Option Place). Answers (next_record asked count newline) tape.bytes (Ok p)) at answer in
     subst (λ (t : TapeState S). IsNextLine asked count (slice_range t.bytes found.start found.end) t.consumed) (sym is) next
+
+-- how much was read, once a line is consumed
+pub lazy_is : {S : Type 0} (old next now : TapeState S) → now.bytes ≡ next.bytes → (next ≡ old) ⊎ LastRead newline old.consumed old.bytes next.bytes → (now.bytes ≡ old.bytes) ⊎ LastRead newline old.consumed old.bytes now.bytes
+lazy_is {S} old next now same (inl is) = inl (same ∙ ap (λ (t : TapeState S). t.bytes) is)
+lazy_is old next now same (inr last) = inr (subst (λ (b : Bytes). LastRead newline old.consumed old.bytes b) (sym same) last)
 
 -- nothing was found
 pub none_is : (asked : Input) (count : ℕ) (bytes : Bytes) (place : Option Place) → place ≡ None → Answers (next_record asked count newline) bytes (Ok place) → next_record asked count newline ≡ Ok None
@@ -123,16 +160,19 @@ pub record SoFar {M S V : Type 0} (may_be : M → Input → Type 0) (may_give : 
   pub read : (commands : Input) → MayBe may_give asked commands → LinesTo commands 0 lines asked.consumed
   pub comes : (commands : Input) → MayBe may_give asked commands → MayBe may_give asked_first commands
   pub taken : (held : Bytes) → may_hold sink_first held → may_hold sink (held ++ out)
+  pub wanted : ℕ
+  pub passed : wanted ≤ asked.consumed
+  pub due : IsDue asked.bytes wanted
 
 -- a dialog was held that is over so
 abbrev pub IsOver : {M S V : Type 0} → (M → Input → Type 0) → (S → Input → Type 0) → (V → Bytes → Type 0) → Stand → Stand → M → TapeState S → V → V → Over → Type 0
 IsOver may_be may_give may_hold first last machine tape sink_first sink over =
-    (input asked : Input) → may_be machine input → MayBe may_give tape asked → (held : Bytes) → may_hold sink_first held → (taken : Bytes) × may_hold sink (held ++ taken) × IsDialog input asked first last over taken
+    (input asked : Input) → may_be machine input → MayBe may_give tape asked → (held : Bytes) → may_hold sink_first held → (taken : Bytes) × may_hold sink (held ++ taken) × IsDialog input asked tape.bytes first last over taken
 
 -- before the first line
 pub begun : {M S V : Type 0} (may_be : M → Input → Type 0) (may_give : S → Input → Type 0) (may_hold : V → Bytes → Type 0) (first : Stand) (machine : M) (tape : TapeState S) (sink : V)
-    → tape.consumed ≡ 0 → SoFar may_be may_give may_hold first first machine machine tape tape sink sink
-begun may_be may_give may_hold first machine tape sink none = record {
+    → tape.consumed ≡ 0 → tape.bytes ≡ [] → SoFar may_be may_give may_hold first first machine machine tape tape sink sink
+begun may_be may_give may_hold first machine tape sink none fresh = record {
   lines = [];
   out = [];
   leads = λ input may. leads_nowhere input first;
@@ -141,28 +181,37 @@ begun may_be may_give may_hold first machine tape sink none = record {
   read = λ commands come. none;
   comes = λ commands come. come;
   taken = λ held holds. subst (λ (b : Bytes). may_hold sink b) (sym (append-nil held)) holds;
+  wanted = 0;
+  passed = omega arith;
+  due = none_due tape.bytes 0 fresh;
 }
 
-module _ {M S V : Type 0} (may_be : M → Input → Type 0) (may_give : S → Input → Type 0) (may_hold : V → Bytes → Type 0) (first now new : Stand) (start machine machine2 : M) (tape_first tape tape2 : TapeState S) (sink_first sink sink2 : V) (so : SoFar may_be may_give may_hold first now start machine tape_first tape sink_first sink) (comes : (asked : Input) → MayBe may_give tape2 asked → MayBe may_give tape asked) where
+module _ {M S V : Type 0} (may_be : M → Input → Type 0) (may_give : S → Input → Type 0) (may_hold : V → Bytes → Type 0) (first now new : Stand) (start machine machine2 : M) (tape_first tape tape2 : TapeState S) (sink_first sink sink2 : V) (so : SoFar may_be may_give may_hold first now start machine tape_first tape sink_first sink) (comes : (asked : Input) → MayBe may_give tape2 asked → MayBe may_give tape asked) (lazy : (tape2.bytes ≡ tape.bytes) ⊎ LastRead newline tape.consumed tape.bytes tape2.bytes) where
+  is_due : IsDue tape2.bytes tape.consumed
+  is_due = due_by tape.bytes tape2.bytes so.wanted tape.consumed so.passed so.due lazy
+
   -- there is no next line
   pub unread_is : (over : Over) → ((asked : Input) → MayBe may_give tape2 asked → HasNoLine asked tape.consumed over) → IsOver may_be may_give may_hold first now machine tape2 sink_first sink over
   unread_is Ended none input asked may come held h =
-      (so.out, so.taken held h, to_end so.lines tape.consumed so.out (so.read asked (comes asked come)) (so.stays input may) (none asked come) (leads_to_end input so.lines first so.out now (so.leads input may)))
+      (so.out, so.taken held h, to_end so.lines tape.consumed so.out (so.read asked (comes asked come)) (so.stays input may) (none asked come) is_due (leads_to_end input so.lines first so.out now (so.leads input may)))
   unread_is Unread none input asked may come held h =
-      (so.out, so.taken held h, unread so.lines tape.consumed so.out (so.read asked (comes asked come)) (so.stays input may) (none asked come) (leads_to_end input so.lines first so.out now (so.leads input may)))
+      (so.out, so.taken held h, unread so.lines tape.consumed so.out (so.read asked (comes asked come)) (so.stays input may) (none asked come) is_due (leads_to_end input so.lines first so.out now (so.leads input may)))
   unread_is Unwritten none input asked may come held h = absurd (none asked come)
   unread_is NoMemory none input asked may come held h =
-      (so.out, so.taken held h, no_memory so.lines tape.consumed so.out (so.read asked (comes asked come)) (so.stays input may) (leads_to_end input so.lines first so.out now (so.leads input may)))
+      (so.out, so.taken held h, no_memory so.lines tape.consumed so.out (so.read asked (comes asked come)) (so.stays input may) is_due (leads_to_end input so.lines first so.out now (so.leads input may)))
 
   module _ (line found : Bytes) (reply : Reply) (same : line ≡ found) (next : (asked : Input) → MayBe may_give tape2 asked → IsNextLine asked tape.consumed found tape2.consumed) (narrows : (input : Input) → may_be machine2 input → may_be machine input) (carries : (input : Input) → may_be machine2 input → Carries input line now reply new) where
+    is_next : (asked : Input) → MayBe may_give tape2 asked → IsNextLine asked tape.consumed line tape2.consumed
+    is_next asked come = subst (λ (b : Bytes). IsNextLine asked tape.consumed b tape2.consumed) (sym same) (next asked come)
+
     reads : (asked : Input) → MayBe may_give tape2 asked → LinesTo asked 0 (so.lines ++ line ∷ []) tape2.consumed
-    reads asked come = lines_on asked 0 so.lines tape.consumed line tape2.consumed (so.read asked (comes asked come)) (subst (λ (b : Bytes). IsNextLine asked tape.consumed b tape2.consumed) (sym same) (next asked come))
+    reads asked come = lines_on asked 0 so.lines tape.consumed line tape2.consumed (so.read asked (comes asked come)) (is_next asked come)
 
     -- the line ends the session
     pub quitted : quits_by reply ≡ true → IsOver may_be may_give may_hold first new machine2 tape2 sink_first sink Ended
     quitted is input asked may come held h =
         let quit : Carries input line now Quits new = subst (λ (r : Reply). Carries input line now r new) (quits_is reply is) (carries input may) in
-        (so.out, so.taken held h, to_quit so.lines line tape2.consumed so.out (reads asked come) (so.stays input (narrows input may)) quit.0 (leads_to_quit input so.lines first so.out now (so.leads input (narrows input may)) line new [] quit))
+        (so.out, so.taken held h, to_quit so.lines line tape.consumed tape2.consumed so.out (so.read asked (comes asked come)) (is_next asked come) is_due (so.stays input (narrows input may)) quit.0 (leads_to_quit input so.lines first so.out now (so.leads input (narrows input may)) line new [] quit))
 
     leads_further : quits_by reply ≡ false → (input : Input) → may_be machine2 input → Leads input (so.lines ++ line ∷ []) first (so.out ++ reply_text reply) new
     leads_further is input may = leads_on input so.lines first so.out now (so.leads input (narrows input may)) line reply new (stays_is reply is) (carries input may)
@@ -177,13 +226,13 @@ module _ {M S V : Type 0} (may_be : M → Input → Type 0) (may_give : S → In
         let part = subst (λ (b : Bytes). (size : ℕ) × (size < length b) × may_hold sink2 ((held ++ so.out) ++ take size b)) bytes (cut (held ++ so.out) (so.taken held h)) in (
           so.out ++ take part.0 (reply_text reply),
           subst (λ (b : Bytes). may_hold sink2 b) (append_assoc held so.out (take part.0 (reply_text reply))) part.2,
-          unwritten_part input asked first now new so.lines line tape2.consumed so.out (reply_text reply) part.0 (reads asked come) (stays_further is input may)
+          unwritten_part input asked tape2.bytes first now new so.lines line tape.consumed tape2.consumed so.out (reply_text reply) part.0 (so.read asked (comes asked come)) (is_next asked come) is_due (stays_further is input may)
               (leads_to_end input so.lines first so.out now (so.leads input (narrows input may))) (leads_to_end input (so.lines ++ line ∷ []) first (so.out ++ reply_text reply) new (leads_further is input may)) part.1,
         )
 
     -- its answer is written
-    pub answered : (text : Bytes) → text ≡ reply_text reply → quits_by reply ≡ false → ((held : Bytes) → may_hold sink held → may_hold sink2 (held ++ text)) → SoFar may_be may_give may_hold first new start machine2 tape_first tape2 sink_first sink2
-    answered text bytes is wrote = record {
+    pub answered : tape.consumed ≤ tape2.consumed → (text : Bytes) → text ≡ reply_text reply → quits_by reply ≡ false → ((held : Bytes) → may_hold sink held → may_hold sink2 (held ++ text)) → SoFar may_be may_give may_hold first new start machine2 tape_first tape2 sink_first sink2
+    answered further text bytes is wrote = record {
       lines = so.lines ++ line ∷ [];
       out = so.out ++ reply_text reply;
       leads = leads_further is;
@@ -192,4 +241,7 @@ module _ {M S V : Type 0} (may_be : M → Input → Type 0) (may_give : S → In
       read = reads;
       comes = λ asked come. so.comes asked (comes asked come);
       taken = λ held h. subst (λ (b : Bytes). may_hold sink2 b) (append_assoc held so.out (reply_text reply)) (subst (λ (b : Bytes). may_hold sink2 ((held ++ so.out) ++ b)) bytes (wrote (held ++ so.out) (so.taken held h)));
+      wanted = tape.consumed;
+      passed = further;
+      due = is_due;
     }

@@ -48,7 +48,7 @@ some_asked may_give new first gives narrows none =
 -- a dialog was held on a machine
 pub held_on : {M C V : Type 0} (position : M → Position) (may_be : M → Input → Type 0) (may_ask : C → Input → Type 0) (may_hold : V → Bytes → Type 0) (machine seen : M) (old new : Session M) (first last : TapeState C) (commands : C) (sink now : V) (over : Over)
     → stand position old ≡ stand_at (position machine) → machine_of old ≡ machine → first ≡ record { source = commands; bytes = []; consumed = 0 } → ((s : C) → (rest : Input) × may_ask s rest)
-    → ((input asked : Input) → may_be (machine_of new) input → MayBe may_ask last asked → (held : Bytes) → may_hold sink held → (taken : Bytes) × may_hold now (held ++ taken) × IsDialog input asked (stand position old) (stand position new) over taken)
+    → ((input asked : Input) → may_be (machine_of new) input → MayBe may_ask last asked → (held : Bytes) → may_hold sink held → (taken : Bytes) × may_hold now (held ++ taken) × IsDialog input asked last.bytes (stand position old) (stand position new) over taken)
     → ((input : Input) → may_be (machine_of new) input → may_be (machine_of old) input) → ((asked : Input) → MayBe may_ask last asked → MayBe may_ask first asked)
     → seen ≡ machine_of new → (input : Input) × may_be seen input
     → IsHeld (may_be machine) (may_ask commands) may_hold (stand_at (position machine)) sink now over
@@ -59,10 +59,12 @@ held_on {M} {C} position may_be may_ask may_hold machine seen old new first last
     record {
       input = input;
       asked = ask.0;
+      read = last.bytes;
       last = stand position new;
       may = subst (λ (m : M). may_be m input) begins (narrows input may);
       asks = subst (λ (s : C). may_ask s ask.0) (ap (λ (t : TapeState C). t.source) empty) ask.2;
-      taken = λ held holds. subst (λ (s : Stand). (taken : Bytes) × may_hold now (held ++ taken) × IsDialog input ask.0 s (stand position new) over taken) stands (dialog input ask.0 may ask.1 held holds);
+      begun = (ask.1.rest.bytes, ap (λ (i : Input). i.bytes) ask.1.whole);
+      taken = λ held holds. subst (λ (s : Stand). (taken : Bytes) × may_hold now (held ++ taken) × IsDialog input ask.0 last.bytes s (stand position new) over taken) stands (dialog input ask.0 may ask.1 held holds);
     }
 
 -- on more inputs, from where it stood
@@ -70,13 +72,13 @@ pub held_from : {V : Type 0} (may_be may_give may_ask : Input → Type 0) (may_h
     → ((input : Input) → may_be input → may_give input) → old ≡ new → IsHeld may_be may_ask may_hold (stand_at old) sink now over → IsHeld may_give may_ask may_hold (stand_at new) sink now over
 held_from may_be may_give may_ask may_hold old new sink now over may same h =
     subst (λ (p : Position). IsHeld may_give may_ask may_hold (stand_at p) sink now over) same
-    (record { input = h.input; asked = h.asked; last = h.last; may = may h.input h.may; asks = h.asks; taken = h.taken })
+    (record { input = h.input; asked = h.asked; read = h.read; last = h.last; may = may h.input h.may; asks = h.asks; begun = h.begun; taken = h.taken })
 
 -- a session over a program of the text was held
 pub reported_held : {S C V : Type 0} (may_give : S → Input → Type 0) (may_ask : C → Input → Type 0) (may_hold : V → Bytes → Type 0) (text : Bytes) (settings : List FirstValue) (source : S) (commands : C) (steps : ℕ) (history : Option ℕ) (sink now : V) (p : Program) (code : Listing) (over : Over)
     → IsReady text settings p code → IsHeld (may_give source) (may_ask commands) may_hold (first_stand p settings steps history) sink now over
     → Debugs may_give may_ask may_hold text settings source commands steps history sink now (report_over over)
-reported_held may_give may_ask may_hold text settings source commands steps history sink now p code over ready h = held p h.input h.asked over h.last ready.found ready.fits h.may h.asks h.taken
+reported_held may_give may_ask may_hold text settings source commands steps history sink now p code over ready h = held p h.input h.asked h.read over h.last ready.found ready.fits h.may h.asks h.begun h.taken
 
 -- no session was held
 pub reported_refused : {S C V : Type 0} (may_give : S → Input → Type 0) (may_ask : C → Input → Type 0) (may_hold : V → Bytes → Type 0) (text : Bytes) (settings : List FirstValue) (source : S) (commands : C) (steps : ℕ) (history : Option ℕ) (sink : V) (report : Report)
@@ -91,4 +93,4 @@ pub reported_all : {S C V : Type 0} (may_give : S → Input → Type 0) (may_ask
 reported_all may_give may_ask may_hold text settings source commands lines steps history sink now _ one (text_refused refusal complete same) = text_refused refusal complete same
 reported_all may_give may_ask may_hold text settings source commands lines steps history sink now _ one (settings_refused p is fit same) = settings_refused p is fit same
 reported_all may_give may_ask may_hold text settings source commands lines steps history sink now _ one (never_stood same) = never_stood same
-reported_all may_give may_ask may_hold text settings source commands lines steps history sink now _ one (held p input asked over last is fit gives asks taken) = held p input asked over last is fit gives (one asked asks) taken
+reported_all may_give may_ask may_hold text settings source commands lines steps history sink now _ one (held p input asked read over last is fit gives asks begun taken) = held p input asked read over last is fit gives (one asked asks) begun taken

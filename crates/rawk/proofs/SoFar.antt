@@ -182,6 +182,23 @@ hands_on {S} may_give may_hold old given new sink now size buffer written rest o
   wrote = λ held holds. subst (λ (o : Bytes). may_hold now (held ++ o)) (bytes ∙ output) (wrote held holds);
 }
 
+-- nothing is given, where there is no output
+pub hands_nothing : {S V : Type 0} (may_give : S → Input → Type 0) (may_hold : V → Bytes → Type 0) (machine : Standing S) (sink : V) → machine.state.output ≡ [] → HandsOn may_give may_hold machine sink machine sink
+hands_nothing may_give may_hold machine sink none =
+    let all = λ (b : Bytes). ap (λ (o : Bytes). b ++ o) none ∙ append-nil b in
+    record {
+      same = record { code = refl; settings = refl; sets = refl; steps = refl };
+      point = refl;
+      unset = refl;
+      none = none;
+      dropped = [];
+      back = λ gone input come. subst (λ (b : Bytes). MayCome may_give machine b input) (append-nil gone) come;
+      forth = λ gone input come. subst (λ (b : Bytes). MayCome may_give machine b input) (sym (append-nil gone)) come;
+      stands = λ input gone handed at.
+          subst (λ (b : Bytes). IsAt machine input b (handed ++ machine.state.output)) (sym (append-nil gone)) (subst (λ (b : Bytes). IsAt machine input gone b) (sym (all handed)) at);
+      wrote = λ held holds. subst (λ (b : Bytes). may_hold sink b) (sym (all held)) holds;
+    }
+
 -- it is written in part
 pub cut_in : {V : Type 0} (may_hold : V → Bytes → Type 0) (text written : Bytes) (sink now : V) → written ≡ text → IsCut may_hold written sink now → IsCut may_hold text sink now
 cut_in may_hold text written sink now same cut = subst (λ (b : Bytes). IsCut may_hold b sink now) same cut

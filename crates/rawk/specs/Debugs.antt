@@ -6,6 +6,7 @@ use Rattle.rawk_tree.specs.declared.tree.Program.{Program}
 use Rattle.rawk_parsing.specs.declared.refusal.Refusal.{Refusal}
 use Rattle.rawk_syntax.specs.Texts.{IsProgram}
 use Rattle.rawk_value.specs.declared.fault.Fault.TheVariants as fault
+use Rattle.rawk_code.specs.Laws.{IsBeginning}
 use Rattle.rawk_code.specs.Trace.{FirstValue}
 use Rattle.rawk_code.specs.Settings.{settings_fit}
 use Rattle.rawk_debug.specs.Positions.{Position}
@@ -37,9 +38,9 @@ pub data Debugs {S C V : Type 0} (may_give : S → Input → Type 0) (may_ask : 
       → Debugs may_give may_ask may_hold text settings source commands steps history sink now (stopped_by cause.BadAssignment 0)
   -- memory was refused before the session stood: nothing was written
   never_stood : now ≡ sink → Debugs may_give may_ask may_hold text settings source commands steps history sink now (stopped_by (cause.Faulted fault.OutOfMemory) 0)
-  -- The session was held, on an input that the source might give and with commands that theirs might: the sink took what the report says of its transcript.
-  held : (p : Program) (input asked : Input) (over : Over) (last : Stand) → IsProgram text p → settings_fit p settings ≡ true → may_give source input → may_ask commands asked
-      → ((held : Bytes) → may_hold sink held → (taken : Bytes) × may_hold now (held ++ taken) × IsDialog input asked (first_stand p settings steps history) last over taken)
+  -- The session was held, on an input that the source might give and with commands that theirs might, of which it read a beginning: the sink took what the report says of its transcript.
+  held : (p : Program) (input asked : Input) (read : Bytes) (over : Over) (last : Stand) → IsProgram text p → settings_fit p settings ≡ true → may_give source input → may_ask commands asked → IsBeginning read asked.bytes
+      → ((held : Bytes) → may_hold sink held → (taken : Bytes) × may_hold now (held ++ taken) × IsDialog input asked read (first_stand p settings steps history) last over taken)
       → Debugs may_give may_ask may_hold text settings source commands steps history sink now (report_over over)
 
 -- commands in memory are one input, which ends

@@ -1,5 +1,5 @@
 -- The dialog of a session: the lines of its commands, and what was written of the answers.
-use Rattle.std.specs.Prelude.{◌≡◌, ℕ, ◌<◌, Bool, true, false, List, [], ◌∷◌, ◌++◌, length, Some, None, Ok, Err}
+use Rattle.std.specs.Prelude.{◌≡◌, ◌≢◌, ℕ, ◌<◌, ◌≤◌, Bool, true, false, List, [], ◌∷◌, ◌++◌, length, slice_index, Some, None, Ok, Err}
 use Rattle.rawk_value.specs.Values.{Bytes}
 use Rattle.rawk_value.specs.declared.fault.Fault.{Fault}
 use Rattle.rawk_value.specs.declared.fault.Fault.TheVariants.{OutOfMemory, ReadFailed, WriteFailed}
@@ -40,19 +40,28 @@ HasNoLine input count Unread = next_record input count newline ≡ Err ReadFaile
 HasNoLine input count Unwritten = ⊥
 HasNoLine input count NoMemory = Unit {0}
 
--- A dialog on an input of the program, with these commands: from where the session stood to where it stands, how it is over, and what was written of the transcript of the lines that were read. Behind a `quit` no line is read.
-pub data IsDialog (input asked : Input) (first last : Stand) : Over → Bytes → Type 0 where
+-- all that was read of the commands, where the line that is due begins at this count: what stood there before the last read, which gave 65,536 bytes at most, did not hold that line's end
+pub record IsDue (read : Bytes) (count : ℕ) : Type 0 where
+  pub held : Bytes
+  pub chunk : Bytes
+  pub whole : read ≡ held ++ chunk
+  pub bounded : length chunk ≤ 65536
+  pub without : (k : ℕ) → count ≤ k → k < length held → slice_index held k ≢ 10
+
+-- A dialog on an input of the program, with these commands, of which so much was read: from where the session stood to where it stands, how it is over, and what was written of the transcript of the lines that were read. Behind a `quit` no line is read, and before a line is read all answers before it are written.
+pub data IsDialog (input asked : Input) (read : Bytes) (first last : Stand) : Over → Bytes → Type 0 where
   -- the commands are at their end
-  to_end : (lines : List Bytes) (count : ℕ) (text : Bytes) → LinesTo asked 0 lines count → NoneQuits lines → next_record asked count newline ≡ Ok None → Transcript input lines first text last → IsDialog input asked first last Ended text
+  to_end : (lines : List Bytes) (count : ℕ) (text : Bytes) → LinesTo asked 0 lines count → NoneQuits lines → next_record asked count newline ≡ Ok None → IsDue read count → Transcript input lines first text last → IsDialog input asked read first last Ended text
   -- the last line is `quit`
-  to_quit : (lines : List Bytes) (line : Bytes) (count : ℕ) (text : Bytes) → LinesTo asked 0 (lines ++ line ∷ []) count → NoneQuits lines → is_quit (reading line) ≡ true → Transcript input (lines ++ line ∷ []) first text last → IsDialog input asked first last Ended text
+  to_quit : (lines : List Bytes) (line : Bytes) (count next : ℕ) (text : Bytes) → LinesTo asked 0 lines count → IsNextLine asked count line next → IsDue read count → NoneQuits lines → is_quit (reading line) ≡ true
+      → Transcript input (lines ++ line ∷ []) first text last → IsDialog input asked read first last Ended text
   -- the next line could not be read
-  unread : (lines : List Bytes) (count : ℕ) (text : Bytes) → LinesTo asked 0 lines count → NoneQuits lines → next_record asked count newline ≡ Err ReadFailed → Transcript input lines first text last → IsDialog input asked first last Unread text
+  unread : (lines : List Bytes) (count : ℕ) (text : Bytes) → LinesTo asked 0 lines count → NoneQuits lines → next_record asked count newline ≡ Err ReadFailed → IsDue read count → Transcript input lines first text last → IsDialog input asked read first last Unread text
   -- memory was refused for the reading of the next line
-  no_memory : (lines : List Bytes) (count : ℕ) (text : Bytes) → LinesTo asked 0 lines count → NoneQuits lines → Transcript input lines first text last → IsDialog input asked first last NoMemory text
+  no_memory : (lines : List Bytes) (count : ℕ) (text : Bytes) → LinesTo asked 0 lines count → NoneQuits lines → IsDue read count → Transcript input lines first text last → IsDialog input asked read first last NoMemory text
   -- all answers before the last one were written, and of that a part at most
-  unwritten : (lines : List Bytes) (line : Bytes) (count : ℕ) (mid : Stand) (before text taken : Bytes) → LinesTo asked 0 (lines ++ line ∷ []) count → NoneQuits (lines ++ line ∷ []) → Transcript input lines first before mid
-      → Transcript input (lines ++ line ∷ []) first text last → IsBeginning before taken → IsBeginning taken text → length taken < length text → IsDialog input asked first last Unwritten taken
+  unwritten : (lines : List Bytes) (line : Bytes) (count next : ℕ) (mid : Stand) (before text taken : Bytes) → LinesTo asked 0 lines count → IsNextLine asked count line next → IsDue read count → NoneQuits (lines ++ line ∷ []) → Transcript input lines first before mid
+      → Transcript input (lines ++ line ∷ []) first text last → IsBeginning before taken → IsBeginning taken text → length taken < length text → IsDialog input asked read first last Unwritten taken
 
 -- how a dialog is over whose next line is a fault
 abbrev pub over_of : Fault → Over
@@ -74,7 +83,9 @@ report_over NoMemory = stopped_by (cause.Faulted OutOfMemory) 0
 pub record IsHeld {V : Type 0} (may_be may_ask : Input → Type 0) (may_hold : V → Bytes → Type 0) (first : Stand) (sink now : V) (over : Over) : Type 0 where
   pub input : Input
   pub asked : Input
+  pub read : Bytes
   pub last : Stand
   pub may : may_be input
   pub asks : may_ask asked
-  pub taken : (held : Bytes) → may_hold sink held → (taken : Bytes) × may_hold now (held ++ taken) × IsDialog input asked first last over taken
+  pub begun : IsBeginning read asked.bytes
+  pub taken : (held : Bytes) → may_hold sink held → (taken : Bytes) × may_hold now (held ++ taken) × IsDialog input asked read first last over taken

@@ -51,7 +51,7 @@ fn refused<R: Source + Drop>(program: &Program, machine: &Machine<R, Off>) -> Re
 
 /// Hands on the output that a machine did not give yet, and lets go what it needs no more of its input. Where the sink fails, the machine stands
 /// at its point.
-fn hand_on<R: Source + Drop, W: Sink>(
+fn give_on<R: Source + Drop, W: Sink>(
     alloc: Global,
     machine: &mut Machine<R, Off>,
     buffer: &mut Vec<u8>,
@@ -70,6 +70,27 @@ fn hand_on<R: Source + Drop, W: Sink>(
     }
     machine.drop_consumed(alloc);
     Ok(())
+}
+
+/// Hands on the output that a machine did not give yet, and lets go what it needs no more of its input, where there may be any of these. Where the sink fails,
+/// the machine stands at its point.
+#[inline]
+fn hand_on<R: Source + Drop, W: Sink>(
+    alloc: Global,
+    machine: &mut Machine<R, Off>,
+    buffer: &mut Vec<u8>,
+    sink: &mut W,
+) -> Result<(), DeviceFault>
+    requires alone { machine.old.unset ≡ [] }
+    ensures ok { OnOk result (HandsOn R.may_give W.may_hold machine.old sink.old machine.new sink.new) }
+    ensures err { OnErr result (IsCut W.may_hold machine.old.state.output sink.old sink.new) }
+    ensures point { machine.new.point ≡ machine.old.point }
+    ensures failures { CountsUp (W.failures sink.old) (W.failures sink.new) (failures_of result) }
+{
+    if !machine.has_news() {
+        return Ok(());
+    }
+    give_on(alloc, machine, buffer, sink)
 }
 
 /// Runs a machine to its end, and writes the output of each step before the next one.

@@ -1,6 +1,6 @@
 //! Calls of built-in functions (POSIX awk, Arithmetic Functions, String Functions), by the number of their arguments.
 
-ghost use Rattle.std.specs.Prelude.{◌≡◌, ◌≢◌, [], ◌∷◌, IfOk, IfSome, MatchOption, is_some, length};
+ghost use Rattle.std.specs.Prelude.{◌≡◌, ◌≢◌, ◌+◌, [], ◌∷◌, ◌++◌, IfOk, IfSome, MatchOption, is_some, length};
 ghost use Rattle.rawk_parsing.specs.declared.tree.Function.TheVariants.{Sprintf, Substr};
 ghost use Rattle.rawk_builtin_trees.specs.Calls.{Applies, bare_of, binary_of, has_builtin, unary_of};
 
@@ -98,6 +98,46 @@ fn apply_three(alloc: Global, text: Expr, place: Expr, count: Expr) -> Result<Ex
     Ok(Expr::Part(text, place, count))
 }
 
+/// A function of three arguments or more, of which the last two are these.
+fn apply_more(
+    alloc: Global,
+    function: Function,
+    arguments: Vec<Expr>,
+    second: Expr,
+    last: Expr,
+) -> Result<Option<Expr>, AllocError>
+    requires { function ≢ Sprintf }
+    ensures applies { IfOk result (λ o. IfSome o (λ s. Applies function (arguments.items ++ second ∷ last ∷ []) s)) }
+    ensures has { IfOk result (λ o. is_some o ≡ has_builtin function (length arguments.items + 2)) }
+{
+    let mut rest = arguments;
+    match rest.pop() {
+        None => apply_two(alloc, function, second, last),
+        Some(first) if function == Function::Substr && rest.is_empty() => {
+            Ok(Some(apply_three(alloc, first, second, last)?))
+        }
+        Some(_) => Ok(None),
+    }
+}
+
+/// A function of one argument or more, of which the last is this.
+fn apply_some(
+    alloc: Global,
+    function: Function,
+    arguments: Vec<Expr>,
+    last: Expr,
+) -> Result<Option<Expr>, AllocError>
+    requires { function ≢ Sprintf }
+    ensures applies { IfOk result (λ o. IfSome o (λ s. Applies function (arguments.items ++ last ∷ []) s)) }
+    ensures has { IfOk result (λ o. is_some o ≡ has_builtin function (length arguments.items + 1)) }
+{
+    let mut rest = arguments;
+    match rest.pop() {
+        None => apply_one(alloc, function, last),
+        Some(second) => apply_more(alloc, function, rest, second, last),
+    }
+}
+
 /// A function of so many arguments.
 fn apply_counted(
     alloc: Global,
@@ -109,20 +149,9 @@ fn apply_counted(
     ensures has { IfOk result (λ o. is_some o ≡ has_builtin function (length arguments.items)) }
 {
     let mut rest = arguments;
-    let Some(last) = rest.pop() else {
-        return apply_bare(alloc, function);
-    };
-    let Some(second) = rest.pop() else {
-        return apply_one(alloc, function, last);
-    };
-    let Some(first) = rest.pop() else {
-        return apply_two(alloc, function, second, last);
-    };
-    match function {
-        Function::Substr if rest.is_empty() => {
-            Ok(Some(apply_three(alloc, first, second, last)?))
-        }
-        _ => Ok(None),
+    match rest.pop() {
+        None => apply_bare(alloc, function),
+        Some(last) => apply_some(alloc, function, rest, last),
     }
 }
 

@@ -8,4 +8,3 @@ pub mod Gives
 pub mod Undos
 pub mod Leads
 pub mod Befores
-pub mod Plains

@@ -1,19 +1,22 @@
 //! One step, up to a point that is entered or up to the end.
 
-ghost use Rattle.std.specs.Prelude.{◌≡◌, ◌<◌, ◌≤◌, ◌+◌, ◌^◌, IsTrue, List, None, Some, length, IfOk, OnOk, OnErr};
+ghost use Rattle.std.specs.Prelude.{◌≡◌, ◌<◌, ◌≤◌, ◌+◌, ◌^◌, List, None, Some, length, IfOk, OnOk, OnErr};
 ghost use Rattle.rawk_tape.specs.Records.{Input};
 ghost use Rattle.rawk_tape.specs.Tapes.{MayBe};
 ghost use Rattle.rawk_tape.specs.declared.source.Ending.{Ending as End};
 ghost use Rattle.rawk_store.specs.Layout.{Grown, IsSound};
-ghost use Rattle.rawk_store.specs.Stores.{IsPlainStep, now_of, start_of};
-ghost use Rattle.rawk_travel.specs.Plain.{IsPlainMove};
+ghost use Rattle.rawk_store.specs.Stores.{now_of, start_of};
+ghost use Rattle.rawk_store.specs.declared.store.Store.{Store};
+ghost use Rattle.rawk_travel.specs.Plain.{Reaches};
 ghost use Rattle.rawk_travel.specs.Travel.{HasRoom};
 ghost use Rattle.rawk_travel.specs.Moving.{moving};
-ghost use Rattle.rawk_machine.specs.Arrival.{settled, site_by, with_registers, Arrives, ends_quietly, EndsByRead, IsSettled};
+ghost use Rattle.rawk_machine.specs.Arrival.{settled, site_by, with_registers, Arrives, ends_quietly, EndsByRead, HasReach, IsSettled};
 
 use rawk_code::Code;
 use rawk_store::{Ending, Store};
 use rawk_tape::{Source, Tape};
+use rawk_travel::count::Count;
+use rawk_travel::reach::Reach;
 use rawk_travel::travel::{Next, travel};
 use std::alloc::{AllocError, Global};
 
@@ -30,19 +33,21 @@ pub fn site_at(ending: Ending, site: Option<usize>) -> Option<usize>
 
 /// Enters the point number `count`, or ends the run there at the limit of steps; or ends it where instructions led to the end.
 #[inline]
-fn settle(store: &mut Store, to: Next, count: u64, limit: u64)
+fn settle(store: &mut Store, to: Next, count: u64, limit: u64, reach: &mut Reach)
     requires { HasRoom to store.old.registers.now.place }
     ensures did { moving store.new ≡ with_registers (settled to count limit store.old.registers.now) (moving store.old) }
     ensures start { start_of store.new ≡ start_of store.old }
-    ensures parts { IsPlainMove store.old store.new }
+    ensures reach { (begun : Store) → start_of begun ≡ now_of begun → Reaches reach.old begun store.old → HasReach reach.new store.new }
 {
     match to {
         Next::On => {}
         Next::Over(ending) => {
+            *reach = Reach::Wide;
             store.registers.now.ending = Some(ending);
         }
         Next::Arrive(site) => {
             if count == limit {
+                *reach = Reach::Wide;
                 store.registers.now.ending = Some(Ending::Limited(site));
             } else {
                 store.registers.now.site = site;
@@ -53,16 +58,16 @@ fn settle(store: &mut Store, to: Next, count: u64, limit: u64)
     }
 }
 
-/// One step, which is left open: instructions up to the point number `count`, which is entered, or up to the end. Where memory is
-/// refused, the parts are put back as they were; bytes may be read ahead then.
+/// One step, which is left open: instructions up to the point number `count`, which is entered, or up to the end. It tells what they may have changed. Where
+/// memory is refused, the parts are put back as they were; bytes may be read ahead then.
 #[inline(always)]
 pub fn step<R: Source + Drop>(
     alloc: Global,
     code: &Code,
     store: &mut Store,
     tape: &mut Tape<R>,
-    plain: &mut bool,
-    executed: &mut u128,
+    reach: &mut Reach,
+    executed: &mut Count,
     count: u64,
     limit: u64,
 ) -> Result<(), AllocError>
@@ -80,14 +85,14 @@ pub fn step<R: Source + Drop>(
     ensures longer { length tape.old.bytes ≤ length tape.new.bytes }
     ensures quiet { OnOk result (ends_quietly store.new.registers.now.ending) }
     ensures failed { OnOk result (EndsByRead store.new.registers.now.ending (R.over tape.new.source ≡ Some End.Failed)) }
-    ensures plain { OnOk result (IsTrue plain.new → IsPlainStep store.new) }
+    ensures reach { OnOk result (HasReach reach.new store.new) }
     ensures counted { executed.old ≤ executed.new }
     ensures risen { executed.old + 1 < 2 ^ 128 → executed.old < executed.new }
 {
     let consumed = tape.consumed();
-    match travel(alloc, code, store, tape, plain, executed) {
+    match travel(alloc, code, store, tape, reach, executed) {
         Ok(to) => {
-            settle(store, to, count, limit);
+            settle(store, to, count, limit, reach);
             Ok(())
         }
         Err(refused) => {

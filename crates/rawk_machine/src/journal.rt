@@ -1,14 +1,14 @@
 //! The end of a step: what it changed is kept, or forgotten.
 
-ghost use Rattle.std.specs.Prelude.{◌≡◌, ◌<◌, ◌≤◌, ◌+◌, ◌^◌, [], IsTrue, None, Some, length, reverse, OnOk, OnErr};
+ghost use Rattle.std.specs.Prelude.{◌≡◌, ◌<◌, ◌≤◌, ◌+◌, ◌^◌, [], None, Some, length, reverse, OnOk, OnErr};
 ghost use Rattle.rawk_tape.specs.Records.{Input};
 ghost use Rattle.rawk_tape.specs.Tapes.{MayBe};
 ghost use Rattle.rawk_tape.specs.declared.source.Ending.{Ending as End};
 ghost use Rattle.rawk_store.specs.Keeping.{keeps_any};
 ghost use Rattle.rawk_store.specs.Layout.{Layout, Grown, IsSound};
-ghost use Rattle.rawk_store.specs.Stores.{IsPlainStep, now_of, start_of};
+ghost use Rattle.rawk_store.specs.Stores.{now_of, start_of};
 ghost use Rattle.rawk_travel.specs.Moving.{moving};
-ghost use Rattle.rawk_machine.specs.Arrival.{Arrives, ends_quietly, EndsByRead, IsSettled};
+ghost use Rattle.rawk_machine.specs.Arrival.{Arrives, ends_quietly, EndsByRead, HasReach, IsSettled};
 ghost use Rattle.rawk_machine.specs.Closing.{Closes, FitAll};
 ghost use Rattle.rawk_machine.specs.Kept.{all_back, globals_forth, record_forth};
 
@@ -16,6 +16,8 @@ use crate::arrival::step;
 use rawk_code::Code;
 use rawk_store::{Group, Keeper, Store};
 use rawk_tape::{Source, Tape};
+use rawk_travel::count::Count;
+use rawk_travel::reach::Reach;
 use std::alloc::{AllocError, Global};
 
 /// Ends a step, and keeps what it changed with what the sets changed that were made at the point that it left. Where memory is
@@ -26,9 +28,9 @@ pub fn close<K: Keeper>(
     store: &mut Store,
     keeper: &mut K,
     here: &mut Vec<Group>,
-    plain: bool,
+    reach: Reach,
 ) -> Result<(), AllocError>
-    requires { IsTrue plain → IsPlainStep store.old }
+    requires { HasReach reach store.old }
     ensures kept { OnOk result (Closes (keeps_any (K.limit keeper.old)) (start_of store.old) (now_of store.old) (K.kept keeper.old) (K.kept keeper.new) here.old.items (K.limit keeper.old)) }
     ensures now { OnOk result (now_of store.new ≡ now_of store.old) }
     ensures here { OnOk result (here.new.items ≡ []) }
@@ -41,10 +43,10 @@ pub fn close<K: Keeper>(
     ensures limit { K.limit keeper.new ≡ K.limit keeper.old }
 {
     if !keeper.keeps() {
-        if plain {
-            store.forget_plain();
-        } else {
-            store.forget();
+        match reach {
+            Reach::Narrow => store.forget_narrow(),
+            Reach::Plain => store.forget_plain(),
+            Reach::Wide => store.forget(),
         }
         here.clear();
         return Ok(());
@@ -58,14 +60,15 @@ pub fn close<K: Keeper>(
     }
 }
 
-/// One step, kept. Where memory is refused, the parts are put back as they were; bytes may be read ahead then.
+/// One step, kept. It tells what the step may have changed. Where memory is refused, the parts are put back as they were; bytes may be read ahead then.
 #[inline(always)]
 pub fn journaled<R: Source + Drop, K: Keeper>(
     alloc: Global,
     code: &Code,
     store: &mut Store,
     tape: &mut Tape<R>,
-    executed: &mut u128,
+    reach: &mut Reach,
+    executed: &mut Count,
     keeper: &mut K,
     here: &mut Vec<Group>,
     count: u64,
@@ -95,9 +98,8 @@ pub fn journaled<R: Source + Drop, K: Keeper>(
     ensures risen { executed.old + 1 < 2 ^ 128 → executed.old < executed.new }
 {
     let consumed = tape.consumed();
-    let mut plain = false;
-    step(alloc, code, store, tape, &mut plain, executed, count, limit)?;
-    match close(alloc, store, keeper, here, plain) {
+    step(alloc, code, store, tape, reach, executed, count, limit)?;
+    match close(alloc, store, keeper, here, *reach) {
         Ok(()) => Ok(()),
         Err(refused) => {
             tape.consume(consumed);

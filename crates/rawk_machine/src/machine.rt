@@ -1,6 +1,7 @@
 //! A machine that runs a code from point to point.
 
 ghost use Rattle.std.specs.Prelude.{◌≡◌, ◌↔◌, ◌≤◌, ◌<◌, ◌+◌, ◌-◌, ◌*◌, ◌^◌, [], ◌++◌, ℕ, nat_lt, List, None, Some, IsSome, IsTrue, length, take, drop, IfOk, OnOk, OnErr};
+ghost use Rattle.std.specs.Bool.{OnFalse};
 ghost use Rattle.std.specs.Option.{option_map};
 ghost use Rattle.rawk_value.specs.Values.{Bytes};
 ghost use Rattle.rawk_tape.specs.Records.{Input};
@@ -20,6 +21,8 @@ use crate::step::Step;
 use rawk_code::{Code, SetAt, Settings};
 use rawk_store::{Ending, Group, Keeper, Off, Phase, Registers, Store, Target, saved_in_groups};
 use rawk_tape::{Source, Tape};
+use rawk_travel::count::Count;
+use rawk_travel::reach::Reach;
 use rawk_value::{Fault, Value};
 use std::alloc::{AllocError, Global};
 use std::marker::Model;
@@ -41,7 +44,9 @@ pub struct Machine<R: Source + Drop, K: Keeper> {
     pub(crate) last: LastMove,
     pub(crate) steps: u64,
     pub(crate) point: u64,
-    pub(crate) executed: u128,
+    pub(crate) executed: Count,
+    // What the last step may have changed.
+    pub(crate) reach: Reach,
 }
 
 impl<R: Source + Drop, K: Keeper> Model for Machine<R, K> {
@@ -133,14 +138,14 @@ impl<R: Source + Drop, K: Keeper> Machine<R, K> {
         let settings = copy_settings(alloc, settings)?;
         let mut store = first_store(alloc, &code, &settings)?;
         let mut tape = Tape::new(alloc, source);
-        let mut executed = 0;
-        let mut plain = false;
+        let mut executed = Count::new();
+        let mut reach = Reach::Wide;
         step(
             alloc,
             &code,
             &mut store,
             &mut tape,
-            &mut plain,
+            &mut reach,
             &mut executed,
             0,
             steps,
@@ -158,6 +163,7 @@ impl<R: Source + Drop, K: Keeper> Machine<R, K> {
             steps,
             point: 0,
             executed,
+            reach,
         })
     }
 
@@ -190,6 +196,7 @@ impl<R: Source + Drop, K: Keeper> Machine<R, K> {
                     &self.code,
                     &mut self.store,
                     &mut self.tape,
+                    &mut self.reach,
                     &mut self.executed,
                     &mut self.keeper,
                     &mut self.here,
@@ -298,7 +305,7 @@ impl<R: Source + Drop, K: Keeper> Machine<R, K> {
     pub fn executed(&self) -> u128
         ensures { result ≡ self.now.executed }
     {
-        self.executed
+        self.executed.total()
     }
 
     /// How many old values of globals and records are kept that lead back: for each step and each set one for each of them that it wrote. It
@@ -335,6 +342,18 @@ impl<R: Source + Drop, K: Keeper> Machine<R, K> {
 }
 
 impl<R: Source + Drop> Machine<R, Off> {
+    /// Whether there may be output to give, or bytes or slots of arrays that `drop_consumed` lets go: not where the last step changed only globals, and
+    /// all output was given before.
+    #[inline(always)]
+    pub fn has_news(&self) -> bool
+        ensures { OnFalse result (self.now.state.output ≡ []) }
+    {
+        match self.reach {
+            Reach::Narrow => !self.output().is_empty(),
+            _ => true,
+        }
+    }
+
     /// Gives the output that was not given yet into a buffer, whose room is used for the next output: a step so costs no
     /// allocation. What the buffer held is dropped. It takes no memory.
     pub fn give_into(&mut self, buffer: &mut Vec<u8>)

@@ -34,16 +34,16 @@ impl<F: Read, I: Read> Read for InputReader<F, I> {
     }
 }
 
-/// Does what the words of the command line ask for, and answers the status of the process. Where the standard output is
-/// a terminal, or commands come from the standard input, each step's output or each answer appears before the next one; else it
-/// is held back up to 64 KiB.
+/// Does what the words of the command line ask for, and answers the status of the process. Each answer of a session appears before
+/// the next command is read, and where the standard output is a terminal, each step's output before the next step; else a run's
+/// output is held back up to 64 KiB.
 pub fn perform<R: Env + Files + AllocGlobal + Input + Print + Eprint>(
     rt: &R,
     is_terminal: bool,
 ) -> u8 {
     match invocation(rt) {
         Ok(invocation) => {
-            let at_once = is_terminal || matches!(&invocation.commands, Some(Text::StandardInput));
+            let at_once = is_terminal || invocation.commands.is_some();
             let done = run_invocation(rt, &invocation, if at_once { 0 } else { OUTPUT_BUFFER });
             drop(invocation);
             done.unwrap_or_else(|refusal| refused(rt, refusal))

@@ -124,9 +124,6 @@ past [] k d h = refl
 past (x ∷ xs) zero d h = absurd (omega arith)
 past (x ∷ xs) (suc k) d h = past xs k d (omega arith)
 
-pub field-past : (parts : Parts) (k : ℕ) → length parts.pieces.items ≤ k → get_or (values_of parts) k Uninitialized ≡ Uninitialized
-field-past parts k h = past (values_of parts) k Uninitialized (omega (arith, length-values parts.text.items parts.pieces.items parts.kept.items))
-
 pub length-resized : (n : ℕ) (fields : List Value) → length (resized n fields) ≡ n
 length-resized n fields =
     length-append (take n fields) (replicate (n - length fields) Uninitialized) ∙ omega (arith, length-take n fields, length-replicate (n - length fields) Uninitialized)

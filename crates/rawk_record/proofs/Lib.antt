@@ -4,3 +4,4 @@ pub mod Masks
 pub mod Newlines
 pub mod Separated
 pub mod Drafts
+pub mod Shorts

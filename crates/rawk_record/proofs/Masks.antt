@@ -1,11 +1,11 @@
 -- Masks of 32 bytes.
-use Rattle.std.proofs.Common.{◌≡◌, ◌≢◌, ℕ, zero, suc, ◌+◌, ◌-◌, ◌<◌, ◌≤◌, ◌/◌, ◌%◌, ◌^◌, Bool, true, false, cond, ◌&&◌, ◌||◌, ◌⊎◌, inl, inr, List, [], ◌∷◌, length, get_or, map, refl, sym, ap, ◌∙◌, arith, bit_or, shr-shr}
+use Rattle.std.proofs.Common.{◌≡◌, ◌≢◌, ℕ, zero, suc, ◌+◌, ◌-◌, ◌<◌, ◌≤◌, ◌/◌, ◌%◌, ◌^◌, Bool, true, false, cond, ◌&&◌, ◌||◌, ◌⊎◌, inl, inr, List, [], ◌∷◌, length, ◌++◌, drop, take, replicate, get_or, map, refl, sym, ap, ◌∙◌, arith, bit_or, shr-shr}
 use Rattle.std.specs.Int.{bit_at}
 use Rattle.std.proofs.lemmas.Bool.{cases_eq, cases_lt, false≢true}
 use Rattle.std.proofs.lemmas.Nat.Bits.{bit_at_or, bit_at-lt, bit_at-zero}
 use Rattle.std.specs.Simd.Lanes.{mask_l, chunk}
 use Rattle.std.proofs.lemmas.Simd.{bit_mask_l, get_or-chunk}
-use Rattle.std.proofs.lemmas.List.{get_or-map, length-map}
+use Rattle.std.proofs.lemmas.List.{get_or-map, length-map, get_or-append_right, get_or-drop, get_or-replicate, get_or-take}
 use Rattle.rawk_record.specs.Masks.{IsMaskOf, IsMaskFrom}
 
 abbrev as_bit : Bool → ℕ
@@ -92,6 +92,30 @@ IsMaskFrom-last p text last at mask room low m = record {
 
     place : (k : ℕ) → last + (at - last + k) ≡ at + k
     place k = omega arith
+
+-- a block that begins with a short text, and has no byte that passes behind it
+pub IsMaskFrom-short : (p : ℕ → Bool) (block text : List ℕ) (byte mask : ℕ) → take (length text) block ≡ text → ((k : ℕ) → length text ≤ k → k < 32 → get_or block k 0 ≡ byte) → p byte ≡ false → IsMaskOf p block mask → IsMaskFrom p text 0 0 mask
+IsMaskFrom-short p block text byte mask front rest none m = record {
+  marks = λ k h.
+      let r = m.marks k h in
+      elim (cases_lt k (length text)) [
+        | inl l ↦ (r.0, omega (arith, l), omega arith, ap p (here k l) ∙ r.1)
+        | inr g ↦ absurd (false≢true (sym (ap p (rest k g r.0) ∙ none) ∙ r.1))
+      ];
+  all = λ k l inside low h. m.all k l (ap p (sym (here k (omega (arith, inside)))) ∙ h);
+}
+  where
+    here : (k : ℕ) → k < length text → get_or text (0 + k) 0 ≡ get_or block k 0
+    here k l =
+        let e : 0 + k ≡ k = omega arith in
+        ap (λ j. get_or text j 0) e ∙ (ap (λ (xs : List ℕ). get_or xs k 0) (sym front) ∙ get_or-take (length text) block k 0 l)
+
+-- what stands behind a front, where it was filled with one byte
+pub get_padding : (front all : List ℕ) (byte n k : ℕ) → all ≡ replicate 32 byte → length front ≡ n → n ≤ k → k < 32 → get_or (front ++ drop n all) k 0 ≡ byte
+get_padding front all byte n k same size low high =
+    let e : n + (k - n) ≡ k = omega arith in
+    get_or-append_right front (drop n all) n k 0 size low
+    ∙ (get_or-drop n all (k - n) 0 ∙ (ap (λ j. get_or all j 0) e ∙ (ap (λ (xs : List ℕ). get_or xs k 0) same ∙ get_or-replicate 32 k byte 0 high)))
 
 -- after the lowest bit
 pub IsMaskFrom-next : (p : ℕ → Bool) (text : List ℕ) (at from mask rest bit : ℕ) → IsMaskFrom p text at from mask →

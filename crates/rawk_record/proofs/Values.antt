@@ -1,6 +1,6 @@
 -- The values of fields.
-use Rattle.std.proofs.Common.{◌≡◌, ◌≤◌, ◌<◌, ℕ, zero, suc, List, [], ◌∷◌, Option, None, Some, length, get_or, slice_get, slice_range, map, arith, sym, ◌∙◌, ap, refl, inl, inr}
-use Rattle.std.proofs.lemmas.Option.{slice_get_cases, slice_get-get_or}
+use Rattle.std.proofs.Common.{◌≡◌, ◌≤◌, ◌<◌, ℕ, zero, suc, List, [], ◌∷◌, Option, None, Some, length, get_or, slice_get, slice_range, map, unwrap_or, arith, sym, ◌∙◌, ap, refl, inl, inr}
+use Rattle.std.proofs.lemmas.Option.{slice_get_cases, slice_get-get_or, unwrap_or-slice_get}
 use Rattle.rawk_value.specs.declared.value.Value.{Value}
 use Rattle.rawk_value.specs.declared.value.Value.TheVariants.{Uninitialized, Input}
 use Rattle.rawk_record.specs.declared.pieces.Piece.{Piece}
@@ -51,3 +51,7 @@ pub get_beyond : (text : List ℕ) (pieces : List Piece) (kept : List (Option Va
 get_beyond text pieces kept fields i e high =
     let l : length (values text pieces kept) ≤ i = omega (arith, length-values text pieces kept) in
     get_past (values text pieces kept) i l ∙ ap (λ (x : List Value). slice_get x i) e
+
+-- the field at a place, or an uninitialised value
+pub field_or-is : (xs : List Value) (i j : ℕ) (o : Option Value) → i ≡ j → o ≡ slice_get xs i → get_or xs j Uninitialized ≡ unwrap_or o Uninitialized
+field_or-is xs i j o e h = ap (λ k. get_or xs k Uninitialized) (sym e) ∙ (sym (unwrap_or-slice_get xs i Uninitialized) ∙ ap (λ (x : Option Value). unwrap_or x Uninitialized) (sym h))

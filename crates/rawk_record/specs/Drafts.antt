@@ -4,12 +4,16 @@ use Rattle.rawk_value.specs.Values.{Bytes, text_of}
 use Rattle.rawk_value.specs.declared.value.Value.{Value}
 use Rattle.rawk_value.specs.declared.value.Value.TheVariants.{Input}
 use Rattle.rawk_record.specs.Pieces.{AllInRange}
-use Rattle.rawk_record.specs.Shown.{values}
+use Rattle.rawk_record.specs.Shown.{Shown, values}
 use Rattle.rawk_record.specs.Changed.{joined}
 use Rattle.rawk_record.specs.declared.parts.Parts.{Parts}
 
 abbrev pub values_of : Parts → List Value
 values_of parts = values parts.text.items parts.pieces.items parts.kept.items
+
+-- the record of these parts
+abbrev pub shown_of : Parts → Shown
+shown_of parts = record { text = parts.text.items; fields = values_of parts }
 
 abbrev pub IsPlaced : Parts → Type 0
 IsPlaced parts = AllInRange parts.text.items parts.pieces.items

@@ -8,3 +8,5 @@ pub mod Changed
 pub mod Changes
 pub mod Drafts
 pub mod Laws
+pub mod ShortPieces
+pub mod Helds

@@ -1,14 +1,15 @@
 //! Records that are built of fields.
 
-ghost use Rattle.std.specs.Prelude.{◌≡◌, ◌≤◌, ◌<◌, ◌++◌, ◌∷◌, [], IfOk, OnOk, drop, if◌then◌else◌, length, slice_index_or, vec_len};
+ghost use Rattle.std.specs.Prelude.{◌≡◌, ◌≤◌, ◌<◌, ◌+◌, ◌^◌, ◌++◌, ◌∷◌, [], IfOk, OnOk, drop, if◌then◌else◌, length, slice_index_or};
 ghost use Rattle.rawk_value.specs.Values.{text_of};
 ghost use Rattle.rawk_value.specs.declared.value.Value.TheVariants.{Uninitialized};
 ghost use Rattle.rawk_record.specs.Changed.{resized, with_value};
-ghost use Rattle.rawk_record.specs.Drafts.{IsDraft, IsOwn, IsPlaced, values_of};
+ghost use Rattle.rawk_record.specs.Drafts.{IsDraft, IsOwn, values_of};
 ghost use Rattle.rawk_record.specs.FieldRefs.{ref_value};
 
-use crate::parts::{FieldRef, Parts, field_at};
+use crate::parts::{FieldRef, Parts};
 use crate::pieces::Piece;
+use crate::record::Record;
 use rawk_value::{Value, push_text};
 use std::alloc::{AllocError, Global};
 
@@ -88,31 +89,30 @@ fn add_value(parts: &mut Parts, separator: &[u8], value: Value) -> Result<(), Al
 }
 
 /// The field at a place, from 0, and past the last one an uninitialised value.
-fn field_or<'a>(parts: &'a Parts, none: &'a Value, place: usize) -> FieldRef<'a>
-    requires placed { IsPlaced parts.now }
+fn field_or<'a>(earlier: &'a Record, none: &'a Value, place: usize) -> FieldRef<'a>
+    requires fits { place + 1 < 2 ^ 64 }
     requires none { none.now ≡ Uninitialized }
-    ensures { slice_index_or (values_of parts.now) place Uninitialized ≡ ref_value result }
+    ensures { slice_index_or earlier.now.fields place Uninitialized ≡ ref_value result }
 {
-    if place < parts.pieces.len() {
-        return field_at(parts, place);
+    match earlier.field(place + 1) {
+        Some(field) => field,
+        None => FieldRef::Kept(none),
     }
-    FieldRef::Kept(none)
 }
 
-/// Adds the fields of other parts from one place up to another at the end, past the last one uninitialised ones.
+/// Adds the fields of a record from one place up to another at the end, past the last one uninitialised ones.
 fn add_fields(
     alloc: Global,
     parts: &mut Parts,
-    earlier: &Parts,
+    earlier: &Record,
     separator: &[u8],
     from: usize,
     to: usize,
 ) -> Result<(), AllocError>
     requires draft { IsDraft separator.now parts.old }
-    requires placed { IsPlaced earlier.now }
     requires ordered { from ≤ to }
     ensures draft { OnOk result (IsDraft separator.now parts.new) }
-    ensures fields { OnOk result (values_of parts.new ≡ values_of parts.old ++ drop from (resized to (values_of earlier.now))) }
+    ensures fields { OnOk result (values_of parts.new ≡ values_of parts.old ++ drop from (resized to earlier.now.fields)) }
 {
     let none = Value::Uninitialized;
     for place in from..to {
@@ -132,41 +132,39 @@ fn clear(parts: &mut Parts)
     parts.kept.clear();
 }
 
-/// Builds other parts with this many fields, cut or extended by uninitialised ones.
+/// Builds parts with this many of a record's fields, cut or extended by uninitialised ones.
 pub(crate) fn build_with_count(
     alloc: Global,
     parts: &mut Parts,
-    earlier: &Parts,
+    earlier: &Record,
     count: usize,
     separator: &[u8],
 ) -> Result<(), AllocError>
-    requires { IsPlaced earlier.now }
     ensures draft { OnOk result (IsDraft separator.now parts.new) }
-    ensures fields { OnOk result (values_of parts.new ≡ resized count (values_of earlier.now)) }
+    ensures fields { OnOk result (values_of parts.new ≡ resized count earlier.now.fields) }
 {
     clear(parts);
     add_fields(alloc, parts, earlier, separator, 0, count)?;
     Ok(())
 }
 
-/// Builds other parts with a value for the field of a number, from 1; fields between are uninitialised.
+/// Builds parts of a record's fields with a value for the field of a number, from 1; fields between are uninitialised.
 pub(crate) fn build_with_value(
     alloc: Global,
     parts: &mut Parts,
-    earlier: &Parts,
+    earlier: &Record,
     number: usize,
     value: Value,
     separator: &[u8],
 ) -> Result<(), AllocError>
-    requires placed { IsPlaced earlier.now }
-    requires low { 0 < number }
+    requires { 0 < number }
     ensures draft { OnOk result (IsDraft separator.now parts.new) }
-    ensures fields { OnOk result (values_of parts.new ≡ with_value number value (values_of earlier.now)) }
+    ensures fields { OnOk result (values_of parts.new ≡ with_value number value earlier.now.fields) }
 {
     clear(parts);
     add_fields(alloc, parts, earlier, separator, 0, number - 1)?;
     add_value(parts, separator, value)?;
-    let count = earlier.pieces.len().max(number);
+    let count = earlier.field_count().max(number);
     add_fields(alloc, parts, earlier, separator, number, count)?;
     Ok(())
 }

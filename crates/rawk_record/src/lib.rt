@@ -4,11 +4,13 @@
 mod build;
 pub mod change;
 pub mod class;
+pub mod held;
 mod mask;
 mod matches;
 pub mod parts;
 pub mod pieces;
 pub mod record;
+pub mod short;
 
 pub use change::RecordChange;
 pub use class::Class;

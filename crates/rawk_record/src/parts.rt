@@ -1,7 +1,7 @@
 //! What a record is made of.
 
-ghost use Rattle.std.specs.Prelude.{◌≡◌, ◌<◌, [], None, slice_index_or, vec_len};
-ghost use Rattle.std.specs.Option.{option_copied};
+ghost use Rattle.std.specs.Prelude.{◌≡◌, ◌<◌, ◌-◌, [], None, slice_get, slice_index_or, vec_len};
+ghost use Rattle.std.specs.Option.{option_copied, option_map};
 ghost use Rattle.rawk_value.specs.declared.value.Value.{Value};
 ghost use Rattle.rawk_record.specs.Drafts.{IsPlaced, values_of};
 ghost use Rattle.rawk_record.specs.FieldRefs.{ref_value};
@@ -37,7 +37,7 @@ fn own_value(kept: &Vec<Option<Value>>, place: usize) -> Option<&Value>
 }
 
 /// The field at a place, from 0.
-pub(crate) fn field_at(parts: &Parts, place: usize) -> FieldRef<'_>
+fn field_at(parts: &Parts, place: usize) -> FieldRef<'_>
     requires placed { IsPlaced parts.now }
     requires present { place < vec_len parts.now.pieces }
     ensures { (d : Value) → slice_index_or (values_of parts.now) place d ≡ ref_value result }
@@ -49,6 +49,18 @@ pub(crate) fn field_at(parts: &Parts, place: usize) -> FieldRef<'_>
             FieldRef::Piece(&parts.text[piece.start..piece.end])
         }
     }
+}
+
+/// The field of a number, from 1, and `None` past the last.
+pub(crate) fn field_in(parts: &Parts, number: usize) -> Option<FieldRef<'_>>
+    requires placed { IsPlaced parts.now }
+    requires low { 0 < number }
+    ensures { option_map ref_value result ≡ slice_get (values_of parts.now) (number - 1) }
+{
+    if parts.pieces.len() < number {
+        return None;
+    }
+    Some(field_at(parts, number - 1))
 }
 
 /// No text and no fields. It takes no memory.

@@ -3,9 +3,10 @@
 ghost use Rattle.std.specs.Prelude.{◌≡◌, ◌≤◌, ◌<◌, ◌+◌, ◌++◌, [], false, IfOk, OnOk, length, min, vec_capacity, vec_len};
 ghost use Rattle.std.specs.Option.{option_copied};
 ghost use Rattle.rawk_record.specs.Fields.{byte_parts, ere_parts, fields_of};
+ghost use Rattle.rawk_record.specs.Masks.{IsMaskFrom};
 ghost use Rattle.rawk_record.specs.Pieces.{AllInRange, IsFieldsAnswer, Decides, ExpressionDecides, IsCut, run_piece, runs_by, singles, split_by, texts};
 
-use crate::class::{Blank, ByteClass, Class, mask_at};
+use crate::class::{Blank, ByteClass, Class, mask_at, mask_of_short};
 use crate::mask::{lowest_bit, without_bit};
 use crate::matches::cut_matches;
 use rawk_ere::Ere;
@@ -112,23 +113,25 @@ fn cut_bytes<C: Class>(
     Ok(start)
 }
 
-/// Ends a run at each separator among the next 32 bytes, and gives where the last run begins.
+/// Ends a run at each separator among the next 32 bytes, which are marked, and gives where the last run begins.
 #[inline(always)]
 fn cut_block<C: Class>(
     class: &C,
     empty_too: bool,
     text: &[u8],
+    marks: u64,
     at: usize,
     begin: usize,
     pieces: &mut Vec<Piece>,
 ) -> Result<usize, AllocError>
-    requires long { 32 ≤ length text.now }
+    requires marks { IsMaskFrom (C.contains class.now) text.now at at marks }
     requires inside { at < length text.now }
     requires cut { IsCut (C.contains class.now) empty_too text.now pieces.old.items begin at }
     ensures { IfOk result (λ start. IsCut (C.contains class.now) empty_too text.now pieces.new.items start (min (at + 32) (length text.now))) }
 {
+    let (_class, _text) = (class, text);
     pieces.reserve(32)?;
-    let mut rest = mask_at(class, text, at);
+    let mut rest = marks;
     let mut start = begin;
     while rest != 0 {
         let bit = lowest_bit(rest);
@@ -153,10 +156,31 @@ fn cut_blocks<C: Class>(
     let mut start = 0;
     let mut at = 0;
     while at < text.len() {
-        start = cut_block(class, empty_too, text, at, start, pieces)?;
+        let marks = mask_at(class, text, at);
+        start = cut_block(class, empty_too, text, marks, at, start, pieces)?;
         at = (at + 32).min(text.len());
     }
     Ok(start)
+}
+
+/// Ends a run at each separator, byte by byte, or up to 32 bytes at once, and gives where the last run begins.
+fn cut_front<C: Class>(
+    class: &C,
+    empty_too: bool,
+    text: &[u8],
+    pieces: &mut Vec<Piece>,
+) -> Result<usize, AllocError>
+    requires { pieces.old.items ≡ [] }
+    ensures { IfOk result (λ start. IsCut (C.contains class.now) empty_too text.now pieces.new.items start (length text.now)) }
+{
+    if text.len() < 8 {
+        return cut_bytes(class, empty_too, text, pieces);
+    }
+    if text.len() < 32 {
+        let marks = mask_of_short(class, text);
+        return cut_block(class, empty_too, text, marks, 0, 0, pieces);
+    }
+    cut_blocks(class, empty_too, text, pieces)
 }
 
 /// The runs of bytes outside the class, without the empty ones or with them.
@@ -170,12 +194,7 @@ fn cut_runs<C: Class>(
     ensures fields { OnOk result (texts text.now pieces.new.items ≡ runs_by empty_too (C.contains class.now) text.now) }
     ensures in_range { OnOk result (AllInRange text.now pieces.new.items) }
 {
-    if text.len() < 32 {
-        let start = cut_bytes(class, empty_too, text, pieces)?;
-        end_run(pieces, empty_too, start, text.len())?;
-        return Ok(());
-    }
-    let start = cut_blocks(class, empty_too, text, pieces)?;
+    let start = cut_front(class, empty_too, text, pieces)?;
     end_run(pieces, empty_too, start, text.len())?;
     Ok(())
 }

@@ -1,14 +1,16 @@
 //! A record: the bytes of `$0` once, and its fields as places in them.
 
-ghost use Rattle.std.specs.Prelude.{◌≡◌, ◌<◌, ◌-◌, ◌^◌, OnOk, length, slice_get};
+ghost use Rattle.std.specs.Prelude.{◌≡◌, ◌<◌, ◌-◌, ◌^◌, IfSome, OnOk, length, slice_get};
 ghost use Rattle.std.specs.Option.{option_map};
 ghost use Rattle.rawk_record.specs.Changed.{rebuilt, resized, with_value};
 ghost use Rattle.rawk_record.specs.Shown.{no_record, split_record};
 ghost use Rattle.rawk_record.specs.FieldRefs.{ref_value};
 
 use crate::build::{build_with_count, build_with_value};
-use crate::parts::{FieldRef, Parts, field_at, no_parts};
-use crate::pieces::{Separator, cut};
+use crate::held::{Held, buffers_of, new_parts, refill_parts};
+use crate::parts::{FieldRef, field_in, no_parts};
+use crate::pieces::Separator;
+use crate::short::Short;
 use rawk_value::Value;
 use std::alloc::{AllocError, Global};
 use std::marker::Model;
@@ -16,18 +18,18 @@ use std::marker::Model;
 /// A record and its fields.
 #[derive(Debug, Drop)]
 pub struct Record {
-    parts: Parts,
+    held: Held,
 }
 
 impl Model for Record {
-    ghost use Rattle.rawk_record.specs.Drafts.{IsPlaced, values_of};
+    ghost use Rattle.rawk_record.specs.Helds.{IsHeld, shown_in};
     ghost use Rattle.rawk_record.specs.Shown.{Shown};
 
     ghost Value = { Shown };
 
-    ghost view = { λ r. record { text = r.parts.text.items; fields = values_of r.parts } };
+    ghost view = { λ r. shown_in r.held };
 
-    ghost invariant = { λ r. IsPlaced r.parts };
+    ghost invariant = { λ r. IsHeld r.held };
 }
 
 impl Record {
@@ -36,23 +38,47 @@ impl Record {
         ensures { result ≡ no_record }
     {
         Record {
-            parts: no_parts(alloc),
+            held: Held::Wide(no_parts(alloc)),
+        }
+    }
+
+    /// The same record without buffers of its own, where it is short. It takes no memory.
+    #[inline(always)]
+    pub fn in_place(&self) -> Option<Record>
+        ensures { IfSome result (λ r. r ≡ self.now) }
+    {
+        match &self.held {
+            Held::Wide(parts) => match Short::of(parts) {
+                Some(short) => Some(Record {
+                    held: Held::InPlace(short),
+                }),
+                None => None,
+            },
+            Held::InPlace(_) => None,
         }
     }
 
     /// The bytes of `$0`.
+    #[inline]
     pub fn text(&self) -> &[u8]
         ensures { result.now ≡ self.now.text }
     {
-        &self.parts.text
+        match &self.held {
+            Held::Wide(parts) => &parts.text,
+            Held::InPlace(short) => short.text(),
+        }
     }
 
     /// How many fields there are: `NF`.
+    #[inline]
     pub fn field_count(&self) -> usize
         ensures value { result ≡ length self.now.fields }
         ensures small { result < 2 ^ 63 }
     {
-        self.parts.pieces.len()
+        match &self.held {
+            Held::Wide(parts) => parts.pieces.len(),
+            Held::InPlace(short) => short.field_count(),
+        }
     }
 
     /// A field by its number, from 1, and `None` past the last. It takes no memory.
@@ -60,10 +86,10 @@ impl Record {
         requires { 0 < number }
         ensures { option_map ref_value result ≡ slice_get self.now.fields (number - 1) }
     {
-        if self.parts.pieces.len() < number {
-            return None;
+        match &self.held {
+            Held::Wide(parts) => field_in(parts, number),
+            Held::InPlace(short) => short.field(number),
         }
-        Some(field_at(&self.parts, number - 1))
     }
 
     /// Becomes a text with its fields; `newline` says whether a newline separates too.
@@ -78,21 +104,11 @@ impl Record {
     ) -> Result<(), AllocError>
         ensures { OnOk result (self.new ≡ split_record separator.entry newline text.now) }
     {
-        self.parts.kept.clear();
-        self.parts.pieces.clear();
-        self.parts.text.clear();
-        self.parts.text.extend_from_slice(text)?;
-        match cut(
-            alloc,
-            &self.parts.text,
-            separator,
-            newline,
-            &mut self.parts.pieces,
-        ) {
-            Ok(()) => Ok(()),
-            Err(refused) => {
-                self.parts.pieces.clear();
-                Err(refused)
+        match &mut self.held {
+            Held::Wide(parts) => refill_parts(alloc, parts, text, separator, newline),
+            Held::InPlace(_) => {
+                self.held = Held::Wide(new_parts(alloc, text, separator, newline)?);
+                Ok(())
             }
         }
     }
@@ -111,20 +127,10 @@ impl Record {
         requires { 0 < number }
         ensures { OnOk result (self.new ≡ rebuilt separator.now (with_value number value earlier.now.fields)) }
     {
-        match build_with_value(
-            alloc,
-            &mut self.parts,
-            &earlier.parts,
-            number,
-            value,
-            separator,
-        ) {
-            Ok(()) => Ok(()),
-            Err(refused) => {
-                self.parts.pieces.clear();
-                Err(refused)
-            }
-        }
+        let mut parts = buffers_of(alloc, &mut self.held);
+        build_with_value(alloc, &mut parts, earlier, number, value, separator)?;
+        self.held = Held::Wide(parts);
+        Ok(())
     }
 
     /// Becomes another record with this many fields, cut or extended by uninitialised ones, and `$0` built anew.
@@ -139,12 +145,9 @@ impl Record {
     ) -> Result<(), AllocError>
         ensures { OnOk result (self.new ≡ rebuilt separator.now (resized count earlier.now.fields)) }
     {
-        match build_with_count(alloc, &mut self.parts, &earlier.parts, count, separator) {
-            Ok(()) => Ok(()),
-            Err(refused) => {
-                self.parts.pieces.clear();
-                Err(refused)
-            }
-        }
+        let mut parts = buffers_of(alloc, &mut self.held);
+        build_with_count(alloc, &mut parts, earlier, count, separator)?;
+        self.held = Held::Wide(parts);
+        Ok(())
     }
 }

@@ -1,6 +1,7 @@
 -- The parts of a store, as one layout.
 use Rattle.std.specs.Prelude.{◌≡◌, []}
 use Rattle.rawk_store.specs.declared.store.Store.{Store}
+use Rattle.rawk_store.specs.declared.registers.Bank.{Bank}
 use Rattle.rawk_store.specs.declared.registers.Registers.{Registers}
 use Rattle.rawk_slots.specs.Stacked.{empty_stack}
 use Rattle.rawk_arrays.specs.Laid.{no_arrays}
@@ -67,3 +68,14 @@ pub record IsPlainStep (s : Store) : Type 0 where
   pub keys : s.keys.start ≡ s.keys.now
   pub ranges : s.ranges.start ≡ s.ranges.now
   pub operands : s.operands.start ≡ s.operands.now
+
+-- the step in progress changed no register but the place, the point and its site
+abbrev pub IsPointStep : Bank → Type 0
+IsPointStep b = b.start ≡ record b.now { place = b.start.place; here = b.start.here; site = b.start.site }
+
+-- the step in progress changed no more than globals, the place, the point and its site
+pub record IsNarrowStep (s : Store) : Type 0 where
+  pub plain : IsPlainStep s
+  pub current : s.current.start ≡ s.current.now
+  pub output : s.output.start ≡ s.output.now
+  pub registers : IsPointStep s.registers

@@ -212,7 +212,7 @@ impl Current {
         Ok(())
     }
 
-    /// Ends the step, and gives the record as it was when the step began, where the step changed it. It takes no memory.
+    /// Ends the step, and gives the record as it was when the step began, where the step changed it: a short one in place, so that its buffers are used again. It takes no memory.
     pub fn finish(&mut self, alloc: Global) -> Option<Record>
         ensures now { self.new ≡ at_rest self.old.now }
         ensures back { record_back self.old.now result ≡ self.old.start }
@@ -221,7 +221,10 @@ impl Current {
             return None;
         }
         self.changed = false;
-        Some(mem::replace(&mut self.other, Record::new(alloc)))
+        match self.other.in_place() {
+            Some(short) => Some(short),
+            None => Some(mem::replace(&mut self.other, Record::new(alloc))),
+        }
     }
 
     /// Ends the step, and forgets how it began. The earlier record is spare then: it takes no memory.

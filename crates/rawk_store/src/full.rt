@@ -283,34 +283,42 @@ fn reserve(
     Ok(())
 }
 
-/// What a step changed beside the globals.
-#[derive(Drop)]
+/// What a step leaves beside old values: whether it has any in the lists, and how output and registers stood.
+#[derive(Clone, Copy)]
 struct Rest {
-    others: Option<Others>,
-    current: Option<Record>,
+    has_others: bool,
+    has_record: bool,
     output: usize,
     registers: Registers,
 }
 
-/// Ends a step: what it changed in the globals comes behind the first `count` old values of a list, in place of the others. It fails where memory is
-/// refused, and then nothing has changed.
+/// Ends a step: what it changed in the globals comes behind the first `count` old values of a list, in place of the others, and what else it changed at the
+/// end of the other lists. It fails where memory is refused, and then nothing has changed.
 #[inline]
 fn finish_behind(
     alloc: Global,
     store: &mut Store,
     globals: &mut Vec<Saved<Value>>,
     count: usize,
+    others: &mut Vec<Others>,
+    records: &mut Vec<Record>,
 ) -> Result<Rest, AllocError>
-    ensures did { IfOk result (λ rest. EndsBehind rest.others rest.current rest.output rest.registers (start_of store.old) (now_of store.old) (take count globals.old.items) globals.new.items) }
+    requires others { vec_len others.old < vec_capacity others.old }
+    requires records { vec_len records.old < vec_capacity records.old }
+    ensures did { IfOk result (λ rest. EndsBehind (first_if rest.has_others (reverse others.new.items)) (first_if rest.has_record (reverse records.new.items)) rest.output rest.registers (start_of store.old) (now_of store.old) (take count globals.old.items) globals.new.items) }
+    ensures others { IfOk result (λ rest. rest_if rest.has_others (reverse others.new.items) ≡ reverse others.old.items) }
+    ensures records { IfOk result (λ rest. rest_if rest.has_record (reverse records.new.items) ≡ reverse records.old.items) }
     ensures now { now_of store.new ≡ now_of store.old }
     ensures rest { OnOk result (start_of store.new ≡ now_of store.old) }
     ensures open { OnErr result (start_of store.new ≡ start_of store.old) }
     ensures same { OnErr result (globals.new.items ≡ globals.old.items) }
+    ensures same_others { OnErr result (others.new.items ≡ others.old.items) }
+    ensures same_records { OnErr result (records.new.items ≡ records.old.items) }
 {
     store.globals.finish_into(globals, count)?;
     Ok(Rest {
-        others: store.finish_others(alloc),
-        current: store.current.finish(alloc),
+        has_others: add_if(others, store.finish_others(alloc)),
+        has_record: add_if(records, store.current.finish(alloc)),
         output: store.output.finish(),
         registers: store.registers.finish(),
     })
@@ -407,7 +415,14 @@ impl Keeper for Full {
             &mut self.records,
             &mut self.sets,
         )?;
-        let rest = finish_behind(alloc, store, &mut self.globals, self.live)?;
+        let rest = finish_behind(
+            alloc,
+            store,
+            &mut self.globals,
+            self.live,
+            &mut self.others,
+            &mut self.records,
+        )?;
         let globals = self.live;
         self.live = self.globals.len();
         self.marks.push_reserved(Mark {
@@ -418,8 +433,8 @@ impl Keeper for Full {
             globals,
             has_site: rest.registers.site.is_some(),
             has_state: add_slow(&mut self.slows, slow_of(rest.output, &rest.registers)),
-            has_others: add_if(&mut self.others, rest.others),
-            has_record: add_if(&mut self.records, rest.current),
+            has_others: rest.has_others,
+            has_record: rest.has_record,
             has_sets: add_if(&mut self.sets, taken(alloc, sets)),
         });
         self.is_back = false;

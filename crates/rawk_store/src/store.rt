@@ -5,7 +5,7 @@ ghost use Rattle.std.specs.Bool.{OnTrue};
 ghost use Rattle.rawk_record.specs.Shown.{record_back};
 ghost use Rattle.rawk_slots.specs.Back.{back};
 ghost use Rattle.rawk_store.specs.Layout.{IsSound, state};
-ghost use Rattle.rawk_store.specs.Stores.{IsNew, IsPlainStep, now_of, others_rested, start_of};
+ghost use Rattle.rawk_store.specs.Stores.{IsNarrowStep, IsNew, IsPlainStep, now_of, others_rested, start_of};
 ghost use Rattle.rawk_store.specs.GroupBack.{FitsIn, FitsOthers, OthersLead, arrays_in, others_put, put_back};
 
 use crate::current::Current;
@@ -151,6 +151,20 @@ impl Store {
         self.current.forget();
         self.output.forget();
         self.registers.forget();
+    }
+
+    /// Ends a step that changed no more than globals, the place, the point and its site, and forgets what it changed: it goes through no other part.
+    /// Its buffers are used again: it takes no memory.
+    #[inline]
+    pub fn forget_narrow(&mut self)
+        requires { IsNarrowStep self.old }
+        ensures now { now_of self.new ≡ now_of self.old }
+        ensures rest { start_of self.new ≡ now_of self.old }
+        ensures sound { IsSound (now_of self.old) }
+    {
+        self.known();
+        self.globals.forget();
+        self.registers.forget_point();
     }
 
     /// Removes slots of arrays that are empty, where most of them are. No state changes by it, but what leads back to earlier steps fits no more then. Where memory for that

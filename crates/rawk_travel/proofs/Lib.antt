@@ -8,7 +8,6 @@ pub mod Lines
 pub mod Takings
 pub mod Readings
 pub mod Travels
-pub mod Plains
 pub mod AtOnces
 pub mod Turns
 pub mod Calls

@@ -32,15 +32,35 @@ pub enum Reading {
     Faulted(Fault),
 }
 
+/// A counter with one more, whatever it holds. It takes no memory.
+#[inline(never)]
+fn value_up(globals: &Cells, counter: usize) -> Result<i64, Fault>
+    ensures { result ≡ counter_up counter globals.now.now }
+{
+    let n = number(global_borrowed(globals, counter))?;
+    rawk_value::add(n, 1)
+}
+
 /// A counter with one more. It takes no memory.
+#[inline(always)]
 fn counter_up(globals: &Cells, counter: usize) -> Result<i64, Fault>
     ensures { result ≡ counter_up counter globals.now.now }
 {
-    if let Some(n) = global_number(globals, counter) {
-        return rawk_value::add(n, 1);
+    match global_number(globals, counter) {
+        Some(n) => rawk_value::add(n, 1),
+        None => value_up(globals, counter),
     }
-    let n = number(global_borrowed(globals, counter))?;
-    rawk_value::add(n, 1)
+}
+
+/// The text of a separator, in place but for a number's digits, which stand in the buffer. It takes no memory.
+#[inline(always)]
+fn separator_in<'a>(globals: &'a Cells, separator: usize, digits: &'a mut Buffer) -> &'a [u8]
+    ensures { result.now ≡ text_of (global_in separator globals.now.now) }
+{
+    match globals.value(separator) {
+        Some(Value::String(text)) => text.as_slice(),
+        _ => text_borrowed(global_borrowed(globals, separator), digits),
+    }
 }
 
 /// The record of a text, by the field separator of now; a separator that is refused changes nothing. It fails where memory is refused.
@@ -55,7 +75,7 @@ fn show(
     ensures plain { IsPlainMove store.old store.new }
 {
     let mut digits = Buffer::new();
-    let separator = text_borrowed(global_borrowed(&store.globals, FS), &mut digits);
+    let separator = separator_in(&store.globals, FS, &mut digits);
     match store.current.read(alloc, text, separator, paragraph) {
         Ok(()) => Ok(None),
         Err(Fault::OutOfMemory) => Err(AllocError),
@@ -165,7 +185,7 @@ pub fn read<R: Source + Drop>(
     ensures failed { IfOk result (λ r. r ≡ Reading.Faulted Fault.ReadFailed → R.over tape.new.source ≡ Some Ending.Failed) }
 {
     let mut digits = Buffer::new();
-    let separator = text_borrowed(global_borrowed(&store.globals, RS), &mut digits);
+    let separator = separator_in(&store.globals, RS, &mut digits);
     let paragraph = separator.len() == 0;
     match tape.next(separator) {
         Err(fault) => refused(fault),

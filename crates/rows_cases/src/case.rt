@@ -41,6 +41,16 @@ impl Case {
         self.parts.push(part)?;
         Ok(())
     }
+
+    /// Adds a line of a block's answer.
+    fn add_answer(&mut self, line: &str, number: usize) -> Result<(), AllocError> {
+        if !self.answers_at.is_empty() {
+            self.wanted.push(b'\n')?;
+        }
+        self.wanted.extend_from_slice(line.as_bytes())?;
+        self.answers_at.push(number)?;
+        Ok(())
+    }
 }
 
 /// A case whose block goes on, with what its lines give so far.
@@ -69,12 +79,7 @@ impl Block {
         if let Some(line) = marked('>', line) {
             return add_line(&mut self.typed, line);
         }
-        if !self.case.answers_at.is_empty() {
-            self.case.wanted.push(b'\n')?;
-        }
-        self.case.wanted.extend_from_slice(line.as_bytes())?;
-        self.case.answers_at.push(number)?;
-        Ok(())
+        self.case.add_answer(line, number)
     }
 
     /// The case, with the text, and with what is typed behind a `>`.
@@ -151,27 +156,44 @@ impl Reader {
             Some(_) => ("", None),
             None => split_answer(line),
         };
-        let mut case = Case {
-            parts: Vec::new(alloc),
-            wanted: unescaped(alloc, answer.unwrap_or(""))?,
-            line: number,
-            answers_at: Vec::new(alloc),
-        };
-        if head.is_empty() {
-            let mut block = Block::new(alloc, case);
-            block.add(line, number)?;
-            self.open = Some(block);
+        let case = case_of(alloc, head, answer.unwrap_or(""), number)?;
+        if answer.is_some() && !head.is_empty() {
+            self.cases.push(case)?;
             return Ok(());
         }
+        let mut block = Block::new(alloc, case);
+        if head.is_empty() {
+            block.add(line, number)?;
+        }
+        self.open = Some(block);
+        Ok(())
+    }
+
+    /// Reads all lines of a text.
+    fn read_all(&mut self, alloc: Global, text: &str) -> Result<(), AllocError> {
+        let mut number = 0usize;
+        for line in text.lines() {
+            number = number.saturating_add(1);
+            self.read(alloc, line, number)?;
+        }
+        self.read(alloc, "", number)
+    }
+}
+
+/// A case with this head and this answer.
+fn case_of(alloc: Global, head: &str, answer: &str, line: usize) -> Result<Case, AllocError> {
+    let mut case = Case {
+        parts: Vec::new(alloc),
+        wanted: unescaped(alloc, answer)?,
+        line,
+        answers_at: Vec::new(alloc),
+    };
+    if !head.is_empty() {
         for part in head.split('\t') {
             case.take(alloc, part)?;
         }
-        match answer {
-            Some(_) => self.cases.push(case)?,
-            None => self.open = Some(Block::new(alloc, case)),
-        }
-        Ok(())
     }
+    Ok(case)
 }
 
 /// All cases of a text, in their order.
@@ -180,12 +202,7 @@ pub fn cases_of(alloc: Global, text: &str) -> Result<Vec<Case>, AllocError> {
         cases: Vec::new(alloc),
         open: None,
     };
-    let mut number = 0usize;
-    for line in text.lines() {
-        number = number.saturating_add(1);
-        reader.read(alloc, line, number)?;
-    }
-    reader.read(alloc, "", number)?;
+    reader.read_all(alloc, text)?;
     let Reader { cases, .. } = reader;
     Ok(cases)
 }

@@ -132,17 +132,25 @@ pub fn unescaped(alloc: Global, text: &str) -> Result<Vec<u8>, AllocError> {
 pub fn shown(alloc: Global, bytes: &[u8]) -> Result<String, AllocError> {
     let mut text = String::new(alloc);
     for byte in bytes {
-        match *byte {
-            b'\n' => text.push_str("\\n")?,
-            b'\t' => text.push_str("\\t")?,
-            b'\\' => text.push_str("\\\\")?,
-            b' '..=b'~' => text.push(*byte as char)?,
-            other => text.push_str(format!(in alloc; "\\x{other:02x}")?.as_str())?,
-        }
+        push_shown(alloc, &mut text, *byte)?;
     }
     if bytes.last() == Some(&b' ') {
         text.pop();
         text.push_str("\\x20")?;
     }
     Ok(text)
+}
+
+/// Adds a byte as a case has it: an escape, where it cannot be seen.
+fn push_shown(alloc: Global, text: &mut String, byte: u8) -> Result<(), AllocError> {
+    match byte {
+        b'\n' => text.push_str("\\n"),
+        b'\t' => text.push_str("\\t"),
+        b'\\' => text.push_str("\\\\"),
+        b' '..=b'~' => text.push(byte as char),
+        other => {
+            let escape = format!(in alloc; "\\x{other:02x}")?;
+            text.push_str(escape.as_str())
+        }
+    }
 }

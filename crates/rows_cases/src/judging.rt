@@ -34,19 +34,25 @@ where
     let alloc = rt.alloc();
     let mut wrong = 0usize;
     for case in cases {
-        let parts: Vec<&[u8]> = case
-            .parts
-            .iter()
-            .map(|part| part.as_slice())
-            .collect(alloc)?;
+        let parts = parts_of(alloc, case)?;
         let came = answer(alloc, parts.as_slice())?;
         if came.as_slice() != case.wanted.as_slice() {
             wrong = wrong.saturating_add(1);
-            rt.println(difference(alloc, case, &came)?)?;
+            tell(rt, case, &came)?;
         }
     }
     let count = cases.len();
     println!(rt; "{count} cases, {wrong} wrong")
+}
+
+/// The parts of a case.
+fn parts_of<'a>(alloc: Global, case: &'a Case) -> Result<Vec<&'a [u8]>, AllocError> {
+    case.parts.iter().map(|part| part.as_slice()).collect(alloc)
+}
+
+/// Writes where an answer differs from what is wanted.
+fn tell<R: Print + AllocGlobal>(rt: &R, case: &Case, came: &[u8]) -> io::Result<()> {
+    rt.println(difference(rt.alloc(), case, came)?)
 }
 
 /// Where an answer differs first from what is wanted, what was wanted there, and what came.

@@ -46,7 +46,7 @@ impl Counts {
     }
 }
 
-/// Reads each text cut after each byte, and writes how many beginnings there were and how they were answered.
+/// Reads the text of each case that has nothing else, cut after each byte, and writes how many beginnings there were and how they were answered.
 pub fn cut_texts<R: Print + AllocGlobal>(rt: &R, cases: &[Case]) -> io::Result<()> {
     let alloc = rt.alloc();
     let mut counts = Counts {
@@ -55,7 +55,7 @@ pub fn cut_texts<R: Print + AllocGlobal>(rt: &R, cases: &[Case]) -> io::Result<(
         unnamed: 0,
     };
     for case in cases {
-        for text in &case.parts {
+        if let [text] = case.parts.as_slice() {
             counts.cut(alloc, text.as_slice())?;
         }
     }

@@ -1,6 +1,5 @@
-//! Cases of the grammar of the whole language: the trees of texts, and which texts are refused.
-//!
-//! A text: its tree, or the number of its refusal and the line. Then each text is cut after each byte.
+//! Cases of programs' texts; the modules say what the parts of a case are. A text alone is one of the grammar of the whole language:
+//! its tree, or the number of its refusal and the line. Behind the cases each such text is cut after each byte.
 //!
 //! With the word `read` the standard input is one text, which is read once.
 //!
@@ -12,11 +11,16 @@
 
 mod cuts;
 mod expressions;
+mod names;
 mod programs;
 mod reading;
+mod settled;
+mod tokens;
 
 use cuts::cut_texts;
-use reading::{outcome, read_once};
+use rawk_lexer::{unescaped, unquoted};
+use reading::read_once;
+use std::alloc::{AllocError, Global};
 use std::{env, io};
 
 fn main(rt: HostRuntime) -> io::Result<()> {
@@ -26,4 +30,61 @@ fn main(rt: HostRuntime) -> io::Result<()> {
     let cases = rows_cases::read(&rt)?;
     rows_cases::judge_cases(&rt, &cases, outcome)?;
     cut_texts(&rt, &cases)
+}
+
+/// What is asked of a text.
+#[derive(Clone, Copy)]
+enum Question {
+    Names,
+    Tokens,
+    Ere,
+    String,
+    Inside,
+    Syntax,
+    Sites,
+}
+
+/// The first words of cases of two parts.
+const QUESTIONS: [(&str, Question); 7] = [
+    ("names", Question::Names),
+    ("tokens", Question::Tokens),
+    ("ere", Question::Ere),
+    ("string", Question::String),
+    ("inside", Question::Inside),
+    ("syntax", Question::Syntax),
+    ("sites", Question::Sites),
+];
+
+/// The question that a word asks.
+fn question_of(word: &[u8]) -> Option<Question> {
+    for (name, question) in &QUESTIONS {
+        if name.as_bytes() == word {
+            return Some(*question);
+        }
+    }
+    None
+}
+
+/// What a case answers.
+fn outcome(alloc: Global, parts: &[&[u8]]) -> Result<Vec<u8>, AllocError> {
+    match parts {
+        [text] => reading::answered(alloc, text),
+        [word, text] => answered(alloc, word, text),
+        [word, place, text] => settled::site(alloc, word, place, text),
+        _ => Vec::from_slice(alloc, b"not a case"),
+    }
+}
+
+/// What a text answers to a word.
+fn answered(alloc: Global, word: &[u8], text: &[u8]) -> Result<Vec<u8>, AllocError> {
+    match question_of(word) {
+        Some(Question::Names) => names::answered(alloc, text),
+        Some(Question::Tokens) => tokens::tokens_of(alloc, text),
+        Some(Question::Ere) => tokens::ere_of(alloc, text),
+        Some(Question::String) => unescaped(alloc, text),
+        Some(Question::Inside) => Vec::from_slice(alloc, unquoted(text)),
+        Some(Question::Syntax) => settled::is_read(alloc, text),
+        Some(Question::Sites) => settled::sites(alloc, text),
+        None => Vec::from_slice(alloc, b"not a case"),
+    }
 }

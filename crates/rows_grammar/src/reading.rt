@@ -6,7 +6,7 @@ use rawk_grammar::tree::Item;
 use rawk_items::Items;
 use rawk_lexer::{Cursor, line_of};
 use rawk_limits::OPEN_CONSTRUCTS;
-use rawk_parsing::{ParseError, RefusalKind};
+use rawk_parsing::ParseError;
 use std::alloc::{AllocError, Global};
 use std::io;
 
@@ -16,40 +16,29 @@ pub fn read_text(alloc: Global, text: &[u8]) -> Result<Items<Item>, ParseError> 
     program(alloc, &mut tokens, OPEN_CONSTRUCTS + 1)
 }
 
-/// What a case answers.
-pub fn outcome(alloc: Global, parts: &[&[u8]]) -> Result<Vec<u8>, AllocError> {
-    match parts {
-        [text] => answered(alloc, text, &read_text(alloc, text)),
-        _ => Vec::from_slice(alloc, b"not a case"),
+/// The tree of a text, or why it is refused.
+pub fn answered(alloc: Global, text: &[u8]) -> Result<Vec<u8>, AllocError> {
+    match read_text(alloc, text) {
+        Ok(items) => tree(alloc, items.as_slice()),
+        Err(ParseError::OutOfMemory) => Err(AllocError),
+        Err(ParseError::Here(kind, left)) => refused(alloc, text, kind.number(), left),
     }
 }
 
-/// The tree of a text, or why it is refused.
-fn answered(
-    alloc: Global,
-    text: &[u8],
-    read: &Result<Items<Item>, ParseError>,
-) -> Result<Vec<u8>, AllocError> {
-    match read {
-        Ok(items) => {
-            let mut out = Vec::new(alloc);
-            put_program(&mut out, items.as_slice())?;
-            Ok(out)
-        }
-        Err(ParseError::OutOfMemory) => Err(AllocError),
-        Err(ParseError::Here(kind, left)) => refused(alloc, text, *kind, *left),
-    }
+/// The tree of a program's items.
+fn tree(alloc: Global, items: &[Item]) -> Result<Vec<u8>, AllocError> {
+    let mut out = Vec::new(alloc);
+    put_program(&mut out, items)?;
+    Ok(out)
+}
+
+/// The number of a refusal, and the line of what is left of a text.
+pub fn refused(alloc: Global, text: &[u8], number: u8, left: usize) -> Result<Vec<u8>, AllocError> {
+    numbered_refusal(alloc, number, line_of(text, left))
 }
 
 /// The number of a refusal, and its line.
-fn refused(
-    alloc: Global,
-    text: &[u8],
-    kind: RefusalKind,
-    left: usize,
-) -> Result<Vec<u8>, AllocError> {
-    let number = kind.number();
-    let line = line_of(text, left);
+pub fn numbered_refusal(alloc: Global, number: u8, line: u64) -> Result<Vec<u8>, AllocError> {
     Ok(format!(in alloc; "P{number} at line {line}")?.into_bytes())
 }
 

@@ -65,21 +65,10 @@ pub fn command_of(alloc: Global, parts: &[&[u8]]) -> Result<Vec<u8>, AllocError>
 /// Adds a command.
 fn push_command(alloc: Global, out: &mut Vec<u8>, command: &Command) -> Result<(), AllocError> {
     match command {
-        Command::Break(Spot::Line(line)) => push(out, format!(in alloc; "break at line {line}")?),
-        Command::Break(Spot::Function(name)) => {
-            out.extend_from_slice(b"break at function ")?;
-            out.extend_from_slice(name.as_slice())
-        }
+        Command::Break(spot) => push_spot(alloc, out, spot),
         Command::Watch(place) => push_with(out, "watch ", place),
         Command::Print(place) => push_with(out, "print ", place),
-        Command::Set(place, constant) => {
-            push_with(out, "set ", place)?;
-            out.extend_from_slice(b" to ")?;
-            match constant {
-                Constant::Number(number) => push(out, format!(in alloc; "{number}")?),
-                Constant::Text(text) => push_shown(out, text.as_slice()),
-            }
-        }
+        Command::Set(place, constant) => push_set(alloc, out, place, constant),
         Command::Delete(number) => push(out, format!(in alloc; "delete {number}")?),
         Command::Unwatch(number) => push(out, format!(in alloc; "unwatch {number}")?),
         Command::Move(way, goal) => push(out, format!(in alloc; "move {way:?} to {goal:?}")?),
@@ -87,6 +76,32 @@ fn push_command(alloc: Global, out: &mut Vec<u8>, command: &Command) -> Result<(
         Command::ReverseSet => out.extend_from_slice(b"reverse-set"),
         Command::Backtrace => out.extend_from_slice(b"backtrace"),
         Command::Quit => out.extend_from_slice(b"quit"),
+    }
+}
+
+/// Adds a breakpoint.
+fn push_spot(alloc: Global, out: &mut Vec<u8>, spot: &Spot) -> Result<(), AllocError> {
+    match spot {
+        Spot::Line(line) => push(out, format!(in alloc; "break at line {line}")?),
+        Spot::Function(name) => {
+            out.extend_from_slice(b"break at function ")?;
+            out.extend_from_slice(name.as_slice())
+        }
+    }
+}
+
+/// Adds an assignment to a place.
+fn push_set(
+    alloc: Global,
+    out: &mut Vec<u8>,
+    place: &Place,
+    constant: &Constant,
+) -> Result<(), AllocError> {
+    push_with(out, "set ", place)?;
+    out.extend_from_slice(b" to ")?;
+    match constant {
+        Constant::Number(number) => push(out, format!(in alloc; "{number}")?),
+        Constant::Text(text) => push_shown(out, text.as_slice()),
     }
 }
 
@@ -147,25 +162,39 @@ fn name_of(text: &Text) -> &str {
 
 /// An invocation in one line.
 fn invocation_text(alloc: Global, asked: &Invocation) -> Result<Vec<u8>, AllocError> {
+    let mut text = Vec::new(alloc);
+    push_texts(alloc, &mut text, asked)?;
+    push_limits(alloc, &mut text, asked)?;
+    push_settings(&mut text, &asked.settings)?;
+    Ok(text)
+}
+
+/// Adds the program, the input and the commands.
+fn push_texts(alloc: Global, out: &mut Vec<u8>, asked: &Invocation) -> Result<(), AllocError> {
     let kind = match &asked.program {
         Text::Bytes(_) => "program",
         _ => "program of",
     };
     let program = name_of(&asked.program);
     let input = name_of(&asked.input);
+    push(out, format!(in alloc; "{kind} {program}, input {input}")?)?;
+    match &asked.commands {
+        Some(commands) => {
+            out.extend_from_slice(b", commands ")?;
+            out.extend_from_slice(name_of(commands).as_bytes())
+        }
+        None => Ok(()),
+    }
+}
+
+/// Adds the limits.
+fn push_limits(alloc: Global, out: &mut Vec<u8>, asked: &Invocation) -> Result<(), AllocError> {
     let steps = asked.steps;
-    let mut text = format!(in alloc; "{kind} {program}, input {input}")?;
-    if let Some(commands) = &asked.commands {
-        let commands = name_of(commands);
-        text.push_str(format!(in alloc; ", commands {commands}")?.as_str())?;
+    push(out, format!(in alloc; ", {steps} steps")?)?;
+    match asked.history {
+        Some(history) => push(out, format!(in alloc; ", history {history}")?),
+        None => Ok(()),
     }
-    text.push_str(format!(in alloc; ", {steps} steps")?.as_str())?;
-    if let Some(history) = asked.history {
-        text.push_str(format!(in alloc; ", history {history}")?.as_str())?;
-    }
-    let mut text = text.into_bytes();
-    push_settings(&mut text, &asked.settings)?;
-    Ok(text)
 }
 
 /// Adds first values, each behind a comma.

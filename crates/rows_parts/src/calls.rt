@@ -30,28 +30,41 @@ fn text_after(
 
 /// Makes one change.
 fn make(alloc: Global, frames: &mut Frames, change: &[u8]) -> Result<(), AllocError> {
+    if let Some(change) = change.strip_prefix(b"apply ".as_slice()) {
+        let change = change_of(alloc, change)?;
+        drop(frames.apply(alloc, change)?);
+        return Ok(());
+    }
+    match change.strip_prefix(b"there and back ".as_slice()) {
+        Some(change) => there_and_back(frames, alloc, change_of(alloc, change)?),
+        None => call(alloc, frames, change),
+    }
+}
+
+/// Makes one change by its call.
+fn call(alloc: Global, frames: &mut Frames, change: &[u8]) -> Result<(), AllocError> {
     match change {
         b"step" => frames.forget(),
         b"back" => frames.undo_step(),
-        b"enter" => frames.enter(8, 3, 101, Some(4), 25)?,
+        b"enter" => return frames.enter(8, 3, 101, Some(4), 25),
         b"leave" => {
             let _ = frames.leave();
         }
         b"leave all" => frames.leave_all(),
-        [b'l', b'o', b'c', b'a', b'l', b' ', local @ ..] => match written(alloc, local)? {
-            (Some(number), local) => frames.set_local(number, local)?,
-            (None, local) => frames.add_local(local)?,
-        },
-        [b'a', b'p', b'p', b'l', b'y', b' ', change @ ..] => {
-            let change = change_of(alloc, change)?;
-            drop(frames.apply(alloc, change)?);
-        }
-        _ => match change.strip_prefix(b"there and back ".as_slice()) {
-            Some(change) => there_and_back(frames, alloc, change_of(alloc, change)?)?,
-            None => {}
-        },
+        _ => return put_local(alloc, frames, change),
     }
     Ok(())
+}
+
+/// Adds or sets a local, if the change does that.
+fn put_local(alloc: Global, frames: &mut Frames, change: &[u8]) -> Result<(), AllocError> {
+    let Some(local) = change.strip_prefix(b"local ".as_slice()) else {
+        return Ok(());
+    };
+    match written(alloc, local)? {
+        (Some(number), local) => frames.set_local(number, local),
+        (None, local) => frames.add_local(local),
+    }
 }
 
 /// A local, and the number that stands before it and a `=`.
@@ -88,16 +101,24 @@ fn shown(alloc: Global, frames: &Frames) -> Result<Vec<u8>, AllocError> {
     let depth = frames.depth();
     let mut out = format!(in alloc; "depth {depth}")?.into_bytes();
     for number in 0..usize::MAX {
-        match frames.local(number) {
-            Some(Local::Holds(value)) => {
-                out.push(b' ')?;
-                push_value(&mut out, value)?;
-            }
-            Some(Local::Names(array)) => {
-                out.extend_from_slice(format!(in alloc; " array {array}")?.as_bytes())?;
-            }
-            None => break,
-        }
+        let Some(local) = frames.local(number) else {
+            break;
+        };
+        push_local(alloc, &mut out, local)?;
     }
     Ok(out)
+}
+
+/// Adds a blank and a local.
+fn push_local(alloc: Global, out: &mut Vec<u8>, local: &Local) -> Result<(), AllocError> {
+    match local {
+        Local::Holds(value) => {
+            out.push(b' ')?;
+            push_value(out, value)
+        }
+        Local::Names(array) => {
+            let text = format!(in alloc; " array {array}")?;
+            out.extend_from_slice(text.as_bytes())
+        }
+    }
 }

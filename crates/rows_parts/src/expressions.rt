@@ -66,11 +66,19 @@ enum Question {
 
 /// The question that a word asks.
 fn question_of(word: &[u8], rest: &[&[u8]]) -> Option<Question> {
-    match (word, rest) {
-        (b"find", []) => Some(Question::Find),
-        (b"open", []) => Some(Question::Open),
-        (b"longest", []) => Some(Question::Longest),
-        (b"counted", [most]) => number_of(most).map(Question::Counted),
+    match rest {
+        [] => plain_question(word),
+        [most] if word == b"counted".as_slice() => number_of(most).map(Question::Counted),
+        _ => None,
+    }
+}
+
+/// The question that a word asks by itself.
+fn plain_question(word: &[u8]) -> Option<Question> {
+    match word {
+        b"find" => Some(Question::Find),
+        b"open" => Some(Question::Open),
+        b"longest" => Some(Question::Longest),
         _ => None,
     }
 }
@@ -172,12 +180,27 @@ fn search(
     requires { from ≤ length text.now }
 {
     match (word, rest) {
-        (b"next", []) => stretch(alloc, next_match(alloc, ere, text, from)?),
-        (b"nonempty", []) => stretch(alloc, next_nonempty(alloc, ere, text, from)?),
-        (b"settled", []) => stretch(alloc, next_open(alloc, ere, text, from)?),
         (b"skip", []) => place(alloc, Some(skip_to(alloc, ere, text, from)?)),
         (b"cut", [after]) => stretch(alloc, next_cut(alloc, ere, text, from, number_of(after))?),
+        (_, []) => stretch(alloc, next(alloc, word, ere, text, from)?),
         _ => "not a case".to_string(alloc),
+    }
+}
+
+/// The next match of the kind that a word names.
+fn next(
+    alloc: Global,
+    word: &[u8],
+    ere: &Ere,
+    text: &[u8],
+    from: usize,
+) -> Result<Option<Span>, AllocError>
+    requires { from ≤ length text.now }
+{
+    match word {
+        b"next" => next_match(alloc, ere, text, from),
+        b"nonempty" => next_nonempty(alloc, ere, text, from),
+        _ => next_open(alloc, ere, text, from),
     }
 }
 

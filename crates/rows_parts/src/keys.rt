@@ -29,22 +29,28 @@ fn text_after(
 
 /// Makes one change.
 fn make(alloc: Global, left: &mut KeysLeft, change: &[u8]) -> Result<(), AllocError> {
+    if let Some(change) = change.strip_prefix(b"apply ".as_slice()) {
+        let change = change_of(alloc, change)?;
+        drop(left.apply(alloc, change)?);
+        return Ok(());
+    }
+    match change.strip_prefix(b"there and back ".as_slice()) {
+        Some(change) => there_and_back(left, alloc, change_of(alloc, change)?),
+        None => call(alloc, left, change),
+    }
+}
+
+/// Makes one change by its call.
+fn call(alloc: Global, left: &mut KeysLeft, change: &[u8]) -> Result<(), AllocError> {
     match change {
         b"step" => left.forget(),
         b"back" => left.undo_step(),
-        b"advance" => left.advance()?,
         b"clear" => left.clear(),
-        [b'a', b'p', b'p', b'l', b'y', b' ', change @ ..] => {
-            let change = change_of(alloc, change)?;
-            drop(left.apply(alloc, change)?);
-        }
-        _ => match change.strip_prefix(b"there and back ".as_slice()) {
-            Some(change) => there_and_back(left, alloc, change_of(alloc, change)?)?,
-            None => match change_of(alloc, change)? {
-                KeysChange::Begin(keys) => left.begin(keys)?,
-                KeysChange::End(count) => left.end(count),
-                _ => {}
-            },
+        _ => match change_of(alloc, change)? {
+            KeysChange::Begin(keys) => return left.begin(keys),
+            KeysChange::End(count) => left.end(count),
+            KeysChange::Advance => return left.advance(),
+            _ => {}
         },
     }
     Ok(())

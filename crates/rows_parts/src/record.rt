@@ -41,19 +41,32 @@ impl<'a> Place<'a> {
 
     /// Makes one change.
     fn change(&mut self, alloc: Global, change: &'a [u8]) -> Result<(), Fault> {
-        match (change, sides(change)) {
-            (b"step", _) => self.current.forget(),
-            (b"back", _) => self.current.undo_step(),
-            ([b'0', b'+', more @ ..], _) => {
-                let text = both(alloc, self.current.text(), more)?;
-                let read = self.read(alloc, &text);
-                drop(text);
-                read?;
-            }
-            (_, Some((b"FS", separator))) => self.fs = separator,
-            (_, Some((b"OFS", separator))) => self.ofs = separator,
-            (_, Some((name, value))) => self.assign(alloc, name, value_of(alloc, value)?)?,
-            _ => {}
+        match change {
+            b"step" => self.current.forget(),
+            b"back" => self.current.undo_step(),
+            _ => match change.strip_prefix(b"0+".as_slice()) {
+                Some(more) => return self.add(alloc, more),
+                None => return self.put(alloc, change),
+            },
+        }
+        Ok(())
+    }
+
+    /// Adds a text to `$0`.
+    fn add(&mut self, alloc: Global, more: &[u8]) -> Result<(), Fault> {
+        let text = both(alloc, self.current.text(), more)?;
+        let read = self.read(alloc, &text);
+        drop(text);
+        read
+    }
+
+    /// Sets a separator, or assigns.
+    fn put(&mut self, alloc: Global, change: &'a [u8]) -> Result<(), Fault> {
+        match sides(change) {
+            Some((b"FS", separator)) => self.fs = separator,
+            Some((b"OFS", separator)) => self.ofs = separator,
+            Some((name, value)) => return self.assign(alloc, name, value_of(alloc, value)?),
+            None => {}
         }
         Ok(())
     }
@@ -70,9 +83,14 @@ impl<'a> Place<'a> {
             self.current.set_field(alloc, number, value, self.ofs)?;
             return Ok(());
         }
-        let text = text_of(alloc, &value);
+        let read = self.become_text(alloc, &value);
         drop(value);
-        let text = text?;
+        read
+    }
+
+    /// `$0` becomes the text of a value.
+    fn become_text(&mut self, alloc: Global, value: &Value) -> Result<(), Fault> {
+        let text = text_of(alloc, value)?;
         let read = self.read(alloc, &text);
         drop(text);
         read
@@ -118,18 +136,24 @@ fn shown(alloc: Global, current: &Current) -> Result<Vec<u8>, AllocError> {
     let count = current.field_count();
     out.extend_from_slice(format!(in alloc; " | {count}")?.as_bytes())?;
     for number in 1..=count {
-        out.push(b' ')?;
-        match current.field(number) {
-            Some(FieldRef::Piece(bytes)) => {
-                out.push(b'[')?;
-                out.extend_from_slice(bytes)?;
-                out.push(b']')?;
-            }
-            Some(FieldRef::Kept(value)) => push_value(&mut out, value)?,
-            None => {}
-        }
+        push_field(&mut out, current.field(number))?;
     }
     Ok(out)
+}
+
+/// Adds a blank and a field.
+fn push_field(out: &mut Vec<u8>, field: Option<FieldRef<'_>>) -> Result<(), AllocError> {
+    out.push(b' ')?;
+    match field {
+        Some(FieldRef::Piece(bytes)) => {
+            out.push(b'[')?;
+            out.extend_from_slice(bytes)?;
+            out.push(b']')?;
+            Ok(())
+        }
+        Some(FieldRef::Kept(value)) => push_value(out, value),
+        None => Ok(()),
+    }
 }
 
 /// The change of a record that a part is.

@@ -41,11 +41,8 @@ impl Plan {
     }
 }
 
-/// What a case of records answers.
-pub fn answered(alloc: Global, parts: &[&[u8]]) -> Result<Vec<u8>, AllocError> {
-    let [separator, input, marks @ ..] = parts else {
-        return crate::not_a_case(alloc);
-    };
+/// The plan that marks make.
+fn plan_of(marks: &[&[u8]]) -> Plan {
     let mut plan = Plan {
         piece: None,
         fails_at: None,
@@ -54,6 +51,15 @@ pub fn answered(alloc: Global, parts: &[&[u8]]) -> Result<Vec<u8>, AllocError> {
     for mark in marks {
         plan = plan.with(mark);
     }
+    plan
+}
+
+/// What a case of records answers.
+pub fn answered(alloc: Global, parts: &[&[u8]]) -> Result<Vec<u8>, AllocError> {
+    let [separator, input, marks @ ..] = parts else {
+        return crate::not_a_case(alloc);
+    };
+    let plan = plan_of(marks);
     let cuts = cuts_of(alloc, input.len(), plan.piece)?;
     let input = Vec::from_slice(alloc, input)?;
     let mut source = BytesSource::new(input, cuts, plan.fails_at);

@@ -39,39 +39,60 @@ fn text_after(alloc: Global, store: &mut Store, changes: &[&[u8]]) -> Result<Vec
 
 /// Makes one change.
 fn make(alloc: Global, store: &mut Store, change: &[u8]) -> Result<(), AllocError> {
-    let Some(at) = change.iter().position(|b| *b == b' ') else {
-        match change {
-            b"back" => {
-                let mut group = store.finish(alloc);
-                store.undo(&mut group);
-                drop(group);
-            }
-            b"undo" => store.undo_step(),
-            _ => store.forget(),
+    match change.iter().position(|b| *b == b' ') {
+        Some(at) => put(alloc, store, &change[..at], &change[at + 1..]),
+        None => {
+            end(alloc, store, change);
+            Ok(())
         }
-        return Ok(());
-    };
-    let (word, rest) = (&change[..at], &change[at + 1..]);
-    match (word, rest) {
-        (b"global", [number, b'=', value @ ..]) => {
-            let number = number_of(&[*number]).unwrap_or(0);
-            store.globals.set(number, value_of(alloc, value)?)
+    }
+}
+
+/// Ends the step, or takes it back.
+fn end(alloc: Global, store: &mut Store, word: &[u8]) {
+    match word {
+        b"back" => {
+            let mut group = store.finish(alloc);
+            store.undo(&mut group);
+            drop(group);
         }
-        (b"global", value) => store.globals.add(value_of(alloc, value)?),
-        (b"operand", value) => store.operands.push(value_of(alloc, value)?),
-        (b"text", text) => store.output.push(text),
-        (b"value", value) => {
-            let value = value_of(alloc, value)?;
-            let pushed = store.output.push_value(&value);
-            drop(value);
-            pushed
-        }
-        (b"number", number) => store.output.push_number(number_in(number)),
+        b"undo" => store.undo_step(),
+        _ => store.forget(),
+    }
+}
+
+/// Changes a part of the store.
+fn put(alloc: Global, store: &mut Store, word: &[u8], rest: &[u8]) -> Result<(), AllocError> {
+    match word {
+        b"global" => put_global(alloc, store, rest),
+        b"operand" => store.operands.push(value_of(alloc, rest)?),
+        b"text" => store.output.push(rest),
+        b"value" => put_value(alloc, store, rest),
+        b"number" => store.output.push_number(number_in(rest)),
         _ => {
             store.registers.now.place = number_of(rest).unwrap_or(0);
             Ok(())
         }
     }
+}
+
+/// Adds a global, or sets one.
+fn put_global(alloc: Global, store: &mut Store, global: &[u8]) -> Result<(), AllocError> {
+    match global {
+        [number, b'=', value @ ..] => {
+            let number = number_of(&[*number]).unwrap_or(0);
+            store.globals.set(number, value_of(alloc, value)?)
+        }
+        value => store.globals.add(value_of(alloc, value)?),
+    }
+}
+
+/// Adds a value to the output.
+fn put_value(alloc: Global, store: &mut Store, value: &[u8]) -> Result<(), AllocError> {
+    let value = value_of(alloc, value)?;
+    let pushed = store.output.push_value(&value);
+    drop(value);
+    pushed
 }
 
 /// The number that a part is, from 0.

@@ -81,21 +81,39 @@ fn is_at(
 
 /// All that a machine shows where it stands.
 fn shown(alloc: Global, machine: &Machine<BytesSource, Full>) -> Result<Vec<u8>, AllocError> {
+    let mut out = Vec::new(alloc);
+    push_machine(alloc, &mut out, machine)?;
+    Ok(out)
+}
+
+fn push_machine(
+    alloc: Global,
+    out: &mut Vec<u8>,
+    machine: &Machine<BytesSource, Full>,
+) -> Result<(), AllocError> {
+    push_counts(alloc, out, machine)?;
+    push_site(alloc, out, machine.site())?;
+    push_step(out, machine.step())?;
+    out.extend_from_slice(machine.output())?;
+    out.push(b'\n')?;
+    push_record(out, machine)?;
+    push_globals(out, machine)?;
+    push_activations(alloc, out, machine)?;
+    push_locals(out, machine)
+}
+
+fn push_counts(
+    alloc: Global,
+    out: &mut Vec<u8>,
+    machine: &Machine<BytesSource, Full>,
+) -> Result<(), AllocError> {
     let point = machine.point();
     let kept = machine.kept();
     let depth = machine.depth();
     let status = machine.status();
     let arrays = machine.array_count();
     let line = format!(in alloc; "{point} {kept} {depth} {status} {arrays}\n")?;
-    let mut out = Vec::from_slice(alloc, line.as_bytes())?;
-    push_site(alloc, &mut out, machine.site())?;
-    push_step(&mut out, machine.step())?;
-    out.extend_from_slice(machine.output())?;
-    out.push(b'\n')?;
-    push_record(&mut out, machine)?;
-    push_globals(&mut out, machine)?;
-    push_calls(alloc, &mut out, machine)?;
-    Ok(out)
+    out.extend_from_slice(line.as_bytes())
 }
 
 fn push_site(alloc: Global, out: &mut Vec<u8>, site: Option<usize>) -> Result<(), AllocError> {
@@ -142,14 +160,13 @@ fn push_globals(out: &mut Vec<u8>, machine: &Machine<BytesSource, Full>) -> Resu
     Ok(())
 }
 
-/// The activations, with their calling points, and the locals of the innermost.
-fn push_calls(
+/// The activations, with their calling points.
+fn push_activations(
     alloc: Global,
     out: &mut Vec<u8>,
     machine: &Machine<BytesSource, Full>,
 ) -> Result<(), AllocError> {
-    let depth = machine.depth();
-    for number in 0..depth {
+    for number in 0..machine.depth() {
         if let Some(activation) = machine.frame(number) {
             let function = activation.function;
             let called_at = activation.called_at;
@@ -158,6 +175,11 @@ fn push_calls(
             push_site(alloc, out, activation.site)?;
         }
     }
+    Ok(())
+}
+
+/// The locals of the innermost activation.
+fn push_locals(out: &mut Vec<u8>, machine: &Machine<BytesSource, Full>) -> Result<(), AllocError> {
     for number in 0..NAMES {
         match machine.local(number) {
             Some(Local::Holds(value)) => push_value(out, value)?,

@@ -50,11 +50,15 @@ pub fn answered(alloc: Global) -> Result<Vec<u8>, AllocError> {
     drop(settings);
     let handed = source.handed();
     drop(source);
-    let written = Vec::from_slice(alloc, sink.bytes());
+    let text = told(alloc, sink.bytes(), report.status, handed);
     drop(sink);
-    let mut text = written?;
-    let status = report.status;
+    text
+}
+
+/// What was written, how it ended, and how many bytes the source handed out.
+fn told(alloc: Global, written: &[u8], status: u8, handed: u128) -> Result<Vec<u8>, AllocError> {
     let end = format!(in alloc; "status {status}, {handed} bytes handed out")?;
+    let mut text = Vec::from_slice(alloc, written)?;
     text.extend_from_slice(end.as_bytes())?;
     Ok(text)
 }

@@ -150,11 +150,22 @@ fn play(
     let report = reported(alloc, plan, invocation, &mut source, &mut sink);
     let handed = source.handed();
     drop(source);
-    let written = Vec::from_slice(alloc, sink.bytes());
+    let played = played_of(alloc, &report, sink.bytes(), handed);
     drop(sink);
+    played
+}
+
+/// What came of a run or a session, by its report, what the sink took and how many bytes the source handed out.
+fn played_of(
+    alloc: Global,
+    report: &Report,
+    written: &[u8],
+    handed: u128,
+) -> Result<Played, AllocError> {
+    let line = format!(in alloc; "{report}")?;
     Ok(Played {
-        written: written?,
-        line: format!(in alloc; "{report}")?,
+        written: Vec::from_slice(alloc, written)?,
+        line,
         status: report.status,
         point: report.point,
         handed,
@@ -211,19 +222,27 @@ fn reported(
 /// What was written, and how it ended.
 fn told(alloc: Global, played: &Played) -> Result<Vec<u8>, AllocError> {
     let mut text = played.written.clone()?;
+    push_end(alloc, &mut text, played)?;
+    Ok(text)
+}
+
+/// Adds how it ended.
+fn push_end(alloc: Global, text: &mut Vec<u8>, played: &Played) -> Result<(), AllocError> {
     text.push(b'(')?;
     if !played.line.is_empty() {
         text.extend_from_slice(played.line.as_bytes())?;
         text.extend_from_slice(b"; ")?;
     }
-    let status = played.status;
-    let handed = played.handed;
-    let end = match played.point {
-        0 => format!(in alloc; "status {status}, {handed} read)")?,
-        point => format!(in alloc; "status {status}, point {point}, {handed} read)")?,
-    };
-    text.extend_from_slice(end.as_bytes())?;
-    Ok(text)
+    let end = end_of(alloc, played.status, played.point, played.handed)?;
+    text.extend_from_slice(end.as_bytes())
+}
+
+/// The status, the point of a run, and how many bytes the source handed out.
+fn end_of(alloc: Global, status: u8, point: u64, handed: u128) -> Result<String, AllocError> {
+    match point {
+        0 => format!(in alloc; "status {status}, {handed} read)"),
+        point => format!(in alloc; "status {status}, point {point}, {handed} read)"),
+    }
 }
 
 /// Whether a sink that fails behind each count of bytes has taken that beginning of what is written else.

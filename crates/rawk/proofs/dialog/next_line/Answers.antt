@@ -1,7 +1,8 @@
-use Rattle.std.proofs.Common.{sym, subst}
+use Rattle.std.proofs.Common.{ap, refl, sym, subst}
+use Rattle.rawk_tape.specs.Tapes.{TapeState}
 use Rattle.rawk.specs.declared.dialog.Over.{Over}
 use Rattle.rawk.specs.Dialogs.{HasNoLine}
-use Rattle.rawk.proofs.DialogSoFar.{come_same, line_is, no_line, none_is}
+use Rattle.rawk.proofs.DialogSoFar.{come_same, lazy_is, line_is, no_line, none_is}
 use Rattle.rawk.proofs.dialog.next_line.Goals as goal
 
 pub returns-in-Ok-Some-clause-comes : goal.returns-in-Ok-Some-clause-comes
@@ -17,3 +18,12 @@ returns-in-Ok-None-clause-over g c = λ asked come. none_is asked c.args.command
 pub returns-in-Err-clause-over : goal.returns-in-Err-clause-over
 returns-in-Err-clause-over g c = λ asked come.
     subst (λ (o : Over). HasNoLine asked c.args.commands.now.consumed o) (sym c.unread.ensures.over) (no_line asked c.args.commands.now.consumed c.in-Err.fault (c.in-Err.ensures.next asked come))
+
+pub returns-in-Ok-Some-clause-lazy : goal.returns-in-Ok-Some-clause-lazy
+returns-in-Ok-Some-clause-lazy g c = lazy_is c.args.commands.now c.next.new.self c.consume.new.self (ap (λ (t : TapeState g.row.C.Denot). t.bytes) c.consume.ensures.after) c.next.ensures.lazy
+
+pub returns-in-Ok-None-clause-lazy : goal.returns-in-Ok-None-clause-lazy
+returns-in-Ok-None-clause-lazy g c = lazy_is c.args.commands.now c.next.new.self c.next.new.self refl c.next.ensures.lazy
+
+pub returns-in-Err-clause-lazy : goal.returns-in-Err-clause-lazy
+returns-in-Err-clause-lazy g c = lazy_is c.args.commands.now c.next.new.self c.next.new.self refl c.next.ensures.lazy

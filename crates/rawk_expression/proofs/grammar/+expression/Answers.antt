@@ -15,7 +15,7 @@ unfolding expression
 returns-then-depth-eq0 t c _ =
     let none : c.args.depth ≡ 0 = omega arith in
     let base = ap (λ n. expression n c.args.wanted c.args.tokens.now) none in
-    first_of (search rules, grind (arith, common_steps))
+    grind (arith, common_steps)
 
 pub returns : goal.returns
 returns t c = rw (expression_is c.args.depth c.args.wanted c.args.tokens.now (omega arith)) c.by.ensures

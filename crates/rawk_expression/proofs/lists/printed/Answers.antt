@@ -14,7 +14,7 @@ unfolding printed
 returns-then-depth-eq0 c =
     let none : c.args.depth ≡ 0 = omega arith in
     let base = ap (λ n. printed n c.args.tokens.now) none in
-    first_of (search rules, grind (arith, common_steps))
+    grind (arith, common_steps)
 
 pub returns : goal.returns
 returns c = rw (printed_is c.args.depth c.args.tokens.now (omega arith)) c.print_list.ensures

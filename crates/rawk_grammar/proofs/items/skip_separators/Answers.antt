@@ -6,22 +6,22 @@ use Rattle.rawk_grammar.proofs.items.skip_separators.Goals as goal
 
 pub loop-turn-init : goal.loop-turn-init
 unfolding separators
-loop-turn-init c = first_of (search rules, grind (arith, common_steps))
+loop-turn-init c = grind (arith, common_steps)
 
 pub returns-then-not-separates : goal.returns-then-not-separates
 unfolding separators_from
 returns-then-not-separates c =
     let e = one_more (λ n. separators_from n c.loop-turn.tokens) _ c.loop-turn._turn c.loop-turn-test.true c.loop-turn.invariant in
-    first_of (search rules, grind (arith, common_steps))
+    grind (arith, common_steps)
 
 pub loop-turn-preserved : goal.loop-turn-preserved
 unfolding separators_from
 loop-turn-preserved c =
     let e = one_more (λ n. separators_from n c.loop-turn.tokens) _ c.loop-turn._turn c.loop-turn-test.true c.loop-turn.invariant in
-    first_of (search rules, grind (arith, common_steps))
+    grind (arith, common_steps)
 
 pub returns : goal.returns
 unfolding separators_from
 returns c =
     let e = no_more (λ n. separators_from n c.loop-turn.tokens) _ c.loop-turn._turn c.loop-turn-test.false c.loop-turn.invariant in
-    first_of (search rules, grind (arith, common_steps))
+    grind (arith, common_steps)

@@ -15,7 +15,7 @@ unfolding statement
 returns-then-depth-eq0 t c _ =
     let none : c.args.depth ≡ 0 = omega arith in
     let base = ap (λ n. statement n c.args.context c.args.tokens.now) none in
-    first_of (search rules, grind (arith, common_steps))
+    grind (arith, common_steps)
 
 pub returns : goal.returns
 returns t c = rw (statement_is c.args.depth c.args.context c.args.tokens.now (omega arith)) c.one.ensures

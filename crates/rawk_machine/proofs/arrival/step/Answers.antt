@@ -1,6 +1,5 @@
 use Rattle.rawk_travel.specs.Moving.{moving}
 use Rattle.rawk_machine.proofs.Arrivals.{step_arrives}
-use Rattle.rawk_machine.proofs.Plains.{plain_step}
 use Rattle.rawk_machine.proofs.arrival.step.Goals as goal
 
 pub returns-in-Ok-clause-did : goal.returns-in-Ok-clause-did
@@ -8,5 +7,5 @@ returns-in-Ok-clause-did g c =
     step_arrives g.R.Source.may_give c.args.code.now c.travel.new.tape c.in-Ok.to c.args.count c.args.limit (moving c.args.store.now) (moving c.travel.new.store) (moving c.settle.new.store)
     c.in-Ok.ensures.stops c.requires.running c.in-Ok.ensures.keeps c.in-Ok.ensures.did c.settle.ensures.did
 
-pub returns-in-Ok-clause-plain : goal.returns-in-Ok-clause-plain
-returns-in-Ok-clause-plain g c = λ t. plain_step c.args.store.now c.travel.new.store c.settle.new.store c.requires.rest (c.in-Ok.ensures.plain t) c.settle.ensures.parts
+pub returns-in-Ok-clause-reach : goal.returns-in-Ok-clause-reach
+returns-in-Ok-clause-reach g c = c.settle.ensures.reach c.args.store.now c.requires.rest c.in-Ok.ensures.reach

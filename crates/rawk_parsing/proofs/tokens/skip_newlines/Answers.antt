@@ -6,22 +6,22 @@ use Rattle.rawk_parsing.proofs.tokens.skip_newlines.Goals as goal
 
 pub loop-turn-init : goal.loop-turn-init
 unfolding newlines
-loop-turn-init c = first_of (search rules, grind (arith, common_steps))
+loop-turn-init c = grind (arith, common_steps)
 
 pub returns-then-not-sees : goal.returns-then-not-sees
 unfolding newlines_from
 returns-then-not-sees c =
     let e = one_more (λ n. newlines_from n c.loop-turn.tokens) _ c.loop-turn._turn c.loop-turn-test.true c.loop-turn.invariant in
-    first_of (search rules, grind (arith, common_steps))
+    grind (arith, common_steps)
 
 pub loop-turn-preserved : goal.loop-turn-preserved
 unfolding newlines_from
 loop-turn-preserved c =
     let e = one_more (λ n. newlines_from n c.loop-turn.tokens) _ c.loop-turn._turn c.loop-turn-test.true c.loop-turn.invariant in
-    first_of (search rules, grind (arith, common_steps))
+    grind (arith, common_steps)
 
 pub returns : goal.returns
 unfolding newlines_from
 returns c =
     let e = no_more (λ n. newlines_from n c.loop-turn.tokens) _ c.loop-turn._turn c.loop-turn-test.false c.loop-turn.invariant in
-    first_of (search rules, grind (arith, common_steps))
+    grind (arith, common_steps)

@@ -8,7 +8,7 @@ use Rattle.rawk_record.proofs.build.add_fields.Goals as goal
 
 pub loop-place-preserved : goal.loop-place-preserved
 loop-place-preserved c =
-    let earlier : List Value = values_of c.args.earlier.now in
+    let earlier : List Value = c.args.earlier.now.fields in
     let first : List Value = values_of c.args.parts.now in
     let so_far : List Value = drop c.args.from (resized c.loop-place.place earlier) in
     let inv = c.loop-place.invariant in

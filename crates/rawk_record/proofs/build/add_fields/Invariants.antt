@@ -7,6 +7,6 @@ use Rattle.rawk_record.proofs.build.add_fields.Given as goal
 abbrev pub invariant-loop-place : goal.invariant-loop-place
 invariant-loop-place l = record {
   draft : IsDraft l.separator l.parts;
-  fields : values_of l.parts ≡ values_of l.initial.parts ++ drop l.from (resized l.place (values_of l.earlier));
+  fields : values_of l.parts ≡ values_of l.initial.parts ++ drop l.from (resized l.place l.earlier.fields);
   none : l.none ≡ Uninitialized;
 }

@@ -1,6 +1,5 @@
-use Rattle.std.proofs.Common.{◌≡◌, ◌∙◌, ap, Some}
+use Rattle.std.proofs.Common.{◌≡◌, Some}
 use Rattle.std.specs.Prelude.{slice_range}
-use Rattle.rawk_value.specs.Values.{text_of}
 use Rattle.rawk_tape.specs.declared.source.Ending.TheVariants.{Failed}
 use Rattle.rawk_travel.specs.Moving.{moving}
 use Rattle.rawk_travel.proofs.Readings.{found_did, missing_did, fault_did, fault_quiet, found_quiet, found_calm}
@@ -8,22 +7,22 @@ use Rattle.rawk_travel.proofs.reading.read.Goals as goal
 
 pub returns-in-Err-clause-did : goal.returns-in-Err-clause-did
 returns-in-Err-clause-did g c =
-    fault_did g.R.Source.may_give c.next.new.self c.refused.result c.in-Err.fault (moving c.args.store.now) c.args.tape.now.consumed c.text_borrowed-separator.result.now c.in-Err.ensures.next c.requires
-    (c.text_borrowed-separator.ensures ∙ ap text_of c.global_borrowed.ensures) c.refused.ensures
+    fault_did g.R.Source.may_give c.next.new.self c.refused.result c.in-Err.fault (moving c.args.store.now) c.args.tape.now.consumed c.separator_in-separator.result.now c.in-Err.ensures.next c.requires
+    c.separator_in-separator.ensures c.refused.ensures
 
 pub returns-in-Err-clause-quiet : goal.returns-in-Err-clause-quiet
 returns-in-Err-clause-quiet g c =
-    fault_quiet g.R.Source.may_give c.next.new.self c.refused.result c.in-Err.fault c.args.tape.now.consumed c.text_borrowed-separator.result.now g.met.R.Source.gives_some c.in-Err.ensures.next c.refused.ensures
+    fault_quiet g.R.Source.may_give c.next.new.self c.refused.result c.in-Err.fault c.args.tape.now.consumed c.separator_in-separator.result.now g.met.R.Source.gives_some c.in-Err.ensures.next c.refused.ensures
 
 pub returns-in-Ok-None-clause-did : goal.returns-in-Ok-None-clause-did
 returns-in-Ok-None-clause-did g c =
-    missing_did g.R.Source.may_give c.next.new.self c.in-Ok-None.field-0 (moving c.args.store.now) c.args.tape.now.consumed c.text_borrowed-separator.result.now c.in-Ok-None.field-0-is c.in-Ok-None.ensures.next c.requires
-    (c.text_borrowed-separator.ensures ∙ ap text_of c.global_borrowed.ensures)
+    missing_did g.R.Source.may_give c.next.new.self c.in-Ok-None.field-0 (moving c.args.store.now) c.args.tape.now.consumed c.separator_in-separator.result.now c.in-Ok-None.field-0-is c.in-Ok-None.ensures.next c.requires
+    c.separator_in-separator.ensures
 
 pub returns-in-Ok-Some-clause-did : goal.returns-in-Ok-Some-clause-did
 returns-in-Ok-Some-clause-did g c =
-    found_did g.R.Source.may_give c.next.new.self c.take_found.new.tape c.take_found.result c.in-Ok-Some.field-0 c.in-Ok-Some.found (moving c.args.store.now) (moving c.take_found.new.store) c.args.tape.now.consumed c.text_borrowed-separator.result.now
-    c.in-Ok-Some.field-0-is c.in-Ok-Some.ensures.next c.take_found.ensures.tape c.requires (c.text_borrowed-separator.ensures ∙ ap text_of c.global_borrowed.ensures) c.take_found.ensures.did
+    found_did g.R.Source.may_give c.next.new.self c.take_found.new.tape c.take_found.result c.in-Ok-Some.field-0 c.in-Ok-Some.found (moving c.args.store.now) (moving c.take_found.new.store) c.args.tape.now.consumed c.separator_in-separator.result.now
+    c.in-Ok-Some.field-0-is c.in-Ok-Some.ensures.next c.take_found.ensures.tape c.requires c.separator_in-separator.ensures c.take_found.ensures.did
 
 pub returns-in-Ok-Some-clause-quiet : goal.returns-in-Ok-Some-clause-quiet
 returns-in-Ok-Some-clause-quiet g c =

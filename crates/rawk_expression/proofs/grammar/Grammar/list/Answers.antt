@@ -7,28 +7,28 @@ use Rattle.rawk_expression.proofs.grammar.Grammar.list.Goals as goal
 
 pub loop-turn-init : goal.loop-turn-init
 unfolding list
-loop-turn-init g c = first_of (search rules, grind (arith, common_steps))
+loop-turn-init g c = grind (arith, common_steps)
 
 pub returns-in_err-deeper : goal.returns-in_err-deeper
 unfolding list_from
 returns-in_err-deeper g c =
     let e = one_more (λ n. list_from (expression c.args.self.now.depth want.Whole) n c.loop-turn.found c.loop-turn.tokens) _ c.loop-turn._turn c.loop-turn-test.true c.loop-turn.invariant in
-    first_of (search rules, grind (arith, common_steps))
+    grind (arith, common_steps)
 
 pub returns-then-not-eat : goal.returns-then-not-eat
 unfolding list_from
 returns-then-not-eat g c =
     let e = one_more (λ n. list_from (expression c.args.self.now.depth want.Whole) n c.loop-turn.found c.loop-turn.tokens) _ c.loop-turn._turn c.loop-turn-test.true c.loop-turn.invariant in
-    first_of (search rules, grind (arith, common_steps))
+    grind (arith, common_steps)
 
 pub loop-turn-preserved : goal.loop-turn-preserved
 unfolding list_from
 loop-turn-preserved g c =
     let e = one_more (λ n. list_from (expression c.args.self.now.depth want.Whole) n c.loop-turn.found c.loop-turn.tokens) _ c.loop-turn._turn c.loop-turn-test.true c.loop-turn.invariant in
-    first_of (search rules, grind (arith, common_steps))
+    grind (arith, common_steps)
 
 pub returns : goal.returns
 unfolding list_from
 returns g c =
     let e = no_more (λ n. list_from (expression c.args.self.now.depth want.Whole) n c.loop-turn.found c.loop-turn.tokens) _ c.loop-turn._turn c.loop-turn-test.false c.loop-turn.invariant in
-    first_of (search rules, grind (arith, common_steps))
+    grind (arith, common_steps)

@@ -40,4 +40,4 @@ returns-clause-stood g c = λ input may.
     }
 
 pub invariant_of-store : goal.invariant_of-store
-invariant_of-store g c = record { is = c.drop-in_err-step-23.inside.last.is }
+invariant_of-store g c = record { is = c.store.inside.last.is }

@@ -1,0 +1,14 @@
+-- Where records lie.
+use Rattle.rawk_record.specs.Drafts.{IsPlaced, shown_of}
+use Rattle.rawk_record.specs.Shown.{Shown}
+use Rattle.rawk_record.specs.declared.held.Held.{Held}
+use Rattle.rawk_record.specs.declared.held.Held.TheVariants.{Wide, InPlace}
+
+abbrev pub shown_in : Held → Shown
+shown_in (Wide parts) = shown_of parts
+shown_in (InPlace short) = short
+
+-- each field has its place
+abbrev pub IsHeld : Held → Type 0
+IsHeld (Wide parts) = IsPlaced parts
+IsHeld (InPlace short) = Unit {0}

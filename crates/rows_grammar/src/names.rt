@@ -1,0 +1,46 @@
+//! The names of programs: which are arrays, and which texts misuse a name.
+//!
+//! `names`, a text: `ok` and the names of its arrays, those of parameters with a dot before them; or the number of the refusal and its
+//! line.
+
+use crate::reading::{read_text, refused};
+use rawk_names::{NameError, Names, Variable, resolve};
+use rawk_parsing::ParseError;
+use std::alloc::{AllocError, Global};
+
+/// The names of a text's arrays, or why it is refused.
+pub fn answered(alloc: Global, text: &[u8]) -> Result<Vec<u8>, AllocError> {
+    match read_text(alloc, text) {
+        Ok(items) => named(alloc, text, &resolve(alloc, items.as_slice())),
+        Err(ParseError::OutOfMemory) => Err(AllocError),
+        Err(ParseError::Here(kind, left)) => refused(alloc, text, kind.number(), left),
+    }
+}
+
+fn named(
+    alloc: Global,
+    text: &[u8],
+    answer: &Result<Names, NameError>,
+) -> Result<Vec<u8>, AllocError> {
+    match answer {
+        Ok(names) => arrays(alloc, names),
+        Err(NameError::OutOfMemory) => Err(AllocError),
+        Err(NameError::BadEre(left)) => refused(alloc, text, 5, *left),
+        Err(NameError::Misused(left)) => refused(alloc, text, 7, *left),
+    }
+}
+
+/// The names of the arrays.
+fn arrays(alloc: Global, names: &Names) -> Result<Vec<u8>, AllocError> {
+    let mut out = Vec::from_slice(alloc, b"ok")?;
+    for variable in 0..names.variable_count() {
+        if names.is_array(variable) {
+            match names.variable(variable) {
+                Variable::Parameter(_) => out.extend_from_slice(b" .")?,
+                _ => out.extend_from_slice(b" ")?,
+            }
+            out.extend_from_slice(names.variable_name(variable))?;
+        }
+    }
+    Ok(out)
+}
