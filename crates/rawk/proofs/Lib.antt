@@ -1,4 +1,5 @@
 mod SoFar
 mod DialogSoFar
+mod Room
 mod Runs
 mod Sessions

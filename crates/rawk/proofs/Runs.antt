@@ -11,7 +11,7 @@ use Rattle.rawk_code.specs.Trace.{FirstValue, Trace, trace}
 use Rattle.rawk_machine.specs.Standing.{Standing, MayCome, given_of}
 use Rattle.rawk.specs.declared.report.Report.{Report}
 use Rattle.rawk.specs.declared.report.Cause.TheVariants as cause
-use Rattle.rawk.specs.Reports.{stopped_by, write_failures}
+use Rattle.rawk.specs.Reports.{stopped_by, read_failures, write_failures}
 use Rattle.rawk.specs.Preparing as preparing
 use Rattle.rawk.specs.Preparing.{IsReady, IsRefused}
 use Rattle.rawk.specs.Runs.{IsRunOf, Runs, IsRun, trace_of}
@@ -62,6 +62,12 @@ pub refused_writes : (text : Bytes) (settings : List FirstValue) (report : Repor
 refused_writes text settings _ (preparing.text_refused refusal complete) = refl
 refused_writes text settings _ (preparing.settings_refused p found fits) = refl
 refused_writes text settings _ (preparing.not_compiled p found fits) = refl
+
+-- and no failed read
+pub refused_reads : (text : Bytes) (settings : List FirstValue) (report : Report) → IsRefused text settings report → read_failures report.cause ≡ 0
+refused_reads text settings _ (preparing.text_refused refusal complete) = refl
+refused_reads text settings _ (preparing.settings_refused p found fits) = refl
+refused_reads text settings _ (preparing.not_compiled p found fits) = refl
 
 pub unchanged : (a n : ℕ) → n ≡ 0 → a ≡ a + n
 unchanged a n none = omega (arith, none)

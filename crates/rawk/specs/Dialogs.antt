@@ -1,9 +1,10 @@
 -- The dialog of a session: the lines of its commands, and what was written of the answers.
-use Rattle.std.specs.Prelude.{◌≡◌, ◌≢◌, ℕ, ◌<◌, ◌≤◌, Bool, true, false, List, [], ◌∷◌, ◌++◌, length, slice_index, Some, None, Ok, Err}
+use Rattle.std.specs.Prelude.{◌≡◌, ℕ, ◌-◌, ◌^◌, ◌<◌, ◌≤◌, ◌⊎◌, Bool, true, false, List, [], ◌∷◌, ◌++◌, length, Some, None, Ok, Err}
 use Rattle.rawk_value.specs.Values.{Bytes}
 use Rattle.rawk_value.specs.declared.fault.Fault.{Fault}
 use Rattle.rawk_value.specs.declared.fault.Fault.TheVariants.{OutOfMemory, ReadFailed, WriteFailed}
 use Rattle.rawk_tape.specs.Records.{Input, next_record}
+use Rattle.rawk_tape.specs.Inputs.{CountsUp, before}
 use Rattle.rawk_code.specs.Laws.{IsBeginning}
 use Rattle.rawk_commands.specs.Reading.{reading}
 use Rattle.rawk_debug.specs.declared.transcript.Reply.{Reply}
@@ -15,6 +16,7 @@ use Rattle.rawk.specs.declared.dialog.Over.TheVariants.{Ended, Unread, Unwritten
 use Rattle.rawk.specs.declared.report.Report.{Report}
 use Rattle.rawk.specs.declared.report.Cause.TheVariants as cause
 use Rattle.rawk.specs.Reports.{stopped_by}
+use Rattle.rawk.specs.Reads.{IsDue, IsLong}
 
 abbrev pub newline : Bytes
 newline = 10 ∷ []
@@ -40,14 +42,6 @@ HasNoLine input count Unread = next_record input count newline ≡ Err ReadFaile
 HasNoLine input count Unwritten = ⊥
 HasNoLine input count NoMemory = Unit {0}
 
--- all that was read of the commands, where the line that is due begins at this count: what stood there before the last read, which gave 65,536 bytes at most, did not hold that line's end
-pub record IsDue (read : Bytes) (count : ℕ) : Type 0 where
-  pub held : Bytes
-  pub chunk : Bytes
-  pub whole : read ≡ held ++ chunk
-  pub bounded : length chunk ≤ 65536
-  pub without : (k : ℕ) → count ≤ k → k < length held → slice_index held k ≢ 10
-
 -- A dialog on an input of the program, with these commands, of which so much was read: from where the session stood to where it stands, how it is over, and what was written of the transcript of the lines that were read. Behind a `quit` no line is read, and before a line is read all answers before it are written.
 pub data IsDialog (input asked : Input) (read : Bytes) (first last : Stand) : Over → Bytes → Type 0 where
   -- the commands are at their end
@@ -57,8 +51,8 @@ pub data IsDialog (input asked : Input) (read : Bytes) (first last : Stand) : Ov
       → Transcript input (lines ++ line ∷ []) first text last → IsDialog input asked read first last Ended text
   -- the next line could not be read
   unread : (lines : List Bytes) (count : ℕ) (text : Bytes) → LinesTo asked 0 lines count → NoneQuits lines → next_record asked count newline ≡ Err ReadFailed → IsDue read count → Transcript input lines first text last → IsDialog input asked read first last Unread text
-  -- memory was refused for the reading of the next line
-  no_memory : (lines : List Bytes) (count : ℕ) (text : Bytes) → LinesTo asked 0 lines count → NoneQuits lines → IsDue read count → Transcript input lines first text last → IsDialog input asked read first last NoMemory text
+  -- memory was refused for the reading of the next line, which has 65,536 bytes and more; or as many lines were carried out as are counted
+  no_memory : (lines : List Bytes) (count : ℕ) (text : Bytes) → LinesTo asked 0 lines count → NoneQuits lines → IsDue read count → IsLong read count ⊎ (2 ^ 64 - 1 ≤ length lines) → Transcript input lines first text last → IsDialog input asked read first last NoMemory text
   -- all answers before the last one were written, and of that a part at most
   unwritten : (lines : List Bytes) (line : Bytes) (count next : ℕ) (mid : Stand) (before text taken : Bytes) → LinesTo asked 0 lines count → IsNextLine asked count line next → IsDue read count → NoneQuits (lines ++ line ∷ []) → Transcript input lines first before mid
       → Transcript input (lines ++ line ∷ []) first text last → IsBeginning before taken → IsBeginning taken text → length taken < length text → IsDialog input asked read first last Unwritten taken
@@ -79,13 +73,19 @@ report_over Unread = stopped_by (cause.Faulted ReadFailed) 0
 report_over Unwritten = stopped_by (cause.Faulted WriteFailed) 0
 report_over NoMemory = stopped_by (cause.Faulted OutOfMemory) 0
 
--- A dialog was held from where a session stood first, on an input that might be and with commands that might be: the sink took what was written of it.
-pub record IsHeld {V : Type 0} (may_be may_ask : Input → Type 0) (may_hold : V → Bytes → Type 0) (first : Stand) (sink now : V) (over : Over) : Type 0 where
-  pub input : Input
-  pub asked : Input
+-- A dialog was held on a machine, from where its session stood first: this was read of the commands, and on each input that might be, with commands that might be, the sink took what was written of it.
+pub record Speaks {M C V : Type 0} (may_be : M → Input → Type 0) (may_give : C → Input → Type 0) (handed : C → ℕ) (may_hold : V → Bytes → Type 0) (first last : Stand) (machine : M) (commands new : C) (sink now : V) (over : Over) : Type 0 where
   pub read : Bytes
+  pub comes : (rest : Input) → may_give new rest → may_give commands (before read rest)
+  pub counted : CountsUp (handed commands) (handed new) (length read)
+  pub taken : (input rest : Input) → may_be machine input → may_give new rest → (held : Bytes) → may_hold sink held → (taken : Bytes) × may_hold now (held ++ taken) × IsDialog input (before read rest) read first last over taken
+
+-- A dialog was held from where a session stood first, on an input that might be and with commands that might be, of which this was read: the sink took what was written of it.
+pub record IsHeld {V : Type 0} (may_be : Input → Type 0) (asks : Bytes → Input → Type 0) (may_hold : V → Bytes → Type 0) (first : Stand) (sink now : V) (over : Over) : Type 0 where
+  pub input : Input
+  pub read : Bytes
+  pub asked : Input
   pub last : Stand
   pub may : may_be input
-  pub asks : may_ask asked
-  pub begun : IsBeginning read asked.bytes
+  pub gives : asks read asked
   pub taken : (held : Bytes) → may_hold sink held → (taken : Bytes) × may_hold now (held ++ taken) × IsDialog input asked read first last over taken

@@ -1,6 +1,6 @@
 -- Reports where a run or a session was not let to its end, or not begun.
 use Rattle.std.specs.Prelude.{ℕ}
-use Rattle.rawk_value.specs.declared.fault.Fault.TheVariants.{WriteFailed}
+use Rattle.rawk_value.specs.declared.fault.Fault.TheVariants.{ReadFailed, WriteFailed}
 use Rattle.rawk_parsing.specs.declared.refusal.Refusal.{Refusal}
 use Rattle.rawk.specs.declared.report.Report.{Report}
 use Rattle.rawk.specs.declared.report.Cause.{Cause}
@@ -18,3 +18,8 @@ refused_by refusal = record { status = 2; cause = cause.Refused refusal.kind; li
 abbrev pub write_failures : Cause → ℕ
 write_failures (cause.Faulted WriteFailed) = 1
 write_failures _ = 0
+
+-- how many failed reads of a session's commands a cause reports
+abbrev pub read_failures : Cause → ℕ
+read_failures (cause.Faulted ReadFailed) = 1
+read_failures _ = 0

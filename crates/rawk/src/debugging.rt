@@ -7,12 +7,14 @@ ghost use Rattle.rawk_store.specs.Keeping.{keeps_any};
 ghost use Rattle.rawk_code.specs.Correct.{CodeOf};
 ghost use Rattle.rawk_machine.specs.Standing.{MayCome};
 ghost use Rattle.rawk_inferior.specs.Staged.{position_of};
-ghost use Rattle.rawk.specs.Reports.{write_failures};
+ghost use Rattle.rawk.specs.Reads.{WasRead};
+ghost use Rattle.rawk.specs.Reports.{read_failures, write_failures};
 ghost use Rattle.rawk.specs.Dialogs.{IsHeld, report_over};
 ghost use Rattle.rawk_limits.specs.History.{IsHistory};
 ghost use Rattle.rawk.specs.Debugs.{Debugs, asks_all, first_position, first_stand, stand_at};
 
 use crate::dialog::{Over, hold};
+use crate::lines::Lines;
 use crate::preparing::{Prepared, prepare};
 use crate::report::{Cause, Report, stopped};
 use rawk_code::Settings;
@@ -20,7 +22,7 @@ use rawk_debug::{Session, Stepper};
 use rawk_inferior::Stage;
 use rawk_machine::{Full, Keeper, Machine};
 use rawk_store::Ring;
-use rawk_tape::{BytesSource, Sink, Source, Tape};
+use rawk_tape::{BytesSource, Sink, Source};
 use rawk_value::Fault;
 use std::alloc::{AllocError, Global};
 
@@ -42,19 +44,21 @@ fn report_of(over: Over) -> Report
 }
 
 /// Holds a session on a machine, from where it stands, with commands from a source.
-fn session_on<M: Stepper, C: Source + Drop, W: Sink>(
+fn session_on<M: Stepper, C: Source, W: Sink>(
     alloc: Global,
     machine: M,
-    commands: C,
+    mut lines: Lines,
+    commands: &mut C,
     sink: &mut W,
 ) -> Over
-    requires unread { C.over commands ≡ None }
-    ensures held { IsHeld (M.may_be machine) (C.may_give commands) W.may_hold (stand_at (M.position machine)) sink.old sink.new result }
+    requires fresh { lines ≡ record { bytes = []; over = None; taken = 0 } }
+    requires unread { C.over commands.old ≡ None }
+    ensures held { IsHeld (M.may_be machine) (WasRead C.may_give C.handed commands.old commands.new) W.may_hold (stand_at (M.position machine)) sink.old sink.new result }
     ensures failures { CountsUp (W.failures sink.old) (W.failures sink.new) (write_failures (report_over result).cause) }
+    ensures read { CountsUp (C.failures commands.old) (C.failures commands.new) (read_failures (report_over result).cause) }
 {
     let mut session = Session::new(alloc, machine);
-    let mut commands = Tape::new(alloc, commands);
-    let over = hold(alloc, &mut session, &mut commands, sink);
+    let over = hold(alloc, &mut session, &mut lines, commands, sink);
     session.machine().known();
     over
 }
@@ -81,36 +85,39 @@ fn stage_of<R: Source + Drop, K: Keeper>(
 }
 
 /// Holds a session over a program that is ready to run, under a keeper that keeps. It fails where memory is refused before the session stands.
-fn session_over<R: Source + Drop, K: Keeper, C: Source + Drop, W: Sink>(
+fn session_over<R: Source + Drop, K: Keeper, C: Source, W: Sink>(
     alloc: Global,
     settings: &Settings,
     prepared: Prepared,
     source: R,
     keeper: K,
-    commands: C,
+    commands: &mut C,
     sink: &mut W,
     steps: u64,
 ) -> Result<Over, AllocError>
     requires compiled { CodeOf prepared.program prepared.code }
     requires open { R.over source ≡ None }
-    requires unread { C.over commands ≡ None }
+    requires unread { C.over commands.old ≡ None }
     requires empty { K.kept keeper ≡ [] }
     requires keeps { keeps_any (K.limit keeper) ≡ true }
-    ensures held { IfOk result (IsHeld (R.may_give source) (C.may_give commands) W.may_hold (first_stand prepared.program settings.now steps (K.limit keeper)) sink.old sink.new) }
+    ensures held { IfOk result (IsHeld (R.may_give source) (WasRead C.may_give C.handed commands.old commands.new) W.may_hold (first_stand prepared.program settings.now steps (K.limit keeper)) sink.old sink.new) }
     ensures failures { IfOk result (λ over. CountsUp (W.failures sink.old) (W.failures sink.new) (write_failures (report_over over).cause)) }
+    ensures read { IfOk result (λ over. CountsUp (C.failures commands.old) (C.failures commands.new) (read_failures (report_over over).cause)) }
     ensures err { OnErr result (sink.new ≡ sink.old) }
+    ensures none { OnErr result (commands.new ≡ commands.old) }
 {
     let stage = stage_of(alloc, settings, prepared, source, keeper, steps)?;
-    Ok(session_on(alloc, stage, commands, sink))
+    let lines = Lines::new(alloc)?;
+    Ok(session_on(alloc, stage, lines, commands, sink))
 }
 
 /// Holds a session over a program that is ready to run, and keeps so many steps, or all. It fails where memory is refused before the session stands.
-fn session_kept<R: Source + Drop, C: Source + Drop, W: Sink>(
+fn session_kept<R: Source + Drop, C: Source, W: Sink>(
     alloc: Global,
     settings: &Settings,
     prepared: Prepared,
     source: R,
-    commands: C,
+    commands: &mut C,
     sink: &mut W,
     steps: u64,
     history: Option<u64>,
@@ -118,10 +125,12 @@ fn session_kept<R: Source + Drop, C: Source + Drop, W: Sink>(
     requires compiled { CodeOf prepared.program prepared.code }
     requires history { IsHistory history }
     requires open { R.over source ≡ None }
-    requires unread { C.over commands ≡ None }
-    ensures held { IfOk result (IsHeld (R.may_give source) (C.may_give commands) W.may_hold (first_stand prepared.program settings.now steps history) sink.old sink.new) }
+    requires unread { C.over commands.old ≡ None }
+    ensures held { IfOk result (IsHeld (R.may_give source) (WasRead C.may_give C.handed commands.old commands.new) W.may_hold (first_stand prepared.program settings.now steps history) sink.old sink.new) }
     ensures failures { IfOk result (λ over. CountsUp (W.failures sink.old) (W.failures sink.new) (write_failures (report_over over).cause)) }
+    ensures read { IfOk result (λ over. CountsUp (C.failures commands.old) (C.failures commands.new) (read_failures (report_over over).cause)) }
     ensures err { OnErr result (sink.new ≡ sink.old) }
+    ensures none { OnErr result (commands.new ≡ commands.old) }
 {
     match history {
         None => {
@@ -140,17 +149,17 @@ fn session_kept<R: Source + Drop, C: Source + Drop, W: Sink>(
 }
 
 /// Holds a session on the program's text, with commands from a source of their own, and writes the answers to a sink, each one before the next command
-/// is asked for. `history` is how many steps it keeps, to go back over; without one it keeps all.
+/// is read, and none is read behind `quit`. `history` is how many steps it keeps, to go back over; without one it keeps all.
 ///
 /// The report has status 0, but for: a refusal of the text (P1 to P10) or of a first value (S1), where nothing was written; F11, where the sink failed;
-/// F12, where memory was refused before the session stood, or for the reading of a command; F10, where the commands could not
-/// be read. What else a session meets, it answers.
-pub fn debug_from<R: Source + Drop, C: Source + Drop, W: Sink>(
+/// F12, where memory was refused before the session stood, or for the reading of a command of 65,536 bytes or more, or where 2^64 - 1 commands were carried out;
+/// F10, exactly where a read of the commands failed. What else a session meets, it answers.
+pub fn debug_from<R: Source + Drop, C: Source, W: Sink>(
     alloc: Global,
     settings: &Settings,
     program: &[u8],
     source: R,
-    commands: C,
+    commands: &mut C,
     sink: &mut W,
     steps: u64,
     history: Option<u64>,
@@ -158,9 +167,10 @@ pub fn debug_from<R: Source + Drop, C: Source + Drop, W: Sink>(
     requires limit { steps ≤ 9223372036854775807 }
     requires history { IsHistory history }
     requires open { R.over source ≡ None }
-    requires unread { C.over commands ≡ None }
-    ensures reported { Debugs R.may_give C.may_give W.may_hold program.now settings.now source commands steps history sink.old sink.new result }
+    requires unread { C.over commands.old ≡ None }
+    ensures reported { Debugs R.may_give (WasRead C.may_give C.handed commands.old commands.new) W.may_hold program.now settings.now source steps history sink.old sink.new result }
     ensures failures { CountsUp (W.failures sink.old) (W.failures sink.new) (write_failures result.cause) }
+    ensures read { CountsUp (C.failures commands.old) (C.failures commands.new) (read_failures result.cause) }
 {
     let prepared = match prepare(alloc, settings, program) {
         Ok(prepared) => prepared,
@@ -197,12 +207,12 @@ pub fn debug_with<R: Source + Drop, W: Sink>(
     requires limit { steps ≤ 9223372036854775807 }
     requires history { IsHistory history }
     requires open { R.over source ≡ None }
-    ensures reported { Debugs R.may_give asks_all W.may_hold program.now settings.now source commands.now steps history sink.old sink.new result }
+    ensures reported { Debugs R.may_give (asks_all commands.now) W.may_hold program.now settings.now source steps history sink.old sink.new result }
     ensures failures { CountsUp (W.failures sink.old) (W.failures sink.new) (write_failures result.cause) }
 {
     match source_of(alloc, commands) {
-        Ok(lines) => debug_from(
-            alloc, settings, program, source, lines, sink, steps, history,
+        Ok(mut lines) => debug_from(
+            alloc, settings, program, source, &mut lines, sink, steps, history,
         ),
         Err(_) => stopped(Cause::Faulted(Fault::OutOfMemory), 0),
     }
@@ -220,7 +230,7 @@ pub fn debug<R: Source + Drop, W: Sink>(
 ) -> Report
     requires limit { steps ≤ 9223372036854775807 }
     requires open { R.over source ≡ None }
-    ensures reported { Debugs R.may_give asks_all W.may_hold program.now settings.now source commands.now steps None sink.old sink.new result }
+    ensures reported { Debugs R.may_give (asks_all commands.now) W.may_hold program.now settings.now source steps None sink.old sink.new result }
     ensures failures { CountsUp (W.failures sink.old) (W.failures sink.new) (write_failures result.cause) }
 {
     debug_with(

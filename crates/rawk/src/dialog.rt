@@ -1,16 +1,15 @@
 //! Command lines are carried out one after another.
 
-ghost use Rattle.std.specs.Prelude.{◌≡◌, ◌≤◌, ◌<◌, ◌⊎◌, ◌++◌, [], List, ℕ, length, slice_range, IfOk, IfErr};
+ghost use Rattle.std.specs.Prelude.{◌≡◌, [], None};
 ghost use Rattle.rawk_tape.specs.Inputs.{CountsUp};
 ghost use Rattle.rawk_tape.specs.Records.{Input};
-ghost use Rattle.rawk_tape.specs.Tapes.{LastRead, MayBe};
 ghost use Rattle.rawk_debug.specs.Sessions.{stand, machine_of};
-ghost use Rattle.rawk.specs.Reports.{write_failures};
-ghost use Rattle.rawk.specs.Dialogs.{HasNoLine, IsDialog, IsNextLine, newline, over_of, quits_by, report_over};
+ghost use Rattle.rawk.specs.Reports.{read_failures, write_failures};
+ghost use Rattle.rawk.specs.Dialogs.{Speaks, quits_by, report_over};
 
+use crate::lines::Lines;
 use rawk_debug::{Reply, Session, Stepper, carry_out};
-use rawk_tape::{Found, Sink, Source, Tape, write_all};
-use rawk_value::Fault;
+use rawk_tape::{Sink, Source, write_all};
 use std::alloc::Global;
 
 /// How a dialog is over.
@@ -22,19 +21,8 @@ pub enum Over {
     Unread,
     /// an answer could not be written
     Unwritten,
-    /// memory was refused for the reading of a command
+    /// memory was refused for the reading of a command that has 65,536 bytes or more, or 2^64 - 1 were carried out
     NoMemory,
-}
-
-/// How a dialog is over whose next command is a fault.
-fn unread(fault: Fault) -> Over
-    ensures over { result ≡ over_of fault }
-    ensures failures { write_failures (report_over result).cause ≡ 0 }
-{
-    match fault {
-        Fault::OutOfMemory => Over::NoMemory,
-        _ => Over::Unread,
-    }
 }
 
 /// Whether a reply ends the session.
@@ -47,50 +35,30 @@ fn quits(reply: &Reply) -> bool
     }
 }
 
-/// The next line of the commands, which are kept; or how the dialog is over that has none.
-fn next_line<C: Source + Drop>(commands: &mut Tape<C>) -> Result<Found, Over>
-    ensures comes { (asked : Input) → MayBe C.may_give commands.new asked → MayBe C.may_give commands.old asked }
-    ensures line { IfOk result (λ found. (asked : Input) → MayBe C.may_give commands.new asked
-        → IsNextLine asked commands.old.consumed (slice_range commands.new.bytes found.start found.end) commands.new.consumed) }
-    ensures within { IfOk result (λ found. (found.start ≤ found.end) × (found.end ≤ length commands.new.bytes)) }
-    ensures consumed { IfOk result (λ found. (commands.old.consumed < found.count) × (commands.new.consumed ≡ found.count)) }
-    ensures lazy { (commands.new.bytes ≡ commands.old.bytes) ⊎ LastRead newline commands.old.consumed commands.old.bytes commands.new.bytes }
-    ensures over { IfErr result (λ over. (asked : Input) → MayBe C.may_give commands.new asked → HasNoLine asked commands.old.consumed over) }
-    ensures failures { IfErr result (λ over. write_failures (report_over over).cause ≡ 0) }
-{
-    match commands.next(b"\n") {
-        Ok(Some(found)) => {
-            commands.consume(found.count);
-            Ok(found)
-        }
-        Ok(None) => Err(Over::Ended),
-        Err(fault) => Err(unread(fault)),
-    }
-}
-
 /// Carries out each line of the commands when it is read, and hands its answer on before the next one is asked for, until the commands
-/// are at their end, one of them is `quit`, or a device fails. A line ends at a newline; the last one needs none. The lines
-/// that were read are kept. The commands are read only while those held do not have the line that is due.
-pub fn hold<M: Stepper, C: Source + Drop, W: Sink>(
+/// are at their end, one of them is `quit`, or a device fails. A line ends at a newline; the last one needs none. A line that was
+/// carried out is let go. The commands are read only while the bytes kept do not hold the end of the line that is due.
+pub fn hold<M: Stepper, C: Source, W: Sink>(
     alloc: Global,
     session: &mut Session<M>,
-    commands: &mut Tape<C>,
+    lines: &mut Lines,
+    commands: &mut C,
     sink: &mut W,
 ) -> Over
-    requires begun { commands.old.consumed ≡ 0 }
-    requires unread { commands.old.bytes ≡ [] }
-    ensures dialog { (input asked : Input) → M.may_be (machine_of session.new) input → MayBe C.may_give commands.new asked → (held : List ℕ) → W.may_hold sink.old held
-        → (taken : List ℕ) × W.may_hold sink.new (held ++ taken) × IsDialog input asked commands.new.bytes (stand M.position session.old) (stand M.position session.new) result taken }
+    requires fresh { lines.old ≡ record { bytes = []; over = None; taken = 0 } }
+    requires open { C.over commands.old ≡ None }
+    ensures speaks { Speaks M.may_be C.may_give C.handed W.may_hold (stand M.position session.old) (stand M.position session.new) (machine_of session.new) commands.old commands.new sink.old sink.new result }
     ensures narrows { (input : Input) → M.may_be (machine_of session.new) input → M.may_be (machine_of session.old) input }
-    ensures asked { (asked : Input) → MayBe C.may_give commands.new asked → MayBe C.may_give commands.old asked }
     ensures failures { CountsUp (W.failures sink.old) (W.failures sink.new) (write_failures (report_over result).cause) }
+    ensures unread { CountsUp (C.failures commands.old) (C.failures commands.new) (read_failures (report_over result).cause) }
 {
     'lines: loop {
-        let found = match next_line(commands) {
-            Ok(found) => found,
+        let line = match lines.next(commands) {
+            Ok(line) => line,
             Err(over) => return over,
         };
-        let reply = carry_out(alloc, session, commands.text(&found));
+        let reply = carry_out(alloc, session, lines.text(line));
+        lines.let_go(line);
         if quits(&reply) {
             return Over::Ended;
         }

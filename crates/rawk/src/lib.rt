@@ -3,6 +3,7 @@
 
 mod debugging;
 mod dialog;
+mod lines;
 mod preparing;
 mod report;
 mod running;

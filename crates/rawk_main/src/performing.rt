@@ -164,7 +164,7 @@ fn hold_session<R: Files + AllocGlobal + Input + Print + Eprint>(
         &invocation.settings,
         program,
         StdSource::new(input),
-        StdSource::new(commands),
+        &mut StdSource::new(commands),
         &mut StdSink::new(&mut buffer),
         invocation.steps,
         invocation.history,

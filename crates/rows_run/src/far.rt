@@ -31,7 +31,7 @@ fn input(alloc: Global) -> Result<Vec<u8>, AllocError> {
 /// What the session answers.
 pub fn answered(alloc: Global) -> Result<Vec<u8>, AllocError> {
     let mut source = source_of(input(alloc)?, alloc);
-    let commands = source_of(
+    let mut commands = source_of(
         Vec::from_slice(alloc, b"c\nprint s\nrc\nprint s\nc\nprint s\n")?,
         alloc,
     );
@@ -42,12 +42,13 @@ pub fn answered(alloc: Global) -> Result<Vec<u8>, AllocError> {
         &settings,
         b"{ s += $1 }",
         &mut source,
-        commands,
+        &mut commands,
         &mut sink,
         STEPS,
         None,
     );
     drop(settings);
+    drop(commands);
     let handed = source.handed();
     drop(source);
     let text = told(alloc, sink.bytes(), report.status, handed);

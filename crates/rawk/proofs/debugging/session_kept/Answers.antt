@@ -1,14 +1,15 @@
 use Rattle.std.proofs.Common.{ℕ, sym, ap, ◌∙◌, subst, Option, Some, IfOk}
+use Rattle.rawk.specs.Reads.{WasRead}
 use Rattle.rawk.specs.Dialogs.{IsHeld}
 use Rattle.rawk.specs.Debugs.{first_stand}
 use Rattle.rawk.proofs.debugging.session_kept.Goals as goal
 
 pub returns-in-None-clause-held : goal.returns-in-None-clause-held
 returns-in-None-clause-held g c =
-    subst (λ (o : Option ℕ). IfOk c.session_over.result (IsHeld (g.R.Source.may_give c.args.source) (g.C.Source.may_give c.args.commands) g.W.Sink.may_hold (first_stand c.args.prepared.program c.args.settings.now c.args.steps o) c.args.sink.now c.session_over.new.sink))
+    subst (λ (o : Option ℕ). IfOk c.session_over.result (IsHeld (g.R.Source.may_give c.args.source) (WasRead g.C.Source.may_give g.C.Source.handed c.args.commands.now c.session_over.new.commands) g.W.Sink.may_hold (first_stand c.args.prepared.program c.args.settings.now c.args.steps o) c.args.sink.now c.session_over.new.sink))
     (sym c.in-None.is) c.session_over.ensures.held
 
 pub returns-in_ok-ring-in-Some-clause-held : goal.returns-in_ok-ring-in-Some-clause-held
 returns-in_ok-ring-in-Some-clause-held g c =
-    subst (λ (o : Option ℕ). IfOk c.session_over-in-Some.result (IsHeld (g.R.Source.may_give c.args.source) (g.C.Source.may_give c.args.commands) g.W.Sink.may_hold (first_stand c.args.prepared.program c.args.settings.now c.args.steps o) c.args.sink.now c.session_over-in-Some.new.sink))
+    subst (λ (o : Option ℕ). IfOk c.session_over-in-Some.result (IsHeld (g.R.Source.may_give c.args.source) (WasRead g.C.Source.may_give g.C.Source.handed c.args.commands.now c.session_over-in-Some.new.commands) g.W.Sink.may_hold (first_stand c.args.prepared.program c.args.settings.now c.args.steps o) c.args.sink.now c.session_over-in-Some.new.sink))
     (ap (λ (n : ℕ). Some n) c.in_ok-ring-in-Some.ensures.1 ∙ sym c.in-Some.is) c.session_over-in-Some.ensures.held

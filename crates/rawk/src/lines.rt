@@ -1,0 +1,289 @@
+//! The lines of commands, read from a source that is handed in.
+
+ghost use Rattle.std.specs.Prelude.{◌≡◌, ◌≢◌, ◌≤◌, ◌<◌, ◌-◌, ◌+◌, ◌^◌, ◌⊎◌, [], drop, take, length, None, Some, Err, IfOk, IfErr, OnOk, OnErr};
+ghost use Rattle.std.specs.List.{position_or_len};
+ghost use Rattle.rawk_tape.specs.declared.source.Ending.{Ending as End};
+ghost use Rattle.rawk_tape.specs.Records.{Input};
+ghost use Rattle.rawk_tape.specs.Inputs.{CountsUp, before, ending_of, failures_of, size_taken};
+ghost use Rattle.rawk_tape.specs.Tapes.{ReadsOn};
+ghost use Rattle.rawk.specs.Reads.{IsDue, IsLong, ReadsMore, failures_by, is_newline};
+ghost use Rattle.rawk.specs.Reports.{read_failures, write_failures};
+ghost use Rattle.rawk.specs.Dialogs.{HasNoLine, IsNextLine, report_over};
+
+use crate::dialog::Over;
+use memchr::memchr;
+use rawk_tape::{DeviceFault, Ending, Source};
+use std::alloc::{AllocError, Global};
+use std::marker::Model;
+
+/// How many bytes a read asks for, at most, and for how many there is room before the first one.
+const CHUNK: usize = 65_536;
+
+/// The line that stands first among the bytes kept.
+#[derive(Clone, Copy)]
+pub struct Line {
+    /// how many bytes it has
+    pub size: usize,
+    /// how many it has with the newline behind it, which the last one may lack
+    pub count: usize,
+}
+
+/// How many bytes stand before the first newline.
+fn first_newline(bytes: &[u8]) -> usize
+    ensures { result ≡ position_or_len is_newline bytes.now }
+{
+    match memchr(b'\n', bytes) {
+        Some(at) => at,
+        None => bytes.len(),
+    }
+}
+
+/// How many bytes a read took.
+fn size_of_read(read: &Result<usize, DeviceFault>) -> usize
+    ensures { result ≡ size_taken read.now }
+{
+    match read {
+        Ok(size) => *size,
+        Err(_) => 0,
+    }
+}
+
+/// What a read reported of the end.
+fn ending_of_read(read: &Result<usize, DeviceFault>) -> Option<Ending>
+    ensures { result ≡ ending_of read.now }
+{
+    match read {
+        Ok(0) => Some(Ending::Ended),
+        Ok(_) => None,
+        Err(_) => Some(Ending::Failed),
+    }
+}
+
+/// Makes room behind the first `end` bytes, where there is none.
+fn make_room(items: &mut Vec<u8>, end: usize) -> Result<(), AllocError>
+    requires { end ≤ length items.old.items }
+    ensures room { OnOk result (end < length items.new.items) }
+    ensures longer { length items.old.items ≤ length items.new.items }
+    ensures kept { take end items.new.items ≡ take end items.old.items }
+    ensures full { OnErr result (end ≡ length items.old.items) }
+{
+    if end == items.len() {
+        items.resize(end + CHUNK, 0)?;
+    }
+    Ok(())
+}
+
+/// Reads once into the room behind the first `end` bytes.
+fn read_behind<C: Source>(
+    source: &mut C,
+    items: &mut [u8],
+    end: usize,
+) -> Result<usize, DeviceFault>
+    requires open { C.over source.old ≡ None }
+    requires room { end < length items.old }
+    ensures in_bounds { end + size_taken result ≤ length items.new }
+    ensures reads { ReadsOn C.may_give C.over C.handed source.old (take end items.old)
+        source.new (take (end + size_taken result) items.new) }
+    ensures over { C.over source.new ≡ ending_of result }
+    ensures failures { CountsUp (C.failures source.old) (C.failures source.new) (failures_of result) }
+    ensures none { C.over source.new ≡ Some End.Failed → take (end + size_taken result) items.new ≡ take end items.old }
+    ensures len { length items.new ≡ length items.old }
+{
+    let size = (items.len() - end).min(CHUNK);
+    source.read(&mut items[end..end + size])
+}
+
+/// Moves the bytes from `start` up to `end` to the front, and answers where they end there.
+fn move_to_front(items: &mut Vec<u8>, start: usize, end: usize) -> usize
+    requires low { start ≤ end }
+    requires high { end ≤ length items.old.items }
+    ensures kept { take result items.new.items ≡ drop start (take end items.old.items) }
+    ensures value { result ≡ end - start }
+    ensures len { length items.new.items ≡ length items.old.items }
+{
+    items.copy_within(start..end, 0);
+    end - start
+}
+
+/// The bytes that were read of a source and not let go yet. There is room for 65,536 bytes before the first read, and more
+/// is taken only where a line is longer.
+#[derive(Drop)]
+pub struct Lines {
+    items: Vec<u8>,
+    start: usize,
+    end: usize,
+    over: Option<Ending>,
+    taken: u64,
+}
+
+impl Model for Lines {
+    ghost use Rattle.std.specs.Prelude.{◌≤◌, drop, take, vec_len};
+    ghost use Rattle.rawk.specs.Reads.{LinesState};
+
+    ghost Value = { LinesState };
+
+    ghost view = { λ l. record { bytes = drop l.start (take l.end l.items.items); over = l.over; taken = l.taken } };
+
+    ghost invariant = { λ l. (l.start ≤ l.end) × (l.end ≤ vec_len l.items) × (65536 ≤ vec_len l.items) };
+}
+
+impl Lines {
+    /// No bytes, of a source that was not read. It fails where memory is refused.
+    pub fn new(alloc: Global) -> Result<Self, AllocError>
+        ensures { IfOk result (λ lines. lines ≡ record { bytes = []; over = None; taken = 0 }) }
+    {
+        let mut items = Vec::new(alloc);
+        items.resize(CHUNK, 0)?;
+        Ok(Lines {
+            items,
+            start: 0,
+            end: 0,
+            over: None,
+            taken: 0,
+        })
+    }
+
+    /// The bytes that are kept.
+    fn kept(&self) -> &[u8]
+        ensures value { result.now ≡ self.now.bytes }
+        ensures small { length result.now < 2 ^ 63 }
+    {
+        let held = &self.items[..self.end];
+        &held[self.start..]
+    }
+
+    /// How the source is over.
+    fn over(&self) -> Option<Ending>
+        ensures { result ≡ self.now.over }
+    {
+        self.over
+    }
+
+    /// How many lines were let go.
+    fn taken(&self) -> u64
+        ensures { result ≡ self.now.taken }
+    {
+        self.taken
+    }
+
+    /// Reads once more behind the bytes.
+    fn fill<C: Source>(&mut self, source: &mut C) -> Result<(), AllocError>
+        requires { C.over source.old ≡ None }
+        ensures reads { OnOk result (ReadsOn C.may_give C.over C.handed source.old self.old.bytes source.new self.new.bytes) }
+        ensures reported { OnOk result (C.over source.new ≡ self.new.over) }
+        ensures failures { OnOk result (CountsUp (C.failures source.old) (C.failures source.new) (failures_by self.new.over)) }
+        ensures failed { OnOk result (self.new.over ≡ Some End.Failed → self.new.bytes ≡ self.old.bytes) }
+        ensures taken { self.new.taken ≡ self.old.taken }
+        ensures source { OnErr result (source.new ≡ source.old) }
+        ensures same { OnErr result (self.new ≡ self.old) }
+        ensures long { OnErr result (65536 ≤ length self.old.bytes) }
+    {
+        self.end = move_to_front(&mut self.items, self.start, self.end);
+        self.start = 0;
+        make_room(&mut self.items, self.end)?;
+        let read = read_behind(source, &mut self.items, self.end);
+        self.end += size_of_read(&read);
+        self.over = ending_of_read(&read);
+        Ok(())
+    }
+
+    /// Reads until the bytes hold a newline or the source is over, and answers how many bytes stand before the newline. It fails where
+    /// memory is refused for a line that is longer than the room.
+    fn read_line<C: Source>(&mut self, source: &mut C) -> Result<usize, AllocError>
+        requires reported { C.over source.old ≡ self.old.over }
+        requires unfailed { self.old.over ≢ Some End.Failed }
+        ensures place { IfOk result (λ size. size ≡ position_or_len is_newline self.new.bytes) }
+        ensures settled { IfOk result (λ size. self.new.over ≡ None → size < length self.new.bytes) }
+        ensures failed { self.new.over ≡ Some End.Failed → length self.new.bytes ≤ position_or_len is_newline self.new.bytes }
+        ensures reported { C.over source.new ≡ self.new.over }
+        ensures taken { self.new.taken ≡ self.old.taken }
+        ensures reads { ReadsMore C.may_give C.handed source.old self.old.bytes source.new self.new.bytes }
+        ensures lazy { (self.new.bytes ≡ self.old.bytes) ⊎ IsDue self.new.bytes 0 }
+        ensures failures { CountsUp (C.failures source.old) (C.failures source.new) (failures_by self.new.over) }
+        ensures open { OnErr result (self.new.over ≡ None) }
+        ensures long { OnErr result (IsLong self.new.bytes 0) }
+        ensures small { length self.new.bytes < 2 ^ 63 }
+    {
+        'reads: loop {
+            let kept = self.kept();
+            let size = first_newline(kept);
+            if size < kept.len() {
+                return Ok(size);
+            }
+            match self.over() {
+                Some(_) => return Ok(size),
+                None => {}
+            }
+            self.fill(source)?;
+        }
+    }
+
+    /// The next line, or how a dialog is over that has none. Nothing is let go yet. The source is read only while the bytes kept do
+    /// not hold the line's end.
+    pub fn next<C: Source>(&mut self, source: &mut C) -> Result<Line, Over>
+        requires reported { C.over source.old ≡ self.old.over }
+        requires unfailed { self.old.over ≢ Some End.Failed }
+        ensures reported { C.over source.new ≡ self.new.over }
+        ensures unfailed { IfOk result (λ line. self.new.over ≢ Some End.Failed) }
+        ensures taken { self.new.taken ≡ self.old.taken }
+        ensures few { IfOk result (λ line. self.new.taken < 2 ^ 64 - 1) }
+        ensures reads { ReadsMore C.may_give C.handed source.old self.old.bytes source.new self.new.bytes }
+        ensures lazy { (self.new.bytes ≡ self.old.bytes) ⊎ IsDue self.new.bytes 0 }
+        ensures line { IfOk result (λ line. (rest : Input) → C.may_give source.new rest
+            → IsNextLine (before self.new.bytes rest) 0 (take line.size self.new.bytes) line.count) }
+        ensures within { IfOk result (λ line. (line.size ≤ line.count) × (line.count ≤ length self.new.bytes)) }
+        ensures over { IfErr result (λ over. (rest : Input) → C.may_give source.new rest → HasNoLine (before self.new.bytes rest) 0 over) }
+        ensures long { result ≡ Err Over.NoMemory → IsLong self.new.bytes 0 ⊎ (2 ^ 64 - 1 ≤ self.new.taken) }
+        ensures unfailing { IfOk result (λ line. CountsUp (C.failures source.old) (C.failures source.new) 0) }
+        ensures failures { IfErr result (λ over. CountsUp (C.failures source.old) (C.failures source.new) (read_failures (report_over over).cause)) }
+        ensures unwritten { IfErr result (λ over. write_failures (report_over over).cause ≡ 0) }
+    {
+        if self.taken() == u64::MAX {
+            return Err(Over::NoMemory);
+        }
+        let size = match self.read_line(source) {
+            Ok(size) => size,
+            Err(_) => return Err(Over::NoMemory),
+        };
+        let length = self.kept().len();
+        if size < length {
+            return Ok(Line {
+                size,
+                count: size + 1,
+            });
+        }
+        match self.over() {
+            Some(Ending::Ended) => {
+                if length == 0 {
+                    return Err(Over::Ended);
+                }
+                Ok(Line {
+                    size: length,
+                    count: length,
+                })
+            }
+            Some(Ending::Failed) => Err(Over::Unread),
+            None => unreachable!(),
+        }
+    }
+
+    /// The bytes of a line that was found.
+    pub fn text(&self, line: Line) -> &[u8]
+        requires { line.size ≤ length self.now.bytes }
+        ensures { result.now ≡ take line.size self.now.bytes }
+    {
+        &self.kept()[..line.size]
+    }
+
+    /// Lets a line go.
+    pub fn let_go(&mut self, line: Line)
+        requires held { line.count ≤ length self.old.bytes }
+        requires few { self.old.taken < 2 ^ 64 - 1 }
+        ensures bytes { self.new.bytes ≡ drop line.count self.old.bytes }
+        ensures over { self.new.over ≡ self.old.over }
+        ensures taken { self.new.taken ≡ self.old.taken + 1 }
+    {
+        self.start += line.count;
+        self.taken += 1;
+    }
+}
