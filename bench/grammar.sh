@@ -1,11 +1,11 @@
 #!/usr/bin/env bash
 # Times the reading of texts by the grammar of the whole language: user + system seconds, the least of five runs, on texts of 1 MiB (or
-# what is named) that are made here. Nothing here is a test: make check runs crates/rows_grammar on its cases.
+# what is named) that are made here. Nothing here is a test: make check runs crates/rows on its cases.
 set -u
 cd "$(dirname "$0")/.." || exit 2
 export LC_ALL=C
-reader=$PWD/crates/rows_grammar/out/rows_grammar
-[ -x "$reader" ] || (cd crates/rows_grammar && rt run < stdin > /dev/null) || exit 2
+reader=$PWD/crates/rows/out/rows
+[ -x "$reader" ] || tools/build rows || exit 2
 text=$(mktemp)
 trap 'rm -f "$text"' EXIT
 

@@ -1,5 +1,5 @@
 #!/usr/bin/env python3
-"""Holds the trees of crates/rows_grammar against the code that mawk makes of the same texts.
+"""Holds the trees of crates/rows, in its section of texts, against the code that mawk makes of the same texts.
 
 Each tree is written back as a text in which every operation has its parentheses; both texts must be the same code to mawk. It
 prints the rows where they are not, and those that are refused here by the grammar or by mawk alone. docs/DECISIONS.md says why.
@@ -8,9 +8,8 @@ import os
 import re
 import subprocess
 
-from rows_beside_awk import unescaped
+from rows_beside_awk import lines_of, unescaped
 
-ROWS = os.path.join(os.path.dirname(os.path.abspath(__file__)), "..", "crates", "rows_grammar", "stdin")
 WORD = re.compile(r"[^ ()]*")
 BINARY = {"+", "-", "*", "/", "%", "^", "<", "<=", "==", "!=", ">", ">=", "~", "!~", "&&", "||", "in"}
 ASSIGNMENTS = {"=", "+=", "-=", "*=", "/=", "%=", "^="}
@@ -154,26 +153,25 @@ def code_of(text):
 
 def main():
     counts = {"same code": 0, "other code": 0, "refused by mawk alone": 0, "refused by both": 0, "refused here alone": 0}
-    with open(ROWS, encoding="utf-8") as file:
-        for number, line in enumerate(file, 1):
-            head, arrow, answer = line.rstrip("\n").rpartition(" =>")
-            if not arrow or line.startswith("#") or "\t" in head or "\\{" in line:
-                continue  # (a row with parts asks for something else than a tree)
-            text, answer = unescaped(head), unescaped(answer[1:])
-            theirs = code_of(text)
-            if re.fullmatch(r"P[46] at line \d+", answer):
-                continue  # numbers with fractions, and what the language leaves out
-            if re.fullmatch(r"P\d+ at line \d+", answer):
-                kind = "refused by both" if theirs is None else "refused here alone"
-            elif theirs is None:
-                kind = "refused by mawk alone"
-            else:
-                kind = "same code" if theirs == code_of(text_of(answer)) else "other code"
-            counts[kind] += 1
-            if kind not in ("same code", "refused by both"):
-                print(f"line {number}: {kind}: {line.rstrip()}")
-                if kind == "other code":
-                    print(f"    {text_of(answer)!r}")
+    for number, line in lines_of("texts"):
+        head, arrow, answer = line.rstrip("\n").rpartition(" =>")
+        if not arrow or line.startswith("#") or "\t" in head or "\\{" in line:
+            continue  # (a row with parts asks for something else than a tree)
+        text, answer = unescaped(head), unescaped(answer[1:])
+        theirs = code_of(text)
+        if re.fullmatch(r"P[46] at line \d+", answer):
+            continue  # numbers with fractions, and what the language leaves out
+        if re.fullmatch(r"P\d+ at line \d+", answer):
+            kind = "refused by both" if theirs is None else "refused here alone"
+        elif theirs is None:
+            kind = "refused by mawk alone"
+        else:
+            kind = "same code" if theirs == code_of(text_of(answer)) else "other code"
+        counts[kind] += 1
+        if kind not in ("same code", "refused by both"):
+            print(f"line {number}: {kind}: {line.rstrip()}")
+            if kind == "other code":
+                print(f"    {text_of(answer)!r}")
     print(", ".join(f"{count} {kind}" for kind, count in counts.items()))
 
 

@@ -1,5 +1,5 @@
 #!/usr/bin/env python3
-"""Asks another awk the rows `expression match` and `printf` of crates/rows_parts, and prints where it answers something else.
+"""Asks another awk the rows `expression match` and `printf` of crates/rows, and prints where it answers something else.
 
     tools/rows_beside_awk.py [AWK ..]      by default `gawk --posix`
 
@@ -10,7 +10,7 @@ import subprocess
 import sys
 
 AWK = sys.argv[1:] or ["gawk", "--posix"]
-ROWS = os.path.join(os.path.dirname(os.path.abspath(__file__)), "..", "crates", "rows_parts", "stdin")
+ROWS = os.path.join(os.path.dirname(os.path.abspath(__file__)), "..", "crates", "rows", "stdin")
 LEAST = "-9223372036854775808"
 
 
@@ -37,14 +37,25 @@ def unescaped(text):
     return out
 
 
+def lines_of(section):
+    """The lines of a section of the rows, with their numbers."""
+    with open(ROWS, encoding="utf-8") as file:
+        name = ""
+        for number, line in enumerate(file, 1):
+            name = name or line.strip("#\n ")
+            if line == "\f\n":
+                name = ""
+            elif name == section:
+                yield number, line
+
+
 def rows(words):
     """The rows that begin with these words: the line's number, the other parts, and the answer."""
-    with open(ROWS, encoding="utf-8") as file:
-        for number, line in enumerate(file, 1):
-            head, arrow, answer = line.rstrip("\n").rpartition(" =>")
-            parts = head.split("\t")
-            if arrow and parts[: len(words)] == words:
-                yield number, [unescaped(part) for part in parts[len(words) :]], unescaped(answer[1:])
+    for number, line in lines_of("parts"):
+        head, arrow, answer = line.rstrip("\n").rpartition(" =>")
+        parts = head.split("\t")
+        if arrow and parts[: len(words)] == words:
+            yield number, [unescaped(part) for part in parts[len(words) :]], unescaped(answer[1:])
 
 
 def asked_of(program, **texts):

@@ -1,17 +1,22 @@
 #!/usr/bin/env python3
-"""Refuses each growth in turn of a built `rawk`, and looks at what comes of it.
+"""Refuses each growth in turn of a built `rawk`, and each with all that follow it, and looks at what comes of it.
 
 usage: refuse.py PATH_TO_RAWK
 
 A run must answer what it answers with ample memory, or `out of memory` behind a beginning of that output.
 A session must write nothing and answer `out of memory`, or give each command the answer that a session with ample memory gives at
-the same point with the same sets, breakpoints and watches; or C12 where the answer was lost; or C11: a command that does not move has
-then changed nothing, and a move stands at a point on its way, from which the session goes on. The last line is 'N growths refused, M wrong'; the exit status is 1 where one was wrong.
+the same point with the same sets, breakpoints and watches; or C12 where the answer was lost; or C11, but not to what goes back: a command that does not move has
+then changed nothing, and a move stands at a point on its way, from which the session goes on. A session with a megabyte of commands is refused all memory from its middle on:
+each command that goes back must still be carried out, each line that is too long answered C11, and the session come to its end. The last line is
+'N growths refused, M wrong'; the exit status is 1 where one was wrong.
 """
-import os, subprocess, sys, tempfile
+import os, subprocess, sys, tempfile, threading
 
 HERE = os.path.dirname(os.path.abspath(__file__))
 MARK = b"C1: unknown command\n"  # the answer to a line that no command is; it takes no memory
+LOST, REFUSED = b"C12: answer lost\n", b"C11: out of memory\n"
+BACK = {"reverse-step", "rs", "reverse-next", "rn", "reverse-continue", "rc", "reverse-finish", "reverse-set"}
+ALL = 2**62  # behind the last growth of any process
 
 RUNS = [
     (["{ s += $1 } END { print s }"], b"3\n4\n"),
@@ -47,12 +52,12 @@ class Tool:
         self.rawk, self.folder, self.so = rawk, folder, library(folder)
         self.refused, self.wrong, self.plain = 0, 0, {}
 
-    def call(self, words, stdin, at):
-        """What the program wrote, its error lines, its status, and whether a growth was refused."""
+    def call(self, words, stdin, at, to):
+        """What the program wrote, its error lines, its status, and whether a growth was refused, of those from one number to another."""
         env, r, w = dict(os.environ), None, None
         r, w = os.pipe()
         if at:
-            env.update(LD_PRELOAD=self.so, REFUSE_AT=str(at), REFUSE_TELL=str(w))
+            env.update(LD_PRELOAD=self.so, REFUSE_AT=str(at), REFUSE_TO=str(to), REFUSE_TELL=str(w))
         done = subprocess.run([self.rawk, *words], input=stdin, capture_output=True, env=env, pass_fds=(w,), timeout=60)
         os.close(w)
         told = os.read(r, 1)
@@ -63,12 +68,12 @@ class Tool:
         self.wrong += 1
         print("wrong:", what)
 
-    def run(self, words, stdin):
-        out, err, status, _ = self.call(words, stdin, 0)
+    def run(self, words, stdin, more):
+        out, err, status, _ = self.call(words, stdin, 0, 0)
         at = 0
         while True:
             at += 1
-            got, told, code, refused = self.call(words, stdin, at)
+            got, told, code, refused = self.call(words, stdin, at, at + more)
             if not refused:
                 return
             self.refused += 1
@@ -77,13 +82,13 @@ class Tool:
             if not (whole or memory):
                 self.bad(f"{words} growth {at}: {got!r} {told!r} {code}")
 
-    def answers(self, program, stdin, commands, at=0):
+    def answers(self, program, stdin, commands, at=0, to=0):
         """The answer to each command, or None where the session did not stand."""
         path = os.path.join(self.folder, "commands")
         with open(path, "w") as file:
             for command in commands:
                 file.write(command + "\nmark\n")
-        got, told, code, refused = self.call(["--debug", path, program], stdin, at)
+        got, told, code, refused = self.call(["--debug", path, program], stdin, at, to)
         return got.split(MARK)[:-1], told, code, refused, got.count(MARK)
 
     def answer_behind(self, program, stdin, done, command):
@@ -93,32 +98,109 @@ class Tool:
             self.plain[key] = self.answers(program, stdin, [*done, command])[0][-1]
         return self.plain[key]
 
-    def session(self, program, stdin, commands):
+    def session(self, program, stdin, commands, more):
         at = 0
         while True:
             at += 1
-            got, told, code, refused, marks = self.answers(program, stdin, commands, at)
+            got, told, code, refused, marks = self.answers(program, stdin, commands, at, at + more)
             if not refused:
                 return
             self.refused += 1
-            if code == 2 and told == b"rawk: out of memory\n" and marks < len(commands):
-                continue  # before the session stood, or for the reading of a line
+            if code == 2 and told == b"rawk: out of memory\n" and marks == 0:
+                continue  # before the session stood
             if code != 0 or marks != len(commands):
                 self.bad(f"{program} growth {at}: {told!r} {code} {marks}")
                 continue
             point, done = 0, []  # the commands that were carried out; a move that was stopped short is as many steps
             for command, answer in zip(commands, got):
                 want = self.answer_behind(program, stdin, done, command)
-                if answer == want or answer == b"C12: answer lost\n":
+                if answer in (want, LOST):
                     point, done = point_of(want, point), [*done, command]
-                elif answer == b"C11: out of memory\n":
+                elif answer == REFUSED and command not in BACK:
                     continue
-                elif b"C11: out of memory\n" in answer and point <= point_of(answer, point) <= point_of(want, point):
+                elif REFUSED in answer and point <= point_of(answer, point) <= point_of(want, point):
                     there = point_of(answer, point)
                     point, done = there, [*done, *["step"] * (there - point)]
                 else:
                     self.bad(f"{program} growth {at} {command} at {point}: {answer!r}, not {want!r}")
                     break
+
+    def long_session(self):
+        """A session over 60,000 points, with memory, then without, and at its end with some again."""
+        program, flag = "BEGIN { while (n < 30000) n = n + 1; print n }", os.path.join(self.folder, "flag")
+        talk = Talk(self.rawk, program, self.so, flag)
+        place = point_of(talk.ask(["continue"])[0], 0) - 100
+        talk.ask(["reverse-step"] * 100 + [f"set n={number}" for number in range(2000)])
+        taken = talk.ask(["reverse-set"] * 1500, refused=True)
+        self.all_done("reverse-set", taken, b"set taken back\n")
+        if talk.ask(["print n"]) != [b"n = 499\n"]:
+            self.bad("sets are not taken back")
+        long = "x" * 70000
+        commands = ([long, "step"] + ["reverse-step"] * 6000) * 5 + [long] + ["reverse-next"] * 10000
+        answers = talk.ask(commands, refused=True)
+        if len(answers) != len(commands):
+            return self.bad(f"a long session has ended: {len(answers)} answers")
+        for command, answer in zip(commands, answers):
+            if command == long and answer != REFUSED:
+                self.bad(f"a long line: {answer[:80]!r}")
+            elif command in BACK:
+                place -= 1
+                self.all_done(command, [answer], b"point %d, " % place)
+            elif command == "step":
+                place += not REFUSED in answer
+        back, shown = talk.ask(["reverse-step", "print n"])
+        code = talk.end()
+        with_memory = Talk(self.rawk, program, self.so, flag)
+        last = point_of(with_memory.ask(["continue"])[0], 0)
+        want = with_memory.ask(["reverse-step"] * (last - place + 1) + ["print n"])[-2:]
+        if [back, shown] != want or code != 0 or with_memory.end() != 0:
+            self.bad(f"a long session: {code}, {back!r} {shown!r}, not {want!r}")
+
+    def all_done(self, command, answers, begun):
+        """Each answer begins so, or is lost."""
+        for answer in answers:
+            if answer != LOST and not answer.startswith(begun):
+                self.bad(f"{command}: {answer!r}, not {begun!r}")
+
+
+class Talk:
+    """A session that is asked in parts; all growths of a part may be refused."""
+
+    def __init__(self, rawk, program, so, flag):
+        with open(flag, "wb") as file:
+            file.write(b"\0")
+        self.flag = flag
+        env = dict(os.environ, LD_PRELOAD=so, REFUSE_FLAG=flag)
+        self.process = subprocess.Popen([rawk, "--debug", "-", program, "/dev/null"], stdin=subprocess.PIPE, stdout=subprocess.PIPE, env=env, bufsize=0)
+
+    def ask(self, commands, refused=False):
+        """The answers to these commands."""
+        with open(self.flag, "r+b") as file:
+            file.write(b"\1" if refused else b"\0")
+        lines = "".join(f"{command}\nmark\n" for command in commands).encode()
+        writer = threading.Thread(target=self.send, args=(lines,))
+        writer.start()
+        got, counted, marks = bytearray(), 0, 0
+        while marks < len(commands):
+            part = self.process.stdout.read(1 << 20)
+            if not part:
+                break
+            got += part
+            while (at := got.find(MARK, counted)) >= 0:
+                counted, marks = at + len(MARK), marks + 1
+        writer.join()
+        return bytes(got).split(MARK)[:-1]
+
+    def send(self, lines):
+        try:
+            while lines:
+                lines = lines[self.process.stdin.write(lines):]
+        except BrokenPipeError:
+            pass
+
+    def end(self):
+        self.process.stdin.close()
+        return self.process.wait(60)
 
 
 def point_of(answer, point):
@@ -132,10 +214,12 @@ def point_of(answer, point):
 def main():
     with tempfile.TemporaryDirectory() as folder:
         tool = Tool(os.path.abspath(sys.argv[1]), folder)
-        for words, stdin in RUNS:
-            tool.run(words, stdin)
-        for program, stdin, commands in SESSIONS:
-            tool.session(program, stdin, commands)
+        for more in (0, ALL):
+            for words, stdin in RUNS:
+                tool.run(words, stdin, more)
+            for program, stdin, commands in SESSIONS:
+                tool.session(program, stdin, commands, more)
+        tool.long_session()
         print(f"{tool.refused} growths refused, {tool.wrong} wrong")
         sys.exit(1 if tool.wrong else 0)
 

@@ -11,7 +11,7 @@ use std::io::Input;
 
 /// Carries out the lines, and prints what came of each.
 pub fn worked<R: Input + Print + AllocGlobal>(rt: &R) -> Result<()> {
-    let mut arrays = Arrays::new(rt.alloc());
+    let mut arrays = Arrays::new(rt.alloc(), 0);
     let worked = work_on(rt, &mut arrays);
     drop(arrays);
     worked

@@ -1,11 +1,9 @@
--- A dialog, line by line.
-use Rattle.std.proofs.Common.{◌≡◌, ◌≢◌, ℕ, ◌+◌, ◌-◌, ◌^◌, ◌<◌, ◌≤◌, ◌⊎◌, inl, inr, Bool, true, false, List, [], ◌∷◌, ◌++◌, length, take, drop, refl, sym, ap, ◌∙◌, subst, arith, append_assoc, Option, Some, None, Result, Ok, Err}
-use Rattle.std.specs.Prelude.{slice_index}
+-- A dialog, turn by turn.
+use Rattle.std.proofs.Common.{◌≡◌, ℕ, ◌+◌, ◌-◌, ◌^◌, ◌<◌, ◌≤◌, ◌⊎◌, inl, inr, true, false, List, [], ◌∷◌, ◌++◌, length, take, drop, refl, sym, ap, ◌∙◌, subst, arith, append_assoc, Option, Some, None, Result, Ok, Err, OnErr}
 use Rattle.std.proofs.lemmas.List.{append-nil, length-append, take-append-drop, length-take-le, get_or-append_right}
+use Rattle.std.proofs.Math.Seq.{take-append-add}
 use Rattle.rawk_value.specs.Values.{Bytes}
-use Rattle.rawk_value.specs.declared.fault.Fault.{Fault}
-use Rattle.rawk_value.specs.declared.fault.Fault.TheVariants as fault
-use Rattle.rawk_tape.specs.Records.{Input, Found, next_record}
+use Rattle.rawk_tape.specs.Records.{Input, next_record}
 use Rattle.rawk_tape.specs.Inputs.{CountsUp, before}
 use Rattle.rawk_tape.specs.declared.source.Ending.{Ending}
 use Rattle.rawk_tape.specs.declared.source.Ending.TheVariants.{Failed}
@@ -13,13 +11,12 @@ use Rattle.rawk_tape.specs.Laws.{before-before, moved, next_record-before}
 use Rattle.rawk_debug.specs.declared.transcript.Reply.{Reply}
 use Rattle.rawk_debug.specs.declared.transcript.Reply.TheVariants.{Text, Line, Nothing, Quits}
 use Rattle.rawk_debug.specs.Moves.{Stand}
-use Rattle.rawk_debug.specs.Transcript.{Transcript, Carries, IsReply, is_quit, reply_text}
+use Rattle.rawk_debug.specs.Transcript.{Transcript, Turn, Heard, Passed, Carries, IsReply, is_quit, reply_text, request}
 use Rattle.rawk_debug.specs.Runs.{Leads, leads_nowhere, leads_on, leads_to_quit, leads_to_end}
-use Rattle.rawk_commands.specs.Reading.{reading}
 use Rattle.rawk.specs.declared.dialog.Over.{Over}
-use Rattle.rawk.specs.declared.dialog.Over.TheVariants.{Ended, Unread, Unwritten, NoMemory}
-use Rattle.rawk.specs.Reads.{LinesState, NoNewline, IsDue, IsLong, ReadsMore, failures_by}
-use Rattle.rawk.specs.Dialogs.{IsNextLine, LinesTo, NoneQuits, HasNoLine, newline, IsDialog, Speaks, to_end, to_quit, unread, no_memory, unwritten, quits_by}
+use Rattle.rawk.specs.declared.dialog.Over.TheVariants.{Ended, Unread, Unwritten, TooMany}
+use Rattle.rawk.specs.Reads.{LinesState, NoNewline, IsDue, IsEndless, ReadsMore, failures_by}
+use Rattle.rawk.specs.Dialogs.{IsNextLine, IsNextTurn, TurnsTo, NoneQuits, HasNoLine, newline, IsDialog, Speaks, to_end, to_quit, unread, too_many, unwritten, quits_by}
 
 -- the line that is due begins here, or later
 due_on : (read : Bytes) (k m : ℕ) → k ≤ m → IsDue read k → IsDue read m
@@ -42,8 +39,8 @@ due_behind front read due = record {
   without = none_behind front due.held due.without;
 }
 
-long_behind : (front read : Bytes) → IsLong read 0 → IsLong (front ++ read) (length front)
-long_behind front read long = record { many = omega (arith, length-append front read, long.many); without = none_behind front read long.without }
+endless_behind : (front read : Bytes) → IsEndless read 0 → IsEndless (front ++ read) (length front)
+endless_behind front read long = record { many = omega (arith, length-append front read, long.many); without = none_behind front read long.without }
 
 -- what was read for the line that is due
 due_by : (front old new : Bytes) (k : ℕ) → k ≤ length front → IsDue (front ++ old) k → (new ≡ old) ⊎ IsDue new 0 → IsDue (front ++ new) (length front)
@@ -69,63 +66,78 @@ record_behind front bytes rest =
 line_behind : (front bytes : Bytes) (rest : Input) (line : Bytes) (count : ℕ) → IsNextLine (before bytes rest) 0 line count → IsNextLine (before (front ++ bytes) rest) (length front) line (length front + count)
 line_behind front bytes rest line count is = record_behind front bytes rest ∙ ap (moved (length front)) is
 
+turn_behind : (front bytes : Bytes) (rest : Input) (turn : Turn) (count : ℕ) → IsNextTurn (before bytes rest) 0 turn count → IsNextTurn (before (front ++ bytes) rest) (length front) turn (length front + count)
+turn_behind front bytes rest (Heard line) count is = line_behind front bytes rest line count is
+turn_behind front bytes rest (Passed line) count (is, long) = (line_behind front bytes rest line count is, long)
+
 none_there : (front bytes : Bytes) (rest : Input) (over : Over) → HasNoLine (before bytes rest) 0 over → HasNoLine (before (front ++ bytes) rest) (length front) over
 none_there front bytes rest Ended is = record_behind front bytes rest ∙ ap (moved (length front)) is
 none_there front bytes rest Unread is = record_behind front bytes rest ∙ ap (moved (length front)) is
 none_there front bytes rest Unwritten is = is
-none_there front bytes rest NoMemory is = tt
+none_there front bytes rest TooMany is = tt
 
--- one line more
-pub lines_on : (asked : Input) (start : ℕ) (lines : List Bytes) (count : ℕ) (line : Bytes) (next : ℕ) → LinesTo asked start lines count → IsNextLine asked count line next → LinesTo asked start (lines ++ line ∷ []) next
-lines_on asked start [] count line next same is = (next, ap (λ k. next_record asked k newline) (sym same) ∙ is, refl)
-lines_on asked start (x ∷ lines) count line next (m, first, rest) is = (m, first, lines_on asked m lines count line next rest is)
+-- one turn more
+pub turns_on : (asked : Input) (start : ℕ) (turns : List Turn) (count : ℕ) (turn : Turn) (next : ℕ) → TurnsTo asked start turns count → IsNextTurn asked count turn next → TurnsTo asked start (turns ++ turn ∷ []) next
+turns_on asked start [] count turn next same is = (next, subst (λ k. IsNextTurn asked k turn next) same is, refl)
+turns_on asked start (x ∷ turns) count turn next (m, first, rest) is = (m, first, turns_on asked m turns count turn next rest is)
 
 -- one more that does not quit
-none_quits_on : (lines : List Bytes) (line : Bytes) → NoneQuits lines → is_quit (reading line) ≡ false → NoneQuits (lines ++ line ∷ [])
-none_quits_on [] line none stays = (stays, tt)
-none_quits_on (x ∷ lines) line (first, rest) stays = (first, none_quits_on lines line rest stays)
+none_quits_on : (turns : List Turn) (turn : Turn) → NoneQuits turns → is_quit (request turn) ≡ false → NoneQuits (turns ++ turn ∷ [])
+none_quits_on [] turn none stays = (stays, tt)
+none_quits_on (x ∷ turns) turn (first, rest) stays = (first, none_quits_on turns turn rest stays)
 
--- a line whose reply does not end the session does not quit
-stays_by : (input : Input) (line : Bytes) (old : Stand) (reply : Reply) (new : Stand) → quits_by reply ≡ false → Carries input line old reply new → is_quit (reading line) ≡ false
-stays_by input line old (Text t) new h c = c.0
-stays_by input line old (Line r) new h c = c.0
-stays_by input line old Nothing new h c = c.0
-stays_by input line old Quits new h c = absurd (cc h)
+-- a turn whose reply does not end the session does not quit
+stays_by : (input : Input) (turn : Turn) (old : Stand) (output : Bytes) (reply : Reply) (new : Stand) → quits_by reply ≡ false → Carries input turn old output reply new → is_quit (request turn) ≡ false
+stays_by input turn old output (Text from t) new h c = c.0
+stays_by input turn old output (Line r) new h c = c.0
+stays_by input turn old output Nothing new h c = c.0
+stays_by input turn old output Quits new h c = absurd (cc h)
 
 quits_is : (reply : Reply) → quits_by reply ≡ true → reply ≡ Quits
-quits_is (Text t) h = absurd (cc h)
+quits_is (Text from t) h = absurd (cc h)
 quits_is (Line r) h = absurd (cc h)
 quits_is Nothing h = absurd (cc h)
 quits_is Quits h = refl
 
 pub stays_is : (reply : Reply) → quits_by reply ≡ false → IsReply reply
-stays_is (Text t) h = tt
+stays_is (Text from t) h = tt
 stays_is (Line r) h = tt
 stays_is Nothing h = tt
 stays_is Quits h = absurd (cc h)
 
+-- behind what was written, a part is
+pub part_behind : {V E : Type 0} (may_hold : V → Bytes → Type 0) (result : Result (Unit {0}) E) (old mid new : V) (front rest whole : Bytes) → whole ≡ front ++ rest → ((held : Bytes) → may_hold old held → may_hold mid (held ++ front))
+    → OnErr result ((held : Bytes) → may_hold mid held → (size : ℕ) × (size < length rest) × may_hold new (held ++ take size rest))
+    → OnErr result ((held : Bytes) → may_hold old held → (size : ℕ) × (size < length whole) × may_hold new (held ++ take size whole))
+part_behind may_hold (Ok done) old mid new front rest whole is wrote cut = tt
+part_behind may_hold (Err fault) old mid new front rest whole is wrote cut = λ held h.
+    let part = cut (held ++ front) (wrote held h) in
+    let less : length front + part.0 < length whole = omega (arith, ap length is, length-append front rest, part.1) in
+    let first : take (length front + part.0) whole ≡ front ++ take part.0 rest = ap (λ (b : Bytes). take (length front + part.0) b) is ∙ take-append-add front rest part.0 in
+    (length front + part.0, less, subst (λ (b : Bytes). may_hold new b) (append_assoc held front (take part.0 rest) ∙ ap (λ (b : Bytes). held ++ b) (sym first)) part.2)
+
 -- a part of an answer is written
-unwritten_part : (input asked : Input) (read : Bytes) (first mid new : Stand) (lines : List Bytes) (line : Bytes) (count next : ℕ) (out text : Bytes) (size : ℕ) → LinesTo asked 0 lines count → IsNextLine asked count line next → IsDue read count → NoneQuits (lines ++ line ∷ [])
-    → Transcript input lines first out mid → Transcript input (lines ++ line ∷ []) first (out ++ text) new → size < length text → IsDialog input asked read first new Unwritten (out ++ take size text)
-unwritten_part input asked read first mid new lines line count next out text size to is due stays before all small =
+unwritten_part : (input asked : Input) (read : Bytes) (first mid new : Stand) (turns : List Turn) (turn : Turn) (count next : ℕ) (out text : Bytes) (size : ℕ) → TurnsTo asked 0 turns count → IsNextTurn asked count turn next → IsDue read count → NoneQuits (turns ++ turn ∷ [])
+    → Transcript input turns first out mid → Transcript input (turns ++ turn ∷ []) first (out ++ text) new → size < length text → IsDialog input asked read first new Unwritten (out ++ take size text)
+unwritten_part input asked read first mid new turns turn count next out text size to is due stays before all small =
     let whole : out ++ text ≡ (out ++ take size text) ++ drop size text = ap (λ (b : Bytes). out ++ b) (sym (take-append-drop size text)) ∙ sym (append_assoc out (take size text) (drop size text)) in
     let a = length-append out text in
     let b = length-append out (take size text) in
     let n = length-take-le size text (omega (arith, small)) in
-    unwritten lines line count next mid out (out ++ text) (out ++ take size text) to is due stays before all (take size text, refl) (drop size text, whole) (omega (arith, a, b, n, small))
+    unwritten turns turn count next mid out (out ++ text) (out ++ take size text) to is due stays before all (take size text, refl) (drop size text, whole) (omega (arith, a, b, n, small))
 
--- what is so of the lines carried out: on each input that may be, and whatever the commands still give
+-- what is so of the turns carried out: on each input that may be, and whatever the commands still give
 pub record SoFar {M C V : Type 0} (may_be : M → Input → Type 0) (may_give : C → Input → Type 0) (handed : C → ℕ) (may_hold : V → Bytes → Type 0) (first now : Stand) (start machine : M) (commands_first commands : C) (state : LinesState) (sink_first sink : V) : Type 0 where
-  pub lines : List Bytes
+  pub turns : List Turn
   pub out : Bytes
   pub gone : Bytes
-  pub leads : (input : Input) → may_be machine input → Leads input lines first out now
-  pub stays : (input : Input) → may_be machine input → NoneQuits lines
+  pub leads : (input : Input) → may_be machine input → Leads input turns first out now
+  pub stays : (input : Input) → may_be machine input → NoneQuits turns
   pub narrows : (input : Input) → may_be machine input → may_be start input
   pub comes : (rest : Input) → may_give commands rest → may_give commands_first (before (gone ++ state.bytes) rest)
   pub counted : CountsUp (handed commands_first) (handed commands) (length (gone ++ state.bytes))
-  pub read : (rest : Input) → may_give commands rest → LinesTo (before (gone ++ state.bytes) rest) 0 lines (length gone)
-  pub many : length lines ≡ state.taken
+  pub read : (rest : Input) → may_give commands rest → TurnsTo (before (gone ++ state.bytes) rest) 0 turns (length gone)
+  pub many : length turns ≡ state.taken
   pub taken : (held : Bytes) → may_hold sink_first held → may_hold sink (held ++ out)
   pub wanted : ℕ
   pub passed : wanted ≤ length gone
@@ -135,7 +147,7 @@ pub record SoFar {M C V : Type 0} (may_be : M → Input → Type 0) (may_give : 
 comes_none : {C : Type 0} (may_give : C → Input → Type 0) (commands : C) (bytes : Bytes) → bytes ≡ [] → (rest : Input) → may_give commands rest → may_give commands (before bytes rest)
 comes_none may_give commands bytes none rest come = subst (λ (b : Bytes). may_give commands (before b rest)) (sym none) come
 
--- before the first line
+-- before the first turn
 pub begun : {M C V : Type 0} (may_be : M → Input → Type 0) (may_give : C → Input → Type 0) (handed : C → ℕ) (may_hold : V → Bytes → Type 0) (first : Stand) (machine : M) (commands : C) (state : LinesState) (sink : V)
     → state ≡ record { bytes = []; over = None; taken = 0 } → SoFar may_be may_give handed may_hold first first machine machine commands commands state sink sink
 begun may_be may_give handed may_hold first machine commands state sink fresh =
@@ -143,7 +155,7 @@ begun may_be may_give handed may_hold first machine commands state sink fresh =
     let few : state.taken ≡ 0 = ap (λ (l : LinesState). l.taken) fresh in
     let size : length state.bytes ≡ 0 = ap length none in
     record {
-      lines = [];
+      turns = [];
       out = [];
       gone = [];
       leads = λ input may. leads_nowhere input first;
@@ -166,9 +178,9 @@ counts_on a b c m n k e first second = λ small.
     let s : c ≡ b + n = second (omega (arith, e)) in
     omega (arith, e)
 
-module _ {M C V : Type 0} (may_be : M → Input → Type 0) (may_give : C → Input → Type 0) (handed : C → ℕ) (may_hold : V → Bytes → Type 0) (first now new : Stand) (start machine machine2 : M) (commands_first commands commands2 : C) (state state2 : LinesState) (sink_first sink sink2 : V) (so : SoFar may_be may_give handed may_hold first now start machine commands_first commands state sink_first sink) (more : ReadsMore may_give handed commands state.bytes commands2 state2.bytes) (lazy : (state2.bytes ≡ state.bytes) ⊎ IsDue state2.bytes 0) where
+module _ {M C V : Type 0} (may_be : M → Input → Type 0) (may_give : C → Input → Type 0) (handed : C → ℕ) (may_hold : V → Bytes → Type 0) (first now : Stand) (start machine : M) (commands_first commands commands2 : C) (state : LinesState) (sink_first sink : V) (so : SoFar may_be may_give handed may_hold first now start machine commands_first commands state sink_first sink) (fresh : Bytes) (more : ReadsMore may_give handed commands state.bytes commands2 fresh) where
   abbrev all : Bytes
-  all = so.gone ++ state2.bytes
+  all = so.gone ++ fresh
 
   grown : all ≡ (so.gone ++ state.bytes) ++ more.chunk
   grown = ap (λ (b : Bytes). so.gone ++ b) more.grown ∙ sym (append_assoc so.gone state.bytes more.chunk)
@@ -179,97 +191,97 @@ module _ {M C V : Type 0} (may_be : M → Input → Type 0) (may_give : C → In
   comes : (rest : Input) → may_give commands2 rest → may_give commands_first (before all rest)
   comes rest come = subst (may_give commands_first) (same_input rest) (so.comes (before more.chunk rest) (more.comes rest come))
 
-  read : (rest : Input) → may_give commands2 rest → LinesTo (before all rest) 0 so.lines (length so.gone)
-  read rest come = subst (λ (i : Input). LinesTo i 0 so.lines (length so.gone)) (same_input rest) (so.read (before more.chunk rest) (more.comes rest come))
+  read : (rest : Input) → may_give commands2 rest → TurnsTo (before all rest) 0 so.turns (length so.gone)
+  read rest come = subst (λ (i : Input). TurnsTo i 0 so.turns (length so.gone)) (same_input rest) (so.read (before more.chunk rest) (more.comes rest come))
 
   counted : CountsUp (handed commands_first) (handed commands2) (length all)
   counted = counts_on (handed commands_first) (handed commands) (handed commands2) (length (so.gone ++ state.bytes)) (length more.chunk) (length all) (ap length grown ∙ length-append (so.gone ++ state.bytes) more.chunk) so.counted more.counted
 
   is_due : IsDue all (length so.gone)
-  is_due = due_by so.gone state.bytes state2.bytes so.wanted so.passed so.due lazy
+  is_due = due_by so.gone state.bytes fresh so.wanted so.passed so.due more.lazy
 
   -- there is no next line
-  no_next : (over : Over) → ((rest : Input) → may_give commands2 rest → HasNoLine (before state2.bytes rest) 0 over) → (over ≡ NoMemory → IsLong state2.bytes 0 ⊎ (2 ^ 64 - 1 ≤ state2.taken)) → state2.taken ≡ state.taken
+  no_next : (over : Over) → ((rest : Input) → may_give commands2 rest → HasNoLine (before fresh rest) 0 over) → (over ≡ TooMany → IsEndless fresh 0 ⊎ (2 ^ 64 - 1 ≤ state.taken))
       → (input rest : Input) → may_be machine input → may_give commands2 rest → IsDialog input (before all rest) all first now over so.out
-  no_next Ended none long kept input rest may come = to_end so.lines (length so.gone) so.out (read rest come) (so.stays input may) (none_there so.gone state2.bytes rest Ended (none rest come)) is_due (leads_to_end input so.lines first so.out now (so.leads input may))
-  no_next Unread none long kept input rest may come = unread so.lines (length so.gone) so.out (read rest come) (so.stays input may) (none_there so.gone state2.bytes rest Unread (none rest come)) is_due (leads_to_end input so.lines first so.out now (so.leads input may))
-  no_next Unwritten none long kept input rest may come = absurd (none rest come)
-  no_next NoMemory none long kept input rest may come =
-      let behind : IsLong all (length so.gone) ⊎ (2 ^ 64 - 1 ≤ length so.lines) =
-      elim (long refl) [
-        | inl here ↦ inl (long_behind so.gone state2.bytes here)
-        | inr many ↦ inr (subst (λ k. 2 ^ 64 - 1 ≤ k) (kept ∙ sym so.many) many)
+  no_next Ended none many input rest may come = to_end so.turns (length so.gone) so.out (read rest come) (so.stays input may) (none_there so.gone fresh rest Ended (none rest come)) is_due (leads_to_end input so.turns first so.out now (so.leads input may))
+  no_next Unread none many input rest may come = unread so.turns (length so.gone) so.out (read rest come) (so.stays input may) (none_there so.gone fresh rest Unread (none rest come)) is_due (leads_to_end input so.turns first so.out now (so.leads input may))
+  no_next Unwritten none many input rest may come = absurd (none rest come)
+  no_next TooMany none many input rest may come =
+      let behind : IsEndless all (length so.gone) ⊎ (2 ^ 64 - 1 ≤ length so.turns) =
+      elim (many refl) [
+        | inl here ↦ inl (endless_behind so.gone fresh here)
+        | inr there ↦ inr (subst (λ k. 2 ^ 64 - 1 ≤ k) (sym so.many) there)
       ] in
-      no_memory so.lines (length so.gone) so.out (read rest come) (so.stays input may) is_due behind (leads_to_end input so.lines first so.out now (so.leads input may))
+      too_many so.turns (length so.gone) so.out (read rest come) (so.stays input may) is_due behind (leads_to_end input so.turns first so.out now (so.leads input may))
 
-  pub unread_is : (over : Over) → ((rest : Input) → may_give commands2 rest → HasNoLine (before state2.bytes rest) 0 over) → (over ≡ NoMemory → IsLong state2.bytes 0 ⊎ (2 ^ 64 - 1 ≤ state2.taken)) → state2.taken ≡ state.taken
+  pub unread_is : (over : Over) → ((rest : Input) → may_give commands2 rest → HasNoLine (before fresh rest) 0 over) → (over ≡ TooMany → IsEndless fresh 0 ⊎ (2 ^ 64 - 1 ≤ state.taken))
       → Speaks may_be may_give handed may_hold first now machine commands_first commands2 sink_first sink over
-  unread_is over none long kept = record {
+  unread_is over none many = record {
     read = all;
     comes = comes;
     counted = counted;
-    taken = λ input rest may come held h. (so.out, so.taken held h, no_next over none long kept input rest may come);
+    taken = λ input rest may come held h. (so.out, so.taken held h, no_next over none many input rest may come);
   }
 
-  module _ (line found : Bytes) (count : ℕ) (reply : Reply) (same : line ≡ found) (next : (rest : Input) → may_give commands2 rest → IsNextLine (before state2.bytes rest) 0 found count) (narrows : (input : Input) → may_be machine2 input → may_be machine input) (carries : (input : Input) → may_be machine2 input → Carries input line now reply new) where
-    is_next : (rest : Input) → may_give commands2 rest → IsNextLine (before all rest) (length so.gone) line (length so.gone + count)
-    is_next rest come = line_behind so.gone state2.bytes rest line count (subst (λ (b : Bytes). IsNextLine (before state2.bytes rest) 0 b count) (sym same) (next rest come))
+  module _ (machine2 : M) (new : Stand) (sink2 : V) (turn : Turn) (count : ℕ) (output : Bytes) (reply : Reply) (next : (rest : Input) → may_give commands2 rest → IsNextTurn (before fresh rest) 0 turn count) (narrows : (input : Input) → may_be machine2 input → may_be machine input) (carries : (input : Input) → may_be machine2 input → Carries input turn now output reply new) where
+    is_next : (rest : Input) → may_give commands2 rest → IsNextTurn (before all rest) (length so.gone) turn (length so.gone + count)
+    is_next rest come = turn_behind so.gone fresh rest turn count (next rest come)
 
-    reads : (rest : Input) → may_give commands2 rest → LinesTo (before all rest) 0 (so.lines ++ line ∷ []) (length so.gone + count)
-    reads rest come = lines_on (before all rest) 0 so.lines (length so.gone) line (length so.gone + count) (read rest come) (is_next rest come)
+    reads : (rest : Input) → may_give commands2 rest → TurnsTo (before all rest) 0 (so.turns ++ turn ∷ []) (length so.gone + count)
+    reads rest come = turns_on (before all rest) 0 so.turns (length so.gone) turn (length so.gone + count) (read rest come) (is_next rest come)
 
-    -- the line ends the session
+    -- the turn ends the session
     pub quitted : quits_by reply ≡ true → Speaks may_be may_give handed may_hold first new machine2 commands_first commands2 sink_first sink Ended
     quitted is = record {
       read = all;
       comes = comes;
       counted = counted;
       taken = λ input rest may come held h.
-          let quit : Carries input line now Quits new = subst (λ (r : Reply). Carries input line now r new) (quits_is reply is) (carries input may) in
-          (so.out, so.taken held h, to_quit so.lines line (length so.gone) (length so.gone + count) so.out (read rest come) (is_next rest come) is_due (so.stays input (narrows input may)) quit.0 (leads_to_quit input so.lines first so.out now (so.leads input (narrows input may)) line new [] quit));
+          let quit : Carries input turn now output Quits new = subst (λ (r : Reply). Carries input turn now output r new) (quits_is reply is) (carries input may) in
+          (so.out, so.taken held h, to_quit so.turns turn (length so.gone) (length so.gone + count) so.out (read rest come) (is_next rest come) is_due (so.stays input (narrows input may)) quit.0 (leads_to_quit input so.turns first so.out now (so.leads input (narrows input may)) turn output new [] quit));
     }
 
-    leads_further : quits_by reply ≡ false → (input : Input) → may_be machine2 input → Leads input (so.lines ++ line ∷ []) first (so.out ++ reply_text reply) new
-    leads_further is input may = leads_on input so.lines first so.out now (so.leads input (narrows input may)) line reply new (stays_is reply is) (carries input may)
+    leads_further : quits_by reply ≡ false → (input : Input) → may_be machine2 input → Leads input (so.turns ++ turn ∷ []) first (so.out ++ reply_text output reply) new
+    leads_further is input may = leads_on input so.turns first so.out now (so.leads input (narrows input may)) turn output reply new (stays_is reply is) (carries input may)
 
-    stays_further : quits_by reply ≡ false → (input : Input) → may_be machine2 input → NoneQuits (so.lines ++ line ∷ [])
-    stays_further is input may = none_quits_on so.lines line (so.stays input (narrows input may)) (stays_by input line now reply new is (carries input may))
+    stays_further : quits_by reply ≡ false → (input : Input) → may_be machine2 input → NoneQuits (so.turns ++ turn ∷ [])
+    stays_further is input may = none_quits_on so.turns turn (so.stays input (narrows input may)) (stays_by input turn now output reply new is (carries input may))
 
     -- its answer is written in part
-    pub stopped : (text : Bytes) → text ≡ reply_text reply → quits_by reply ≡ false → ((held : Bytes) → may_hold sink held → (size : ℕ) × (size < length text) × may_hold sink2 (held ++ take size text))
+    pub stopped : quits_by reply ≡ false → ((held : Bytes) → may_hold sink held → (size : ℕ) × (size < length (reply_text output reply)) × may_hold sink2 (held ++ take size (reply_text output reply)))
         → Speaks may_be may_give handed may_hold first new machine2 commands_first commands2 sink_first sink2 Unwritten
-    stopped text bytes is cut = record {
+    stopped is cut = record {
       read = all;
       comes = comes;
       counted = counted;
       taken = λ input rest may come held h.
-          let part = subst (λ (b : Bytes). (size : ℕ) × (size < length b) × may_hold sink2 ((held ++ so.out) ++ take size b)) bytes (cut (held ++ so.out) (so.taken held h)) in (
-            so.out ++ take part.0 (reply_text reply),
-            subst (λ (b : Bytes). may_hold sink2 b) (append_assoc held so.out (take part.0 (reply_text reply))) part.2,
-            unwritten_part input (before all rest) all first now new so.lines line (length so.gone) (length so.gone + count) so.out (reply_text reply) part.0 (read rest come) (is_next rest come) is_due (stays_further is input may)
-                (leads_to_end input so.lines first so.out now (so.leads input (narrows input may))) (leads_to_end input (so.lines ++ line ∷ []) first (so.out ++ reply_text reply) new (leads_further is input may)) part.1,
+          let part = cut (held ++ so.out) (so.taken held h) in (
+            so.out ++ take part.0 (reply_text output reply),
+            subst (λ (b : Bytes). may_hold sink2 b) (append_assoc held so.out (take part.0 (reply_text output reply))) part.2,
+            unwritten_part input (before all rest) all first now new so.turns turn (length so.gone) (length so.gone + count) so.out (reply_text output reply) part.0 (read rest come) (is_next rest come) is_due (stays_further is input may)
+                (leads_to_end input so.turns first so.out now (so.leads input (narrows input may))) (leads_to_end input (so.turns ++ turn ∷ []) first (so.out ++ reply_text output reply) new (leads_further is input may)) part.1,
           );
     }
 
-    -- its answer is written, and it is let go
-    pub answered : (state3 : LinesState) → count ≤ length state2.bytes → state3.bytes ≡ drop count state2.bytes → state3.taken ≡ state.taken + 1 → (text : Bytes) → text ≡ reply_text reply → quits_by reply ≡ false
-        → ((held : Bytes) → may_hold sink held → may_hold sink2 (held ++ text)) → SoFar may_be may_give handed may_hold first new start machine2 commands_first commands2 state3 sink_first sink2
-    answered state3 low left taken text bytes is wrote =
-        let gone : Bytes = so.gone ++ take count state2.bytes in
-        let whole : gone ++ state3.bytes ≡ all = append_assoc so.gone (take count state2.bytes) state3.bytes ∙ ap (λ (b : Bytes). so.gone ++ b) (ap (λ (b : Bytes). take count state2.bytes ++ b) left ∙ take-append-drop count state2.bytes) in
-        let size : length gone ≡ length so.gone + count = length-append so.gone (take count state2.bytes) ∙ ap (λ k. length so.gone + k) (length-take-le count state2.bytes low) in
+    -- its answer is written, and its line let go
+    pub answered : (state3 : LinesState) → count ≤ length fresh → state3.bytes ≡ drop count fresh → state3.taken ≡ state.taken + 1 → quits_by reply ≡ false
+        → ((held : Bytes) → may_hold sink held → may_hold sink2 (held ++ reply_text output reply)) → SoFar may_be may_give handed may_hold first new start machine2 commands_first commands2 state3 sink_first sink2
+    answered state3 low left taken is wrote =
+        let gone : Bytes = so.gone ++ take count fresh in
+        let whole : gone ++ state3.bytes ≡ all = append_assoc so.gone (take count fresh) state3.bytes ∙ ap (λ (b : Bytes). so.gone ++ b) (ap (λ (b : Bytes). take count fresh ++ b) left ∙ take-append-drop count fresh) in
+        let size : length gone ≡ length so.gone + count = length-append so.gone (take count fresh) ∙ ap (λ k. length so.gone + k) (length-take-le count fresh low) in
         record {
-          lines = so.lines ++ line ∷ [];
-          out = so.out ++ reply_text reply;
+          turns = so.turns ++ turn ∷ [];
+          out = so.out ++ reply_text output reply;
           gone = gone;
           leads = leads_further is;
           stays = stays_further is;
           narrows = λ input may. so.narrows input (narrows input may);
           comes = λ rest come. subst (λ (b : Bytes). may_give commands_first (before b rest)) (sym whole) (comes rest come);
           counted = subst (λ (b : Bytes). CountsUp (handed commands_first) (handed commands2) (length b)) (sym whole) counted;
-          read = λ rest come. subst (λ k. LinesTo (before (gone ++ state3.bytes) rest) 0 (so.lines ++ line ∷ []) k) (sym size) (subst (λ (b : Bytes). LinesTo (before b rest) 0 (so.lines ++ line ∷ []) (length so.gone + count)) (sym whole) (reads rest come));
-          many = length-append so.lines (line ∷ []) ∙ (ap (λ k. k + 1) so.many ∙ sym taken);
-          taken = λ held h. subst (λ (b : Bytes). may_hold sink2 b) (append_assoc held so.out (reply_text reply)) (subst (λ (b : Bytes). may_hold sink2 ((held ++ so.out) ++ b)) bytes (wrote (held ++ so.out) (so.taken held h)));
+          read = λ rest come. subst (λ k. TurnsTo (before (gone ++ state3.bytes) rest) 0 (so.turns ++ turn ∷ []) k) (sym size) (subst (λ (b : Bytes). TurnsTo (before b rest) 0 (so.turns ++ turn ∷ []) (length so.gone + count)) (sym whole) (reads rest come));
+          many = length-append so.turns (turn ∷ []) ∙ (ap (λ k. k + 1) so.many ∙ sym taken);
+          taken = λ held h. subst (λ (b : Bytes). may_hold sink2 b) (append_assoc held so.out (reply_text output reply)) (wrote (held ++ so.out) (so.taken held h));
           wanted = length so.gone;
           passed = omega (arith, size);
           due = subst (λ (b : Bytes). IsDue b (length so.gone)) (sym whole) is_due;

@@ -1,20 +1,24 @@
 -- What is reported of a whole run, from what its parts do.
-use Rattle.std.proofs.Common.{◌≡◌, ℕ, ◌+◌, ◌++◌, List, [], refl, sym, ◌∙◌, ap, subst, arith}
+use Rattle.std.proofs.Common.{◌≡◌, ℕ, ◌+◌, inl, inr, List, [], length, Option, refl, sym, ◌∙◌, ap, subst, arith}
 use Rattle.rawk_value.specs.Values.{Bytes}
 use Rattle.rawk_value.specs.declared.fault.Fault.TheVariants.{OutOfMemory}
 use Rattle.rawk_tape.specs.Records.{Input}
+use Rattle.rawk_tape.specs.Inputs.{CountsUp, before}
+use Rattle.rawk_tape.specs.declared.source.Ending.{Ending}
 use Rattle.rawk_tree.specs.declared.tree.Program.{Program}
-use Rattle.rawk_code.specs.Actions.{SetAt}
+use Rattle.rawk_code.specs.Actions.{Given, SetAt}
+use Rattle.rawk_code.specs.Correct.{CodeOf}
 use Rattle.rawk_code.specs.Laws.{FirstOutputLaw}
 use Rattle.rawk_code.specs.Listing.{Listing}
 use Rattle.rawk_code.specs.Trace.{FirstValue, Trace, trace}
+use Rattle.rawk_machine.specs.Asked.{AskedBy, HasAsked, IsAskedFor}
 use Rattle.rawk_machine.specs.Standing.{Standing, MayCome, given_of}
 use Rattle.rawk.specs.declared.report.Report.{Report}
 use Rattle.rawk.specs.declared.report.Cause.TheVariants as cause
 use Rattle.rawk.specs.Reports.{stopped_by, read_failures, write_failures}
 use Rattle.rawk.specs.Preparing as preparing
 use Rattle.rawk.specs.Preparing.{IsReady, IsRefused}
-use Rattle.rawk.specs.Runs.{IsRunOf, Runs, IsRun, trace_of}
+use Rattle.rawk.specs.Runs.{IsRunOf, Runs, IsRun, points_until, trace_of}
 use Rattle.rawk.specs.Tells.{Tells, text_refused, settings_refused, ran}
 use Rattle.rawk.proofs.SoFar.{not_stood}
 
@@ -26,36 +30,53 @@ trace_is p settings steps m input same none limit =
     ∙ ap (λ (x : List SetAt). trace p settings (record { input = input; sets = x; steps = m.steps })) none
     ∙ ap (λ (x : ℕ). trace p settings (record { input = input; sets = []; steps = x })) limit
 
+-- what a machine that was made of them asked for, the program asks for
+asked_for : {S : Type 0} (p : Program) (settings : List FirstValue) (steps : ℕ) (m : Standing S) (input : Input) (points : ℕ) (read : Bytes) → m.settings ≡ settings → m.sets ≡ [] → m.steps ≡ steps → CodeOf p m.code → AskedBy m input points read
+    → IsAskedFor p settings (record { input = input; sets = []; steps = steps }) points read
+asked_for p settings steps m input points read same none limit compiled asked =
+    let given : Given = record { input = input; sets = []; steps = steps } in
+    let all : HasAsked m.code settings given points read =
+    subst (λ (x : List FirstValue). HasAsked m.code x given points read) same
+    (subst (λ (x : List SetAt). HasAsked m.code m.settings (record { input = input; sets = x; steps = steps }) points read) none
+    (subst (λ (x : ℕ). HasAsked m.code m.settings (record { input = input; sets = m.sets; steps = x }) points read) limit asked)) in
+    elim all [
+      | inl nothing ↦ inl nothing
+      | inr more ↦ inr (m.code, compiled, more)
+    ]
+
 -- a machine that was made of them ran
-pub run_is : {S V : Type 0} (may_give : S → Input → Type 0) (may_be : Input → Type 0) (may_hold : V → Bytes → Type 0) (p : Program) (settings : List FirstValue) (steps : ℕ) (m : Standing S) (sink now : V) (report : Report)
-    → m.settings ≡ settings → m.sets ≡ [] → m.steps ≡ steps → ((input : Input) → MayCome may_give m [] input → may_be input) → Runs may_give may_hold p m sink now report
-    → IsRun may_be may_hold p settings steps sink now report
-run_is may_give may_be may_hold p settings steps m sink now report same none limit may runs = record {
-  input = runs.input;
-  may = may runs.input runs.may;
-  taken = λ held holds. subst (λ (t : Trace). (taken : Bytes) × may_hold now (held ++ taken) × IsRunOf p t report taken) (trace_is p settings steps m runs.input same none limit) (runs.taken held holds);
+pub run_is : {S V : Type 0} (may_give : S → Input → Type 0) (over : S → Option Ending) (drawn : S → ℕ) (may_hold : V → Bytes → Type 0) (p : Program) (settings : List FirstValue) (source : S) (steps : ℕ) (m : Standing S) (last : S) (sink now : V) (report : Report)
+    → m.settings ≡ settings → m.sets ≡ [] → m.steps ≡ steps → CodeOf p m.code → ((input : Input) → MayCome may_give m [] input → may_give source input) → CountsUp (drawn source) (drawn m.tape.source) (length m.tape.bytes)
+    → Runs may_give over drawn may_hold p m last sink now report → IsRun may_give over drawn may_hold p settings source steps sink now report
+run_is may_give over drawn may_hold p settings source steps m last sink now report same none limit compiled may counted runs = record {
+  last = last;
+  read = runs.read;
+  took = record {
+    some = runs.took.some;
+    given = λ rest comes. may (before runs.read rest) (runs.took.given rest comes);
+    asked = λ rest comes. asked_for p settings steps m (before runs.read rest) (points_until report.cause report.point) runs.read same none limit compiled (runs.took.asked rest comes);
+    counted = runs.took.counted (drawn source) counted;
+    failed = runs.took.failed;
+  };
+  taken = λ held holds.
+      let took = runs.taken held holds in
+      (took.0, took.1, λ rest comes. subst (λ (t : Trace). IsRunOf p t report took.0) (trace_is p settings steps m (before runs.read rest) same none limit) (took.2 rest comes));
 }
 
--- a program of the text ran
-pub reported_run : {S V : Type 0} (may_give : S → Input → Type 0) (may_hold : V → Bytes → Type 0) (text : Bytes) (settings : List FirstValue) (source : S) (steps : ℕ) (sink now : V) (p : Program) (code : Listing) (report : Report)
-    → IsReady text settings p code → IsRun (may_give source) may_hold p settings steps sink now report → Tells may_give may_hold text settings source steps sink now report
-reported_run may_give may_hold text settings source steps sink now p code report ready run = ran p run.input report ready.found ready.fits run.may run.taken
-
 -- memory was refused before a machine of a program of the text stood
-pub reported_unstood : {S V : Type 0} (may_give : S → Input → Type 0) (may_hold : V → Bytes → Type 0) (text : Bytes) (settings : List FirstValue) (source : S) (steps : ℕ) (sink now : V) (p : Program) (code : Listing) (report : Report)
-    → (rest : Input) × may_give source rest → FirstOutputLaw → IsReady text settings p code → now ≡ sink → report ≡ stopped_by (cause.Faulted OutOfMemory) 0 → Tells may_give may_hold text settings source steps sink now report
-reported_unstood may_give may_hold text settings source steps sink now p code report some first ready same is =
-    let run = not_stood (may_give source) may_hold p settings steps sink now some.0 some.1 first same in
-    subst (λ (r : Report). Tells may_give may_hold text settings source steps sink now r) (sym is) (ran p run.input (stopped_by (cause.Faulted OutOfMemory) 0) ready.found ready.fits run.may run.taken)
+pub reported_unstood : {S V : Type 0} (may_give : S → Input → Type 0) (over : S → Option Ending) (drawn : S → ℕ) (may_hold : V → Bytes → Type 0) (text : Bytes) (settings : List FirstValue) (source : S) (steps : ℕ) (sink now : V) (p : Program) (code : Listing) (report : Report)
+    → (rest : Input) × may_give source rest → FirstOutputLaw → IsReady text settings p code → now ≡ sink → report ≡ stopped_by (cause.Faulted OutOfMemory) 0 → Tells may_give over drawn may_hold text settings source steps sink now report
+reported_unstood may_give over drawn may_hold text settings source steps sink now p code report some first ready same is =
+    subst (λ (r : Report). Tells may_give over drawn may_hold text settings source steps sink now r) (sym is)
+    (ran p (stopped_by (cause.Faulted OutOfMemory) 0) ready.found ready.fits (not_stood may_give over drawn may_hold p settings source steps sink now some first same))
 
 -- nothing ran
-pub reported_refused : {S V : Type 0} (may_give : S → Input → Type 0) (may_hold : V → Bytes → Type 0) (text : Bytes) (settings : List FirstValue) (source : S) (steps : ℕ) (sink : V) (report : Report)
-    → (rest : Input) × may_give source rest → FirstOutputLaw → IsRefused text settings report → Tells may_give may_hold text settings source steps sink sink report
-reported_refused may_give may_hold text settings source steps sink _ some first (preparing.text_refused refusal complete) = text_refused refusal complete refl
-reported_refused may_give may_hold text settings source steps sink _ some first (preparing.settings_refused p found fits) = settings_refused p found fits refl
-reported_refused may_give may_hold text settings source steps sink report some first (preparing.not_compiled p found fits) =
-    let run = not_stood (may_give source) may_hold p settings steps sink sink some.0 some.1 first refl in
-    ran p run.input (stopped_by (cause.Faulted OutOfMemory) 0) found fits run.may run.taken
+pub reported_refused : {S V : Type 0} (may_give : S → Input → Type 0) (over : S → Option Ending) (drawn : S → ℕ) (may_hold : V → Bytes → Type 0) (text : Bytes) (settings : List FirstValue) (source : S) (steps : ℕ) (sink : V) (report : Report)
+    → (rest : Input) × may_give source rest → FirstOutputLaw → IsRefused text settings report → Tells may_give over drawn may_hold text settings source steps sink sink report
+reported_refused may_give over drawn may_hold text settings source steps sink _ some first (preparing.text_refused refusal complete) = text_refused refusal complete refl
+reported_refused may_give over drawn may_hold text settings source steps sink _ some first (preparing.settings_refused p found fits) = settings_refused p found fits refl
+reported_refused may_give over drawn may_hold text settings source steps sink report some first (preparing.not_compiled p found fits) =
+    ran p (stopped_by (cause.Faulted OutOfMemory) 0) found fits (not_stood may_give over drawn may_hold p settings source steps sink sink some first refl)
 
 -- no failure of a sink is reported of it
 pub refused_writes : (text : Bytes) (settings : List FirstValue) (report : Report) → IsRefused text settings report → write_failures report.cause ≡ 0

@@ -64,17 +64,17 @@ held_from may_be may_give asks may_hold old new sink now over may same h =
     (record { input = h.input; read = h.read; asked = h.asked; last = h.last; may = may h.input h.may; gives = h.gives; taken = h.taken })
 
 -- a session over a program of the text was held
-pub reported_held : {S V : Type 0} (may_give : S → Input → Type 0) (asks : Bytes → Input → Type 0) (may_hold : V → Bytes → Type 0) (text : Bytes) (settings : List FirstValue) (source : S) (steps : ℕ) (history : Option ℕ) (sink now : V) (p : Program) (code : Listing) (over : Over)
+pub reported_held : {S V : Type 0} (may_give : S → Input → Type 0) (asks : Bytes → Input → Type 0) (unread : Type 0) (may_hold : V → Bytes → Type 0) (text : Bytes) (settings : List FirstValue) (source : S) (steps : ℕ) (history : Option ℕ) (sink now : V) (p : Program) (code : Listing) (over : Over)
     → IsReady text settings p code → IsHeld (may_give source) asks may_hold (first_stand p settings steps history) sink now over
-    → Debugs may_give asks may_hold text settings source steps history sink now (report_over over)
-reported_held may_give asks may_hold text settings source steps history sink now p code over ready h = held p h.input h.read h.asked over h.last ready.found ready.fits h.may h.gives h.taken
+    → Debugs may_give asks unread may_hold text settings source steps history sink now (report_over over)
+reported_held may_give asks unread may_hold text settings source steps history sink now p code over ready h = held p h.input h.read h.asked over h.last ready.found ready.fits h.may h.gives h.taken
 
 -- no session was held
-pub reported_refused : {S V : Type 0} (may_give : S → Input → Type 0) (asks : Bytes → Input → Type 0) (may_hold : V → Bytes → Type 0) (text : Bytes) (settings : List FirstValue) (source : S) (steps : ℕ) (history : Option ℕ) (sink : V) (report : Report)
-    → IsRefused text settings report → Debugs may_give asks may_hold text settings source steps history sink sink report
-reported_refused may_give asks may_hold text settings source steps history sink _ (preparing.text_refused refusal complete) = text_refused refusal complete refl
-reported_refused may_give asks may_hold text settings source steps history sink _ (preparing.settings_refused p found fits) = settings_refused p found fits refl
-reported_refused may_give asks may_hold text settings source steps history sink _ (preparing.not_compiled p found fits) = never_stood refl
+pub reported_refused : {S V : Type 0} (may_give : S → Input → Type 0) (asks : Bytes → Input → Type 0) (unread : Type 0) (may_hold : V → Bytes → Type 0) (text : Bytes) (settings : List FirstValue) (source : S) (steps : ℕ) (history : Option ℕ) (sink : V) (report : Report)
+    → unread → IsRefused text settings report → Debugs may_give asks unread may_hold text settings source steps history sink sink report
+reported_refused may_give asks unread may_hold text settings source steps history sink _ none (preparing.text_refused refusal complete) = text_refused refusal complete refl none
+reported_refused may_give asks unread may_hold text settings source steps history sink _ none (preparing.settings_refused p found fits) = settings_refused p found fits refl none
+reported_refused may_give asks unread may_hold text settings source steps history sink _ none (preparing.not_compiled p found fits) = never_stood refl none
 
 -- what is read of commands that are one input is a beginning of it
 pub asks_one : {C : Type 0} (may_give : C → Input → Type 0) (handed : C → ℕ) (commands later : C) (lines : Bytes) → ((asked : Input) → may_give commands asked → asked ≡ record { bytes = lines; fails = false })
@@ -84,9 +84,9 @@ asks_one may_give handed commands later lines one read asked was =
     (is, (was.rest.bytes, ap (λ (i : Input). i.bytes) (sym is ∙ was.whole)))
 
 -- with commands that are one input
-pub reported_all : {S V : Type 0} (may_give : S → Input → Type 0) (asks knows : Bytes → Input → Type 0) (may_hold : V → Bytes → Type 0) (text : Bytes) (settings : List FirstValue) (source : S) (steps : ℕ) (history : Option ℕ) (sink now : V) (report : Report) →
-    ((read : Bytes) (asked : Input) → asks read asked → knows read asked) → Debugs may_give asks may_hold text settings source steps history sink now report → Debugs may_give knows may_hold text settings source steps history sink now report
-reported_all may_give asks knows may_hold text settings source steps history sink now _ one (text_refused refusal complete same) = text_refused refusal complete same
-reported_all may_give asks knows may_hold text settings source steps history sink now _ one (settings_refused p is fit same) = settings_refused p is fit same
-reported_all may_give asks knows may_hold text settings source steps history sink now _ one (never_stood same) = never_stood same
-reported_all may_give asks knows may_hold text settings source steps history sink now _ one (held p input read asked over last is fit gives ask taken) = held p input read asked over last is fit gives (one read asked ask) taken
+pub reported_all : {S V : Type 0} (may_give : S → Input → Type 0) (asks knows : Bytes → Input → Type 0) (unread : Type 0) (may_hold : V → Bytes → Type 0) (text : Bytes) (settings : List FirstValue) (source : S) (steps : ℕ) (history : Option ℕ) (sink now : V) (report : Report) →
+    ((read : Bytes) (asked : Input) → asks read asked → knows read asked) → Debugs may_give asks unread may_hold text settings source steps history sink now report → Debugs may_give knows (Unit {0}) may_hold text settings source steps history sink now report
+reported_all may_give asks knows unread may_hold text settings source steps history sink now _ one (text_refused refusal complete same none) = text_refused refusal complete same tt
+reported_all may_give asks knows unread may_hold text settings source steps history sink now _ one (settings_refused p is fit same none) = settings_refused p is fit same tt
+reported_all may_give asks knows unread may_hold text settings source steps history sink now _ one (never_stood same none) = never_stood same tt
+reported_all may_give asks knows unread may_hold text settings source steps history sink now _ one (held p input read asked over last is fit gives ask taken) = held p input read asked over last is fit gives (one read asked ask) taken

@@ -1,48 +1,63 @@
 -- How a run that is written step by step follows its trace.
-use Rattle.std.proofs.Common.{◌≡◌, ℕ, ◌+◌, ◌-◌, ◌<◌, ◌≤◌, List, [], ◌∷◌, ◌++◌, ◌↔◌, length, take, drop, Option, None, Some, arith, refl, sym, ◌∙◌, ap, subst, append_assoc, length-append, add-one}
+use Rattle.std.proofs.Common.{◌≡◌, ℕ, ◌+◌, ◌-◌, ◌<◌, ◌≤◌, List, [], ◌∷◌, ◌++◌, ◌↔◌, length, take, drop, Option, None, Some, inl, arith, refl, sym, ◌∙◌, ap, subst, append_assoc, length-append, add-one}
 use Rattle.std.specs.Prelude.{slice_get}
 use Rattle.std.proofs.lemmas.Option.{slice_get_past}
 use Rattle.std.proofs.lemmas.List.{append-nil, take-append-drop, length-take-le}
 use Rattle.rawk_value.specs.Values.{Bytes}
-use Rattle.rawk_value.specs.declared.fault.Fault.TheVariants.{WriteFailed, OutOfMemory}
+use Rattle.rawk_value.specs.declared.fault.Fault.TheVariants.{ReadFailed, WriteFailed, OutOfMemory}
 use Rattle.rawk_tape.specs.Records.{Input}
-use Rattle.rawk_tape.specs.Inputs.{CountsUp}
+use Rattle.rawk_tape.specs.Inputs.{CountsUp, before}
+use Rattle.rawk_tape.specs.Laws.{before-before}
+use Rattle.rawk_tape.specs.Tapes.{TapeState}
+use Rattle.rawk_tape.specs.declared.source.Ending.{Ending as End}
+use Rattle.rawk_tape.specs.declared.source.Ending.TheVariants.{Failed}
 use Rattle.rawk_tree.specs.declared.tree.Program.{Program}
 use Rattle.rawk_code.specs.Actions.{Point, Ending, Ended, Faulted, Limited, Given, SetAt}
 use Rattle.rawk_code.specs.Laws.{IsBeginning, OutputLaw, OutputGrows, FirstOutputLaw}
 use Rattle.rawk_code.specs.Trace.{FirstValue, Trace, trace, out, number, line_at}
 use Rattle.rawk_code.specs.Correct.{CodeOf}
+use Rattle.rawk_code.specs.Listing.{Listing}
 use Rattle.rawk_store.specs.State.{State}
+use Rattle.rawk_travel.specs.Asking.{Draws}
+use Rattle.rawk_machine.specs.Asked.{AskedBy, HasAsked, asked_wider}
+use Rattle.rawk_machine.specs.declared.step.Step.{Step}
+use Rattle.rawk_machine.specs.declared.step.Step.TheVariants as step
 use Rattle.rawk_machine.specs.Standing.{Standing, MayCome, IsAt, IsPointOf, IsEndOf, StandsIn, Stays, stands_by, given_of, step_of, dropped}
 use Rattle.rawk_machine.specs.InTrace.{stands_in_trace}
 use Rattle.rawk.specs.declared.report.Report.{Report}
+use Rattle.rawk.specs.declared.report.Cause.{Cause}
 use Rattle.rawk.specs.declared.report.Cause.TheVariants as cause
 use Rattle.rawk.specs.Reports.{stopped_by}
-use Rattle.rawk.specs.Runs.{output_or, output_at, output_before, IsRunOf, whole, sink_failed, memory_refused, never_stood, refused_behind, report_of, cause_of, step_report, trace_of, SameRun, HandsOn, IsCut, Runs, IsRun}
+use Rattle.rawk.specs.Runs.{output_or, output_at, output_before, IsRunOf, whole, sink_failed, memory_refused, never_stood, refused_behind, report_of, cause_of, step_report, trace_of, SameRun, HandsOn, IsCut, points_until, TookFrom, Runs, IsRun}
 
 pub SameRun-trans : {S : Type 0} (l m n : Standing S) → SameRun l m → SameRun m n → SameRun l n
 SameRun-trans l m n a b = record { code = b.code ∙ a.code; settings = b.settings ∙ a.settings; sets = b.sets ∙ a.sets; steps = b.steps ∙ a.steps }
 
 -- the run so far: each input that may come might have come at first, the machine stands in it, and the sink has taken what was handed on
-pub record SoFar {S V : Type 0} (may_give : S → Input → Type 0) (may_hold : V → Bytes → Type 0) (start : Standing S) (sink : V) (machine : Standing S) (now : V) : Type 0 where
+pub record SoFar {S V : Type 0} (may_give : S → Input → Type 0) (drawn : S → ℕ) (may_hold : V → Bytes → Type 0) (start : Standing S) (sink : V) (machine : Standing S) (now : V) : Type 0 where
   pub same : SameRun start machine
   pub gone : Bytes
   pub handed : Bytes
   pub may : (input : Input) → MayCome may_give machine gone input → MayCome may_give start [] input
   pub stands : (input : Input) → MayCome may_give machine gone input → IsAt machine input gone handed
+  pub asked : (input : Input) → MayCome may_give machine gone input → AskedBy machine input machine.point (gone ++ machine.tape.bytes)
+  pub counted : (first : ℕ) → CountsUp first (drawn start.tape.source) (length start.tape.bytes) → CountsUp first (drawn machine.tape.source) (length (gone ++ machine.tape.bytes))
   pub behind : (p : Program) (input : Input) → CodeOf p machine.code → MayCome may_give machine gone input → output_before (trace_of p machine input) machine.point ≡ handed
   pub some : (input : Input) × MayCome may_give machine gone input
   pub taken : (held : Bytes) → may_hold sink held → may_hold now (held ++ handed)
 
 -- before the first step
-pub begun : {S V : Type 0} (may_give : S → Input → Type 0) (may_hold : V → Bytes → Type 0) (start : Standing S) (sink : V)
-    → start.point ≡ 0 → ((input : Input) → MayCome may_give start [] input → IsAt start input [] []) → (input : Input) × MayCome may_give start [] input → SoFar may_give may_hold start sink start sink
-begun may_give may_hold start sink fresh stands some = record {
+pub begun : {S V : Type 0} (may_give : S → Input → Type 0) (drawn : S → ℕ) (may_hold : V → Bytes → Type 0) (start : Standing S) (sink : V)
+    → start.point ≡ 0 → ((input : Input) → MayCome may_give start [] input → IsAt start input [] []) → ((input : Input) → MayCome may_give start [] input → AskedBy start input 0 start.tape.bytes)
+    → (input : Input) × MayCome may_give start [] input → SoFar may_give drawn may_hold start sink start sink
+begun may_give drawn may_hold start sink fresh stands asked some = record {
   same = record { code = refl; settings = refl; sets = refl; steps = refl };
   gone = [];
   handed = [];
   may = λ input come. come;
   stands = stands;
+  asked = λ input come. subst (λ (k : ℕ). AskedBy start input k start.tape.bytes) (sym fresh) (asked input come);
+  counted = λ first count. count;
   behind = λ p input compiled come. ap (λ (k : ℕ). output_before (trace_of p start input) k) fresh;
   some = some;
   taken = λ held holds. subst (λ (x : Bytes). may_hold sink x) (sym (append-nil held)) holds;
@@ -133,12 +148,14 @@ pub finishes : {S : Type 0} (p : Program) (t : Trace) (machine : Standing S) (ha
 finishes p t machine handed report h none is = finishes_by p t machine.ending machine handed report h none is
 
 -- the run so far, with all output handed on
-pub record Settled {S V : Type 0} (may_give : S → Input → Type 0) (may_hold : V → Bytes → Type 0) (start : Standing S) (sink : V) (machine : Standing S) (now : V) : Type 0 where
+pub record Settled {S V : Type 0} (may_give : S → Input → Type 0) (drawn : S → ℕ) (may_hold : V → Bytes → Type 0) (start : Standing S) (sink : V) (machine : Standing S) (now : V) : Type 0 where
   pub same : SameRun start machine
   pub gone : Bytes
   pub handed : Bytes
   pub may : (input : Input) → MayCome may_give machine gone input → MayCome may_give start [] input
   pub stands : (input : Input) → MayCome may_give machine gone input → IsAt machine input gone handed
+  pub asked : (input : Input) → MayCome may_give machine gone input → AskedBy machine input machine.point (gone ++ machine.tape.bytes)
+  pub counted : (first : ℕ) → CountsUp first (drawn start.tape.source) (length start.tape.bytes) → CountsUp first (drawn machine.tape.source) (length (gone ++ machine.tape.bytes))
   pub some : (input : Input) × MayCome may_give machine gone input
   pub none : machine.state.output ≡ []
   pub taken : (held : Bytes) → may_hold sink held → may_hold now (held ++ handed)
@@ -175,6 +192,7 @@ hands_on {S} may_give may_hold old given new sink now size buffer written rest o
   unset = ap (λ (x : Standing S). x.unset) after ∙ ap (λ (x : Standing S). x.unset) rest;
   none = ap (λ (x : Standing S). x.state.output) after ∙ ap (λ (x : Standing S). x.state.output) rest;
   dropped = take size given.tape.bytes;
+  bytes = ap (λ (x : Standing S). take size given.tape.bytes ++ x.tape.bytes) after ∙ take-append-drop size given.tape.bytes ∙ ap (λ (x : Standing S). x.tape.bytes) rest;
   back = λ gone input come. (may1 gone input).0 ((may2 gone input).0 come);
   forth = λ gone input come. (may2 gone input).1 ((may1 gone input).1 come);
   stands = λ input gone handed at.
@@ -192,6 +210,7 @@ hands_nothing may_give may_hold machine sink none =
       unset = refl;
       none = none;
       dropped = [];
+      bytes = refl;
       back = λ gone input come. subst (λ (b : Bytes). MayCome may_give machine b input) (append-nil gone) come;
       forth = λ gone input come. subst (λ (b : Bytes). MayCome may_give machine b input) (sym (append-nil gone)) come;
       stands = λ input gone handed at.
@@ -203,33 +222,98 @@ hands_nothing may_give may_hold machine sink none =
 pub cut_in : {V : Type 0} (may_hold : V → Bytes → Type 0) (text written : Bytes) (sink now : V) → written ≡ text → IsCut may_hold written sink now → IsCut may_hold text sink now
 cut_in may_hold text written sink now same cut = subst (λ (b : Bytes). IsCut may_hold b sink now) same cut
 
--- the output of a step is taken
-pub settled : {S V : Type 0} (may_give : S → Input → Type 0) (may_hold : V → Bytes → Type 0) (start : Standing S) (sink : V) (m n : Standing S) (now now2 : V) → SoFar may_give may_hold start sink m now → HandsOn may_give may_hold m now n now2
-    → Settled may_give may_hold start sink n now2
-settled may_give may_hold start sink m n now now2 so on = record {
-  same = SameRun-trans start m n so.same on.same;
-  gone = so.gone ++ on.dropped;
-  handed = so.handed ++ m.state.output;
-  may = λ input comes. so.may input (on.back so.gone input comes);
-  stands = λ input comes. on.stands input so.gone so.handed (so.stands input (on.back so.gone input comes));
-  some = (so.some.0, on.forth so.gone so.some.0 so.some.1);
-  none = on.none;
-  taken = λ held holds. subst (λ (x : Bytes). may_hold now2 x) (append_assoc held so.handed m.state.output) (on.wrote (held ++ so.handed) (so.taken held holds));
+-- machines of the same run have asked for the same
+asked_same : {S : Type 0} (m n : Standing S) (input : Input) (points : ℕ) (read : Bytes) → SameRun m n → AskedBy m input points read → AskedBy n input points read
+asked_same m n input points read same asked =
+    subst (λ (c : Listing). HasAsked c n.settings (given_of n input) points read) (sym same.code)
+    (subst (λ (x : List FirstValue). HasAsked m.code x (given_of n input) points read) (sym same.settings)
+    (subst (λ (x : List SetAt). HasAsked m.code m.settings (record { input = input; sets = x; steps = n.steps }) points read) (sym same.sets)
+    (subst (λ (x : ℕ). HasAsked m.code m.settings (record { input = input; sets = m.sets; steps = x }) points read) (sym same.steps) asked)))
+
+-- the point of a report, and one more where memory was refused
+least_points : (c : Cause) (point : ℕ) → point ≤ points_until c point
+least_points (cause.Faulted OutOfMemory) point = omega arith
+least_points other point = omega arith
+
+SameRun-sym : {S : Type 0} (m n : Standing S) → SameRun m n → SameRun n m
+SameRun-sym m n same = record { code = sym same.code; settings = sym same.settings; sets = sym same.sets; steps = sym same.steps }
+
+-- what a machine's source may still give may come behind all that was read
+comes_behind : {S : Type 0} (may_give : S → Input → Type 0) (m : Standing S) (gone : Bytes) (rest : Input) → may_give m.tape.source rest → MayCome may_give m gone (before (gone ++ m.tape.bytes) rest)
+comes_behind may_give m gone rest comes = record {
+  kept = before m.tape.bytes rest;
+  may = record { rest = rest; comes = comes; whole = refl };
+  whole = sym (before-before gone m.tape.bytes rest);
 }
 
+-- what was taken of the source
+took_from : {S : Type 0} (may_give : S → Input → Type 0) (over : S → Option End) (drawn : S → ℕ) (start : Standing S) (report : Report) (m : Standing S) (gone : Bytes) (points : ℕ) → SameRun start m → points ≤ points_until report.cause report.point
+    → ((input : Input) → MayCome may_give m gone input → MayCome may_give start [] input)
+    → ((input : Input) → MayCome may_give m gone input → AskedBy m input points (gone ++ m.tape.bytes))
+    → ((first : ℕ) → CountsUp first (drawn start.tape.source) (length start.tape.bytes) → CountsUp first (drawn m.tape.source) (length (gone ++ m.tape.bytes)))
+    → (input : Input) × MayCome may_give m gone input → (report.cause ≡ cause.Faulted ReadFailed → over m.tape.source ≡ Some Failed)
+    → TookFrom may_give over drawn start report m.tape.source (gone ++ m.tape.bytes)
+took_from may_give over drawn start report m gone points same low may asked count some failed = record {
+  some = (some.1.may.rest, some.1.may.comes);
+  given = λ rest comes. may (before (gone ++ m.tape.bytes) rest) (comes_behind may_give m gone rest comes);
+  asked = λ rest comes.
+      let input = before (gone ++ m.tape.bytes) rest in
+      let most = points_until report.cause report.point in
+      asked_wider start.code start.settings (given_of start input) points most (gone ++ m.tape.bytes) low
+      (asked_same m start input points (gone ++ m.tape.bytes) (SameRun-sym start m same) (asked input (comes_behind may_give m gone rest comes)));
+  counted = count;
+  failed = failed;
+}
+
+-- bytes that were read since count too
+counted_on : {S : Type 0} (over : S → Option End) (drawn : S → ℕ) (gone : Bytes) (old new : TapeState S) (first : ℕ) → Draws over drawn old new → CountsUp first (drawn old.source) (length (gone ++ old.bytes)) → CountsUp first (drawn new.source) (length (gone ++ new.bytes))
+counted_on over drawn gone old new first draws count = λ small.
+    let a : length (gone ++ old.bytes) ≡ length gone + length old.bytes = length-append gone old.bytes in
+    let b : length (gone ++ new.bytes) ≡ length gone + length new.bytes = length-append gone new.bytes in
+    let f : drawn old.source ≡ first + length (gone ++ old.bytes) = count (omega (arith, small, a, b, draws.longer)) in
+    let s : drawn new.source ≡ drawn old.source + (length new.bytes - length old.bytes) = draws.counted (omega (arith, small, a, b, f, draws.longer)) in
+    omega (arith, a, b, f, s, draws.longer)
+
+-- the output of a step is taken
+pub settled : {S V : Type 0} (may_give : S → Input → Type 0) (drawn : S → ℕ) (may_hold : V → Bytes → Type 0) (start : Standing S) (sink : V) (m n : Standing S) (now now2 : V) → SoFar may_give drawn may_hold start sink m now → HandsOn may_give may_hold m now n now2 → n.tape.source ≡ m.tape.source
+    → Settled may_give drawn may_hold start sink n now2
+settled {S} may_give drawn may_hold start sink m n now now2 so on source =
+    let whole : so.gone ++ m.tape.bytes ≡ (so.gone ++ on.dropped) ++ n.tape.bytes = sym (append_assoc so.gone on.dropped n.tape.bytes ∙ ap (λ (b : Bytes). so.gone ++ b) on.bytes) in
+    record {
+      same = SameRun-trans start m n so.same on.same;
+      gone = so.gone ++ on.dropped;
+      handed = so.handed ++ m.state.output;
+      may = λ input comes. so.may input (on.back so.gone input comes);
+      stands = λ input comes. on.stands input so.gone so.handed (so.stands input (on.back so.gone input comes));
+      asked = λ input comes. subst (λ (k : ℕ). AskedBy n input k ((so.gone ++ on.dropped) ++ n.tape.bytes)) (sym on.point)
+          (subst (λ (b : Bytes). AskedBy n input m.point b) whole (asked_same m n input m.point (so.gone ++ m.tape.bytes) on.same (so.asked input (on.back so.gone input comes))));
+      counted = λ first count.
+          subst (λ (s : S). CountsUp first (drawn s) (length ((so.gone ++ on.dropped) ++ n.tape.bytes))) (sym source)
+          (subst (λ (b : Bytes). CountsUp first (drawn m.tape.source) (length b)) whole (so.counted first count));
+      some = (so.some.0, on.forth so.gone so.some.0 so.some.1);
+      none = on.none;
+      taken = λ held holds. subst (λ (x : Bytes). may_hold now2 x) (append_assoc held so.handed m.state.output) (on.wrote (held ++ so.handed) (so.taken held holds));
+    }
+
 -- one step on
-pub advanced : {S V : Type 0} (may_give : S → Input → Type 0) (may_hold : V → Bytes → Type 0) (start : Standing S) (sink : V) (m n : Standing S) (now : V) → Settled may_give may_hold start sink m now
+pub advanced : {S V : Type 0} (may_give : S → Input → Type 0) (over : S → Option End) (drawn : S → ℕ) (may_hold : V → Bytes → Type 0) (start : Standing S) (sink : V) (m n : Standing S) (now : V) → Settled may_give drawn may_hold start sink m now
     → SameRun m n → n.point ≡ m.point + 1
     → ((gone : Bytes) (input : Input) → MayCome may_give n gone input → MayCome may_give m gone input)
     → ((gone : Bytes) → (input : Input) × MayCome may_give n gone input)
     → ((input : Input) (gone handed : Bytes) → MayCome may_give n gone input → IsAt m input gone handed → IsAt n input gone handed)
-    → SoFar may_give may_hold start sink n now
-advanced may_give may_hold start sink m n now so same point may still stands = record {
+    → ((input : Input) (gone handed : Bytes) → MayCome may_give n gone input → IsAt m input gone handed → AskedBy m input m.point (gone ++ m.tape.bytes) → AskedBy n input (m.point + 1) (gone ++ n.tape.bytes))
+    → Draws over drawn m.tape n.tape
+    → SoFar may_give drawn may_hold start sink n now
+advanced may_give over drawn may_hold start sink m n now so same point may still stands asks draws = record {
   same = SameRun-trans start m n so.same same;
   gone = so.gone;
   handed = so.handed;
   may = λ input comes. so.may input (may so.gone input comes);
   stands = λ input comes. stands input so.gone so.handed comes (so.stands input (may so.gone input comes));
+  asked = λ input comes.
+      let before_it = may so.gone input comes in
+      subst (λ (k : ℕ). AskedBy n input k (so.gone ++ n.tape.bytes)) (sym point) (asks input so.gone so.handed comes (so.stands input before_it) (so.asked input before_it));
+  counted = λ first count. counted_on over drawn so.gone m.tape n.tape first draws (so.counted first count);
   behind = λ p input compiled comes.
       let stood : StandsIn (trace_of p m input) m so.handed = stands_in_trace p m input so.gone so.handed (subst (λ c. CodeOf p c) same.code compiled) (so.stands input (may so.gone input comes)) in
       let here : output_at (trace_of p m input) m.point ≡ so.handed = output_here m.ending (trace_of p m input) m so.handed stood ∙ ap (λ (x : Bytes). so.handed ++ x) so.none ∙ append-nil so.handed in
@@ -238,60 +322,78 @@ advanced may_give may_hold start sink m n now so same point may still stands = r
   taken = so.taken;
 }
 
+same_report : (r report : Report) → Some r ≡ Some report → r ≡ report
+same_report r report is = cc
+
+-- the point that is reported
+point_reported : (lines : List ℕ) (step : Step) (site : Option ℕ) (point : ℕ) (report : Report) → step_report lines step site point ≡ Some report → report.point ≡ point
+point_reported lines step.At site point report is = absurd (cc is)
+point_reported lines (step.Ended status) site point report is = let r = same_report _ report is in sym (ap (λ (x : Report). x.point) r)
+point_reported lines (step.Faulted fault) site point report is = let r = same_report _ report is in sym (ap (λ (x : Report). x.point) r)
+
 -- the run is over
-pub ended : {S V : Type 0} (may_give : S → Input → Type 0) (may_hold : V → Bytes → Type 0) (p : Program) (start : Standing S) (sink : V) (m : Standing S) (now : V) (report : Report) → Settled may_give may_hold start sink m now
-    → CodeOf p start.code → Some report ≡ step_report p.lines.items (step_of m.ending m.state.status) m.site m.point → Runs may_give may_hold p start sink now report
-ended may_give may_hold p start sink m now report so compiled is = record {
-  input = so.some.0;
-  may = so.may so.some.0 so.some.1;
+pub ended : {S V : Type 0} (may_give : S → Input → Type 0) (over : S → Option End) (drawn : S → ℕ) (may_hold : V → Bytes → Type 0) (p : Program) (start : Standing S) (sink : V) (m : Standing S) (now : V) (report : Report) → Settled may_give drawn may_hold start sink m now
+    → CodeOf p start.code → (report.cause ≡ cause.Faulted ReadFailed → over m.tape.source ≡ Some Failed) → Some report ≡ step_report p.lines.items (step_of m.ending m.state.status) m.site m.point
+    → Runs may_give over drawn may_hold p start m.tape.source sink now report
+ended may_give over drawn may_hold p start sink m now report so compiled failed is = record {
+  read = so.gone ++ m.tape.bytes;
+  took = took_from may_give over drawn start report m so.gone m.point so.same (subst (λ (k : ℕ). k ≤ points_until report.cause report.point) (point_reported p.lines.items (step_of m.ending m.state.status) m.site m.point report (sym is)) (least_points report.cause report.point)) so.may so.asked so.counted so.some failed;
   taken = λ held holds. (
     so.handed,
     so.taken held holds,
-    finishes p (trace_of p start so.some.0) m so.handed report (in_trace p start m so.some.0 so.gone so.handed so.same compiled (so.stands so.some.0 so.some.1)) so.none (sym is),
+    λ rest comes.
+        let input = before (so.gone ++ m.tape.bytes) rest in
+        finishes p (trace_of p start input) m so.handed report (in_trace p start m input so.gone so.handed so.same compiled (so.stands input (comes_behind may_give m so.gone rest comes))) so.none (sym is),
   );
 }
 
 -- the sink fails
-pub not_written : {S V : Type 0} (may_give : S → Input → Type 0) (may_hold : V → Bytes → Type 0) (p : Program) (start : Standing S) (sink : V) (m : Standing S) (now now2 : V) (report : Report) → SoFar may_give may_hold start sink m now
+pub not_written : {S V : Type 0} (may_give : S → Input → Type 0) (over : S → Option End) (drawn : S → ℕ) (may_hold : V → Bytes → Type 0) (p : Program) (start : Standing S) (sink : V) (m : Standing S) (now now2 : V) (report : Report) → SoFar may_give drawn may_hold start sink m now
     → OutputLaw → CodeOf p start.code → IsCut may_hold m.state.output now now2 → stopped_by (cause.Faulted WriteFailed) m.point ≡ report
-    → Runs may_give may_hold p start sink now2 report
-not_written may_give may_hold p start sink m now now2 report so law compiled failed is =
-    let input : Input = so.some.0 in
-    let t : Trace = trace_of p start input in
-    let stood : StandsIn t m so.handed = in_trace p start m input so.gone so.handed so.same compiled (so.stands input so.some.1) in
-    let behind : output_before t m.point ≡ so.handed =
-    ap (λ (u : Trace). output_before u m.point) (sym (same_trace p start m input so.same)) ∙ so.behind p input (subst (λ c. CodeOf p c) (sym so.same.code) compiled) so.some.1 in
-    record {
-      input = input;
-      may = so.may input so.some.1;
-      taken = λ held holds.
-          let part = failed (held ++ so.handed) (so.taken held holds) in (
-            so.handed ++ take part.0 m.state.output,
-            subst (λ (x : Bytes). may_hold now2 x) (append_assoc held so.handed (take part.0 m.state.output)) part.2,
+    → Runs may_give over drawn may_hold p start m.tape.source sink now2 report
+not_written may_give over drawn may_hold p start sink m now now2 report so law compiled failed is = record {
+  read = so.gone ++ m.tape.bytes;
+  took = took_from may_give over drawn start report m so.gone m.point so.same (subst (λ (r : Report). m.point ≤ points_until r.cause r.point) is (omega arith)) so.may so.asked so.counted so.some (λ faulted. let other = ap (λ (r : Report). r.cause) is ∙ faulted in absurd (cc other));
+  taken = λ held holds.
+      let part = failed (held ++ so.handed) (so.taken held holds) in (
+        so.handed ++ take part.0 m.state.output,
+        subst (λ (x : Bytes). may_hold now2 x) (append_assoc held so.handed (take part.0 m.state.output)) part.2,
+        λ rest comes.
+            let input = before (so.gone ++ m.tape.bytes) rest in
+            let t : Trace = trace_of p start input in
+            let come = comes_behind may_give m so.gone rest comes in
+            let stood : StandsIn t m so.handed = in_trace p start m input so.gone so.handed so.same compiled (so.stands input come) in
+            let behind : output_before t m.point ≡ so.handed =
+            ap (λ (u : Trace). output_before u m.point) (sym (same_trace p start m input so.same)) ∙ so.behind p input (subst (λ c. CodeOf p c) (sym so.same.code) compiled) come in
             subst (λ (r : Report). IsRunOf p t r (so.handed ++ take part.0 m.state.output)) is (stopped_inside p t m so.handed part.0 (law p start.settings (given_of start input)) stood behind part.1),
-          );
-    }
+      );
+}
 
 -- memory is refused in a step
-pub refused : {S V : Type 0} (may_give : S → Input → Type 0) (may_hold : V → Bytes → Type 0) (p : Program) (start : Standing S) (sink : V) (m n : Standing S) (now : V) (report : Report) → Settled may_give may_hold start sink m now
+pub refused : {S V : Type 0} (may_give : S → Input → Type 0) (over : S → Option End) (drawn : S → ℕ) (may_hold : V → Bytes → Type 0) (p : Program) (start : Standing S) (sink : V) (m n : Standing S) (now : V) (report : Report) → Settled may_give drawn may_hold start sink m now
     → OutputLaw → CodeOf p start.code → SameRun m n → Stays m n → m.ending ≡ None
     → ((gone : Bytes) (input : Input) → MayCome may_give n gone input → MayCome may_give m gone input)
     → ((gone : Bytes) → (input : Input) × MayCome may_give n gone input)
     → ((input : Input) (gone handed : Bytes) → MayCome may_give n gone input → IsAt m input gone handed → IsAt n input gone handed)
+    → ((input : Input) (gone handed : Bytes) → MayCome may_give n gone input → IsAt m input gone handed → AskedBy m input m.point (gone ++ m.tape.bytes) → AskedBy n input (m.point + 1) (gone ++ n.tape.bytes))
+    → Draws over drawn m.tape n.tape
     → refused_behind p n.point n.site ≡ report
-    → Runs may_give may_hold p start sink now report
-refused may_give may_hold p start sink m n now report so law compiled same stays going may still stands is =
-    let come = still so.gone in
-    let input : Input = come.0 in
-    let before : MayCome may_give m so.gone input = may so.gone input come.1 in
-    let stood : StandsIn (trace_of p start input) n so.handed = in_trace p start n input so.gone so.handed (SameRun-trans start m n so.same same) compiled (stands input so.gone so.handed come.1 (so.stands input before)) in
+    → Runs may_give over drawn may_hold p start n.tape.source sink now report
+refused may_give over drawn may_hold p start sink m n now report so law compiled same stays going may still stands asks draws is =
+    let all = SameRun-trans start m n so.same same in
     record {
-      input = input;
-      may = so.may input before;
+      read = so.gone ++ n.tape.bytes;
+      took = took_from may_give over drawn start report n so.gone (m.point + 1) all (subst (λ (r : Report). m.point + 1 ≤ points_until r.cause r.point) is (omega (arith, stays.point))) (λ input comes. so.may input (may so.gone input comes))
+          (λ input comes. let before_it = may so.gone input comes in asks input so.gone so.handed comes (so.stands input before_it) (so.asked input before_it))
+          (λ first count. counted_on over drawn so.gone m.tape n.tape first draws (so.counted first count)) (still so.gone) (λ faulted. let other = ap (λ (r : Report). r.cause) is ∙ faulted in absurd (cc other));
       taken = λ held holds. (
         so.handed,
         so.taken held holds,
-        subst (λ (r : Report). IsRunOf p (trace_of p start input) r so.handed) is
+        λ rest comes.
+            let input = before (so.gone ++ n.tape.bytes) rest in
+            let come = comes_behind may_give n so.gone rest comes in
+            let stood : StandsIn (trace_of p start input) n so.handed = in_trace p start n input so.gone so.handed all compiled (stands input so.gone so.handed come (so.stands input (may so.gone input come))) in
+            subst (λ (r : Report). IsRunOf p (trace_of p start input) r so.handed) is
             (stopped_behind p (trace_of p start input) n so.handed (law p start.settings (given_of start input)) stood (stays.ending ∙ going) (ap (λ (x : State). x.output) stays.state ∙ so.none)),
       );
     }
@@ -313,14 +415,18 @@ first_by t None is some none = none (no_points t.run.points is)
 first_by t (Some point) is some none = some point is
 
 -- memory is refused before the machine stands
-pub not_stood : {V : Type 0} (may_be : Input → Type 0) (may_hold : V → Bytes → Type 0) (p : Program) (settings : List FirstValue) (steps : ℕ) (sink now : V) (input : Input)
-    → may_be input → FirstOutputLaw → now ≡ sink → IsRun may_be may_hold p settings steps sink now (stopped_by (cause.Faulted OutOfMemory) 0)
-not_stood may_be may_hold p settings steps sink now input may first same =
-    let given : Given = record { input = input; sets = []; steps = steps } in
-    let t : Trace = trace p settings given in
-    let none : output_at t 0 ≡ [] = first_by t (slice_get t.run.points 0) refl (first p settings given).0 (first p settings given).1 in
-    record {
-      input = input;
-      may = may;
-      taken = λ held holds. ([], subst (λ (x : Bytes). may_hold now x) (sym (append-nil held)) (subst (λ v. may_hold v held) (sym same) holds), never_stood none);
-    }
+pub not_stood : {S V : Type 0} (may_give : S → Input → Type 0) (over : S → Option End) (drawn : S → ℕ) (may_hold : V → Bytes → Type 0) (p : Program) (settings : List FirstValue) (source : S) (steps : ℕ) (sink now : V)
+    → (rest : Input) × may_give source rest → FirstOutputLaw → now ≡ sink → IsRun may_give over drawn may_hold p settings source steps sink now (stopped_by (cause.Faulted OutOfMemory) 0)
+not_stood may_give over drawn may_hold p settings source steps sink now some first same = record {
+  last = source;
+  read = [];
+  took = record { some = some; given = λ rest comes. comes; asked = λ rest comes. inl refl; counted = λ small. omega arith; failed = λ other. absurd (cc other) };
+  taken = λ held holds. (
+    [],
+    subst (λ (x : Bytes). may_hold now x) (sym (append-nil held)) (subst (λ v. may_hold v held) (sym same) holds),
+    λ rest comes.
+        let given : Given = record { input = before [] rest; sets = []; steps = steps } in
+        let t : Trace = trace p settings given in
+        never_stood (first_by t (slice_get t.run.points 0) refl (first p settings given).0 (first p settings given).1),
+  );
+}

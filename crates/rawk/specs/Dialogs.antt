@@ -1,22 +1,20 @@
 -- The dialog of a session: the lines of its commands, and what was written of the answers.
 use Rattle.std.specs.Prelude.{◌≡◌, ℕ, ◌-◌, ◌^◌, ◌<◌, ◌≤◌, ◌⊎◌, Bool, true, false, List, [], ◌∷◌, ◌++◌, length, Some, None, Ok, Err}
 use Rattle.rawk_value.specs.Values.{Bytes}
-use Rattle.rawk_value.specs.declared.fault.Fault.{Fault}
 use Rattle.rawk_value.specs.declared.fault.Fault.TheVariants.{OutOfMemory, ReadFailed, WriteFailed}
 use Rattle.rawk_tape.specs.Records.{Input, next_record}
 use Rattle.rawk_tape.specs.Inputs.{CountsUp, before}
 use Rattle.rawk_code.specs.Laws.{IsBeginning}
-use Rattle.rawk_commands.specs.Reading.{reading}
 use Rattle.rawk_debug.specs.declared.transcript.Reply.{Reply}
 use Rattle.rawk_debug.specs.declared.transcript.Reply.TheVariants.{Quits}
 use Rattle.rawk_debug.specs.Moves.{Stand}
-use Rattle.rawk_debug.specs.Transcript.{Transcript, is_quit}
+use Rattle.rawk_debug.specs.Transcript.{Transcript, Turn, Heard, Passed, is_quit, request}
 use Rattle.rawk.specs.declared.dialog.Over.{Over}
-use Rattle.rawk.specs.declared.dialog.Over.TheVariants.{Ended, Unread, Unwritten, NoMemory}
+use Rattle.rawk.specs.declared.dialog.Over.TheVariants.{Ended, Unread, Unwritten, TooMany}
 use Rattle.rawk.specs.declared.report.Report.{Report}
 use Rattle.rawk.specs.declared.report.Cause.TheVariants as cause
 use Rattle.rawk.specs.Reports.{stopped_by}
-use Rattle.rawk.specs.Reads.{IsDue, IsLong}
+use Rattle.rawk.specs.Reads.{IsDue, IsEndless}
 
 abbrev pub newline : Bytes
 newline = 10 ∷ []
@@ -25,42 +23,42 @@ newline = 10 ∷ []
 abbrev pub IsNextLine : Input → ℕ → Bytes → ℕ → Type 0
 IsNextLine input count line next = next_record input count newline ≡ Ok (Some (record { text = line; count = next }))
 
--- these are the lines of an input from one count of bytes to another
-abbrev pub LinesTo : Input → ℕ → List Bytes → ℕ → Type 0
-LinesTo input count [] end = end ≡ count
-LinesTo input count (line ∷ lines) end = (next : ℕ) × IsNextLine input count line next × LinesTo input next lines end
+-- this became of the next line: one that was passed over has 65,536 bytes and more
+abbrev pub IsNextTurn : Input → ℕ → Turn → ℕ → Type 0
+IsNextTurn input count (Heard line) next = IsNextLine input count line next
+IsNextTurn input count (Passed line) next = IsNextLine input count line next × (65536 ≤ length line)
 
--- none of the lines asks for the session's end
-abbrev pub NoneQuits : List Bytes → Type 0
+-- this became of the lines of an input from one count of bytes to another, each in its turn
+abbrev pub TurnsTo : Input → ℕ → List Turn → ℕ → Type 0
+TurnsTo input count [] end = end ≡ count
+TurnsTo input count (turn ∷ turns) end = (next : ℕ) × IsNextTurn input count turn next × TurnsTo input next turns end
+
+-- none of them asks for the session's end
+abbrev pub NoneQuits : List Turn → Type 0
 NoneQuits [] = Unit {0}
-NoneQuits (line ∷ lines) = (is_quit (reading line) ≡ false) × NoneQuits lines
+NoneQuits (turn ∷ turns) = (is_quit (request turn) ≡ false) × NoneQuits turns
 
 -- how a dialog is over that has no next line to carry out
 abbrev pub HasNoLine : Input → ℕ → Over → Type 0
 HasNoLine input count Ended = next_record input count newline ≡ Ok None
 HasNoLine input count Unread = next_record input count newline ≡ Err ReadFailed
 HasNoLine input count Unwritten = ⊥
-HasNoLine input count NoMemory = Unit {0}
+HasNoLine input count TooMany = Unit {0}
 
 -- A dialog on an input of the program, with these commands, of which so much was read: from where the session stood to where it stands, how it is over, and what was written of the transcript of the lines that were read. Behind a `quit` no line is read, and before a line is read all answers before it are written.
 pub data IsDialog (input asked : Input) (read : Bytes) (first last : Stand) : Over → Bytes → Type 0 where
   -- the commands are at their end
-  to_end : (lines : List Bytes) (count : ℕ) (text : Bytes) → LinesTo asked 0 lines count → NoneQuits lines → next_record asked count newline ≡ Ok None → IsDue read count → Transcript input lines first text last → IsDialog input asked read first last Ended text
+  to_end : (turns : List Turn) (count : ℕ) (text : Bytes) → TurnsTo asked 0 turns count → NoneQuits turns → next_record asked count newline ≡ Ok None → IsDue read count → Transcript input turns first text last → IsDialog input asked read first last Ended text
   -- the last line is `quit`
-  to_quit : (lines : List Bytes) (line : Bytes) (count next : ℕ) (text : Bytes) → LinesTo asked 0 lines count → IsNextLine asked count line next → IsDue read count → NoneQuits lines → is_quit (reading line) ≡ true
-      → Transcript input (lines ++ line ∷ []) first text last → IsDialog input asked read first last Ended text
+  to_quit : (turns : List Turn) (turn : Turn) (count next : ℕ) (text : Bytes) → TurnsTo asked 0 turns count → IsNextTurn asked count turn next → IsDue read count → NoneQuits turns → is_quit (request turn) ≡ true
+      → Transcript input (turns ++ turn ∷ []) first text last → IsDialog input asked read first last Ended text
   -- the next line could not be read
-  unread : (lines : List Bytes) (count : ℕ) (text : Bytes) → LinesTo asked 0 lines count → NoneQuits lines → next_record asked count newline ≡ Err ReadFailed → IsDue read count → Transcript input lines first text last → IsDialog input asked read first last Unread text
-  -- memory was refused for the reading of the next line, which has 65,536 bytes and more; or as many lines were carried out as are counted
-  no_memory : (lines : List Bytes) (count : ℕ) (text : Bytes) → LinesTo asked 0 lines count → NoneQuits lines → IsDue read count → IsLong read count ⊎ (2 ^ 64 - 1 ≤ length lines) → Transcript input lines first text last → IsDialog input asked read first last NoMemory text
+  unread : (turns : List Turn) (count : ℕ) (text : Bytes) → TurnsTo asked 0 turns count → NoneQuits turns → next_record asked count newline ≡ Err ReadFailed → IsDue read count → Transcript input turns first text last → IsDialog input asked read first last Unread text
+  -- as many lines were answered as are counted, or the next one has as many bytes
+  too_many : (turns : List Turn) (count : ℕ) (text : Bytes) → TurnsTo asked 0 turns count → NoneQuits turns → IsDue read count → IsEndless read count ⊎ (2 ^ 64 - 1 ≤ length turns) → Transcript input turns first text last → IsDialog input asked read first last TooMany text
   -- all answers before the last one were written, and of that a part at most
-  unwritten : (lines : List Bytes) (line : Bytes) (count next : ℕ) (mid : Stand) (before text taken : Bytes) → LinesTo asked 0 lines count → IsNextLine asked count line next → IsDue read count → NoneQuits (lines ++ line ∷ []) → Transcript input lines first before mid
-      → Transcript input (lines ++ line ∷ []) first text last → IsBeginning before taken → IsBeginning taken text → length taken < length text → IsDialog input asked read first last Unwritten taken
-
--- how a dialog is over whose next line is a fault
-abbrev pub over_of : Fault → Over
-over_of OutOfMemory = NoMemory
-over_of fault = Unread
+  unwritten : (turns : List Turn) (turn : Turn) (count next : ℕ) (mid : Stand) (before text taken : Bytes) → TurnsTo asked 0 turns count → IsNextTurn asked count turn next → IsDue read count → NoneQuits (turns ++ turn ∷ []) → Transcript input turns first before mid
+      → Transcript input (turns ++ turn ∷ []) first text last → IsBeginning before taken → IsBeginning taken text → length taken < length text → IsDialog input asked read first last Unwritten taken
 
 abbrev pub quits_by : Reply → Bool
 quits_by Quits = true
@@ -71,7 +69,7 @@ abbrev pub report_over : Over → Report
 report_over Ended = record { status = 0; cause = cause.Ended; line = 0; point = 0 }
 report_over Unread = stopped_by (cause.Faulted ReadFailed) 0
 report_over Unwritten = stopped_by (cause.Faulted WriteFailed) 0
-report_over NoMemory = stopped_by (cause.Faulted OutOfMemory) 0
+report_over TooMany = stopped_by (cause.Faulted OutOfMemory) 0
 
 -- A dialog was held on a machine, from where its session stood first: this was read of the commands, and on each input that might be, with commands that might be, the sink took what was written of it.
 pub record Speaks {M C V : Type 0} (may_be : M → Input → Type 0) (may_give : C → Input → Type 0) (handed : C → ℕ) (may_hold : V → Bytes → Type 0) (first last : Stand) (machine : M) (commands new : C) (sink now : V) (over : Over) : Type 0 where

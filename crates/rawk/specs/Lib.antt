@@ -4,4 +4,5 @@ pub mod Runs
 pub mod Tells
 pub mod Reads
 pub mod Dialogs
+pub mod Turns
 pub mod Debugs

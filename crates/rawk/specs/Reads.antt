@@ -1,5 +1,5 @@
 -- What was read of commands, and what is kept of it.
-use Rattle.std.specs.Prelude.{◌≡◌, ◌≢◌, ℕ, ◌+◌, ◌<◌, ◌≤◌, ◌==◌, ◌++◌, Bool, length, slice_index, Option, Some}
+use Rattle.std.specs.Prelude.{◌≡◌, ◌≢◌, ℕ, ◌+◌, ◌-◌, ◌^◌, ◌<◌, ◌≤◌, ◌==◌, ◌++◌, ◌⊎◌, Bool, length, slice_index, Option, Some}
 use Rattle.rawk_value.specs.Values.{Bytes}
 use Rattle.rawk_tape.specs.Records.{Input}
 use Rattle.rawk_tape.specs.Inputs.{CountsUp, before}
@@ -27,17 +27,18 @@ pub record IsDue (read : Bytes) (count : ℕ) : Type 0 where
   pub bounded : length chunk ≤ 65536
   pub without : NoNewline held count
 
--- the line that is due, at this count, has 65,536 bytes and more
-pub record IsLong (read : Bytes) (count : ℕ) : Type 0 where
-  pub many : count + 65536 ≤ length read
+-- the line that is due, at this count, has 2^64 - 1 bytes and more
+pub record IsEndless (read : Bytes) (count : ℕ) : Type 0 where
+  pub many : count + (2 ^ 64 - 1) ≤ length read
   pub without : NoNewline read count
 
--- reads of a source: what it handed out stands behind the bytes held before
+-- reads of a source for the line that is due: what it handed out stands behind the bytes held before
 pub record ReadsMore {C : Type 0} (may_give : C → Input → Type 0) (handed : C → ℕ) (old : C) (held : Bytes) (new : C) (now : Bytes) : Type 0 where
   pub chunk : Bytes
   pub grown : now ≡ held ++ chunk
   pub comes : (rest : Input) → may_give new rest → may_give old (before chunk rest)
   pub counted : CountsUp (handed old) (handed new) (length chunk)
+  pub lazy : (now ≡ held) ⊎ IsDue now 0
 
 -- this was read of a source by a call, and it might have given this input
 pub record WasRead {C : Type 0} (may_give : C → Input → Type 0) (handed : C → ℕ) (old new : C) (read : Bytes) (asked : Input) : Type 0 where

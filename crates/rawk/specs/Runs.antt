@@ -1,13 +1,17 @@
 -- What a report says of a run.
-use Rattle.std.specs.Prelude.{◌≡◌, ℕ, zero, suc, ◌<◌, ◌≤◌, ◌++◌, List, [], length, take, Option, None, Some, slice_get}
+use Rattle.std.specs.Prelude.{◌≡◌, ℕ, ◌+◌, zero, suc, ◌<◌, ◌≤◌, ◌++◌, List, [], length, take, Option, None, Some, slice_get}
 use Rattle.rawk_value.specs.Values.{Bytes}
-use Rattle.rawk_value.specs.declared.fault.Fault.TheVariants.{StepLimit, WriteFailed, OutOfMemory}
+use Rattle.rawk_value.specs.declared.fault.Fault.TheVariants.{StepLimit, ReadFailed, WriteFailed, OutOfMemory}
 use Rattle.rawk_tree.specs.declared.tree.Program.{Program}
 use Rattle.rawk_code.specs.Actions.{Point, Ending, Ended, Faulted, Limited}
 use Rattle.rawk_code.specs.Laws.{IsBeginning}
 use Rattle.rawk_code.specs.Trace.{FirstValue, Trace, trace, out, number, status, line_of, line_at}
 use Rattle.rawk_tape.specs.Records.{Input}
+use Rattle.rawk_tape.specs.Inputs.{CountsUp, before}
+use Rattle.rawk_tape.specs.declared.source.Ending.{Ending as End}
+use Rattle.rawk_tape.specs.declared.source.Ending.TheVariants.{Failed}
 use Rattle.rawk_machine.specs.Standing.{Standing, MayCome, IsAt, given_of}
+use Rattle.rawk_machine.specs.Asked.{AskedBy, IsAskedFor}
 use Rattle.rawk_machine.specs.declared.step.Step.{Step}
 use Rattle.rawk_machine.specs.declared.step.Step.TheVariants as step
 use Rattle.rawk.specs.declared.report.Report.{Report}
@@ -64,17 +68,40 @@ pub data IsRunOf (p : Program) (t : Trace) : Report → Bytes → Type 0 where
 abbrev pub trace_of : {S : Type 0} → Program → Standing S → Input → Trace
 trace_of p machine input = trace p machine.settings (given_of machine input)
 
--- a report, and what a sink took, are those of a run of this program from where a machine stands, on an input that might have come
-pub record Runs {S V : Type 0} (may_give : S → Input → Type 0) (may_hold : V → Bytes → Type 0) (p : Program) (start : Standing S) (sink now : V) (report : Report) : Type 0 where
-  pub input : Input
-  pub may : MayCome may_give start [] input
-  pub taken : (held : Bytes) → may_hold sink held → (taken : Bytes) × may_hold now (held ++ taken) × IsRunOf p (trace_of p start input) report taken
+-- how many points at most were reached before the last that a report tells of: memory was refused behind its point
+abbrev pub points_until : Cause → ℕ → ℕ
+points_until (cause.Faulted OutOfMemory) point = point + 1
+points_until other point = point
 
--- the same with these first values and at most so many steps, on an input that might be
-pub record IsRun {V : Type 0} (may_be : Input → Type 0) (may_hold : V → Bytes → Type 0) (p : Program) (settings : List FirstValue) (steps : ℕ) (sink now : V) (report : Report) : Type 0 where
-  pub input : Input
-  pub may : may_be input
-  pub taken : (held : Bytes) → may_hold sink held → (taken : Bytes) × may_hold now (held ++ taken) × IsRunOf p (trace p settings (record { input = input; sets = []; steps = steps })) report taken
+-- what a run from where a machine stands took of its source: the source as it was left, and all bytes read so far
+pub record TookFrom {S : Type 0} (may_give : S → Input → Type 0) (over : S → Option End) (handed : S → ℕ) (start : Standing S) (report : Report) (last : S) (read : Bytes) : Type 0 where
+  pub some : (rest : Input) × may_give last rest
+  pub given : (rest : Input) → may_give last rest → MayCome may_give start [] (before read rest)
+  pub asked : (rest : Input) → may_give last rest → AskedBy start (before read rest) (points_until report.cause report.point) read
+  pub counted : (first : ℕ) → CountsUp first (handed start.tape.source) (length start.tape.bytes) → CountsUp first (handed last) (length read)
+  pub failed : report.cause ≡ cause.Faulted ReadFailed → over last ≡ Some Failed
+
+-- a report, and what a sink took, are those of a run of this program from where a machine stands, whatever may still come of its source as it is left
+pub record Runs {S V : Type 0} (may_give : S → Input → Type 0) (over : S → Option End) (handed : S → ℕ) (may_hold : V → Bytes → Type 0) (p : Program) (start : Standing S) (last : S) (sink now : V) (report : Report) : Type 0 where
+  pub read : Bytes
+  pub took : TookFrom may_give over handed start report last read
+  pub taken : (held : Bytes) → may_hold sink held → (taken : Bytes) × may_hold now (held ++ taken) × ((rest : Input) → may_give last rest → IsRunOf p (trace_of p start (before read rest)) report taken)
+
+-- what a run takes of a source: this is read of it, and so it is left. Up to where the report stands the run asked for all that was read, whatever may still come, and a failed read is reported where the source has failed.
+pub record Took {S : Type 0} (may_give : S → Input → Type 0) (over : S → Option End) (handed : S → ℕ) (p : Program) (settings : List FirstValue) (source : S) (steps : ℕ) (report : Report) (last : S) (read : Bytes) : Type 0 where
+  pub some : (rest : Input) × may_give last rest
+  pub given : (rest : Input) → may_give last rest → may_give source (before read rest)
+  pub asked : (rest : Input) → may_give last rest → IsAskedFor p settings (record { input = before read rest; sets = []; steps = steps }) (points_until report.cause report.point) read
+  pub counted : CountsUp (handed source) (handed last) (length read)
+  pub failed : report.cause ≡ cause.Faulted ReadFailed → over last ≡ Some Failed
+
+-- a program ran on what a source gives, with these first values and at most so many steps: what was read of it settles what is reported and what the sink took, whatever may still come
+pub record IsRun {S V : Type 0} (may_give : S → Input → Type 0) (over : S → Option End) (handed : S → ℕ) (may_hold : V → Bytes → Type 0) (p : Program) (settings : List FirstValue) (source : S) (steps : ℕ) (sink now : V) (report : Report) : Type 0 where
+  pub last : S
+  pub read : Bytes
+  pub took : Took may_give over handed p settings source steps report last read
+  pub taken : (held : Bytes) → may_hold sink held → (taken : Bytes) × may_hold now (held ++ taken)
+      × ((rest : Input) → may_give last rest → IsRunOf p (trace p settings (record { input = before read rest; sets = []; steps = steps })) report taken)
 
 -- a machine runs the same code, with the same first values, sets and limit
 pub record SameRun {S : Type 0} (old new : Standing S) : Type 0 where
@@ -90,6 +117,7 @@ pub record HandsOn {S V : Type 0} (may_give : S → Input → Type 0) (may_hold 
   pub unset : new.unset ≡ old.unset
   pub none : new.state.output ≡ []
   pub dropped : Bytes
+  pub bytes : dropped ++ new.tape.bytes ≡ old.tape.bytes
   pub back : (gone : Bytes) (input : Input) → MayCome may_give new (gone ++ dropped) input → MayCome may_give old gone input
   pub forth : (gone : Bytes) (input : Input) → MayCome may_give old gone input → MayCome may_give new (gone ++ dropped) input
   pub stands : (input : Input) (gone handed : Bytes) → IsAt old input gone handed → IsAt new input (gone ++ dropped) (handed ++ old.state.output)

@@ -1,26 +1,26 @@
 -- What is reported of a run, of any text, first values, source and sink.
-use Rattle.std.specs.Prelude.{◌≡◌, ℕ, ◌++◌, true, false, List, []}
+use Rattle.std.specs.Prelude.{◌≡◌, ℕ, true, false, List, Option}
 use Rattle.rawk_value.specs.Values.{Bytes}
 use Rattle.rawk_tape.specs.Records.{Input}
+use Rattle.rawk_tape.specs.declared.source.Ending.{Ending}
 use Rattle.rawk_tree.specs.declared.tree.Program.{Program}
 use Rattle.rawk_parsing.specs.declared.refusal.Refusal.{Refusal}
 use Rattle.rawk_syntax.specs.Texts.{IsProgram}
-use Rattle.rawk_code.specs.Trace.{FirstValue, trace}
+use Rattle.rawk_code.specs.Trace.{FirstValue}
 use Rattle.rawk_code.specs.Settings.{settings_fit}
 use Rattle.rawk.specs.declared.report.Report.{Report}
 use Rattle.rawk.specs.declared.report.Cause.TheVariants as cause
 use Rattle.rawk.specs.Reports.{stopped_by, refused_by}
 use Rattle.rawk.specs.Preparing.{IsRefusedText}
-use Rattle.rawk.specs.Runs.{IsRunOf}
+use Rattle.rawk.specs.Runs.{IsRun}
 
 -- what a report says of a run, with what the sink took
-pub data Tells {S V : Type 0} (may_give : S → Input → Type 0) (may_hold : V → Bytes → Type 0) (text : Bytes) (settings : List FirstValue) (source : S) (steps : ℕ) (sink now : V) : Report → Type 0 where
+pub data Tells {S V : Type 0} (may_give : S → Input → Type 0) (over : S → Option Ending) (handed : S → ℕ) (may_hold : V → Bytes → Type 0) (text : Bytes) (settings : List FirstValue) (source : S) (steps : ℕ) (sink now : V) : Report → Type 0 where
   -- The text was refused, nothing ran and nothing was written. A text that plain rules read, within the limits, is refused for want of memory alone.
-  text_refused : (refusal : Refusal) → IsRefusedText text refusal → now ≡ sink → Tells may_give may_hold text settings source steps sink now (refused_by refusal)
+  text_refused : (refusal : Refusal) → IsRefusedText text refusal → now ≡ sink → Tells may_give over handed may_hold text settings source steps sink now (refused_by refusal)
   -- a first value can't be assigned: nothing ran and nothing was written
   settings_refused : (p : Program) → IsProgram text p → settings_fit p settings ≡ false → now ≡ sink
-      → Tells may_give may_hold text settings source steps sink now (stopped_by cause.BadAssignment 0)
-  -- The program of the text ran, on an input that the source might give; the sink took what the report says of its trace.
-  ran : (p : Program) (input : Input) (report : Report) → IsProgram text p → settings_fit p settings ≡ true → may_give source input
-      → ((held : Bytes) → may_hold sink held → (taken : Bytes) × may_hold now (held ++ taken) × IsRunOf p (trace p settings (record { input = input; sets = []; steps = steps })) report taken)
-      → Tells may_give may_hold text settings source steps sink now report
+      → Tells may_give over handed may_hold text settings source steps sink now (stopped_by cause.BadAssignment 0)
+  -- the program of the text ran, on what the source gives
+  ran : (p : Program) (report : Report) → IsProgram text p → settings_fit p settings ≡ true → IsRun may_give over handed may_hold p settings source steps sink now report
+      → Tells may_give over handed may_hold text settings source steps sink now report

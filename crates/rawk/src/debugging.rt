@@ -39,7 +39,7 @@ fn report_of(over: Over) -> Report
         },
         Over::Unread => stopped(Cause::Faulted(Fault::ReadFailed), 0),
         Over::Unwritten => stopped(Cause::Faulted(Fault::WriteFailed), 0),
-        Over::NoMemory => stopped(Cause::Faulted(Fault::OutOfMemory), 0),
+        Over::TooMany => stopped(Cause::Faulted(Fault::OutOfMemory), 0),
     }
 }
 
@@ -152,8 +152,9 @@ fn session_kept<R: Source + Drop, C: Source, W: Sink>(
 /// is read, and none is read behind `quit`. `history` is how many steps it keeps, to go back over; without one it keeps all.
 ///
 /// The report has status 0, but for: a refusal of the text (P1 to P10) or of a first value (S1), where nothing was written; F11, where the sink failed;
-/// F12, where memory was refused before the session stood, or for the reading of a command of 65,536 bytes or more, or where 2^64 - 1 commands were carried out;
-/// F10, exactly where a read of the commands failed. What else a session meets, it answers.
+/// F12, where memory was refused before the session stood, or where 2^64 - 1 commands were answered, or one of so many bytes was refused memory; F10, exactly where
+/// a read of the commands failed. Where the session did not stand, no command was read. What else a session meets, it answers: want of memory for the reading of a
+/// command, which has 65,536 bytes or more then, by C11, and passes the command over.
 pub fn debug_from<R: Source + Drop, C: Source, W: Sink>(
     alloc: Global,
     settings: &Settings,
@@ -168,7 +169,7 @@ pub fn debug_from<R: Source + Drop, C: Source, W: Sink>(
     requires history { IsHistory history }
     requires open { R.over source ≡ None }
     requires unread { C.over commands.old ≡ None }
-    ensures reported { Debugs R.may_give (WasRead C.may_give C.handed commands.old commands.new) W.may_hold program.now settings.now source steps history sink.old sink.new result }
+    ensures reported { Debugs R.may_give (WasRead C.may_give C.handed commands.old commands.new) (commands.new ≡ commands.old) W.may_hold program.now settings.now source steps history sink.old sink.new result }
     ensures failures { CountsUp (W.failures sink.old) (W.failures sink.new) (write_failures result.cause) }
     ensures read { CountsUp (C.failures commands.old) (C.failures commands.new) (read_failures result.cause) }
 {
@@ -207,7 +208,7 @@ pub fn debug_with<R: Source + Drop, W: Sink>(
     requires limit { steps ≤ 9223372036854775807 }
     requires history { IsHistory history }
     requires open { R.over source ≡ None }
-    ensures reported { Debugs R.may_give (asks_all commands.now) W.may_hold program.now settings.now source steps history sink.old sink.new result }
+    ensures reported { Debugs R.may_give (asks_all commands.now) (Unit {0}) W.may_hold program.now settings.now source steps history sink.old sink.new result }
     ensures failures { CountsUp (W.failures sink.old) (W.failures sink.new) (write_failures result.cause) }
 {
     match source_of(alloc, commands) {
@@ -230,7 +231,7 @@ pub fn debug<R: Source + Drop, W: Sink>(
 ) -> Report
     requires limit { steps ≤ 9223372036854775807 }
     requires open { R.over source ≡ None }
-    ensures reported { Debugs R.may_give (asks_all commands.now) W.may_hold program.now settings.now source steps None sink.old sink.new result }
+    ensures reported { Debugs R.may_give (asks_all commands.now) (Unit {0}) W.may_hold program.now settings.now source steps None sink.old sink.new result }
     ensures failures { CountsUp (W.failures sink.old) (W.failures sink.new) (write_failures result.cause) }
 {
     debug_with(

@@ -1,15 +1,18 @@
 //! Command lines are carried out one after another.
 
-ghost use Rattle.std.specs.Prelude.{◌≡◌, [], None};
-ghost use Rattle.rawk_tape.specs.Inputs.{CountsUp};
+ghost use Rattle.std.specs.Prelude.{ℕ, List, ◌≡◌, ◌≢◌, ◌<◌, ◌-◌, ◌^◌, ◌++◌, [], length, take, None, Some, IfOk, IfErr, OnOk, OnErr};
+ghost use Rattle.rawk_tape.specs.declared.source.Ending.TheVariants.{Failed};
+ghost use Rattle.rawk_tape.specs.Inputs.{CountsUp, failures_of};
 ghost use Rattle.rawk_tape.specs.Records.{Input};
 ghost use Rattle.rawk_debug.specs.Sessions.{stand, machine_of};
+ghost use Rattle.rawk_debug.specs.Transcript.{reply_text};
 ghost use Rattle.rawk.specs.Reports.{read_failures, write_failures};
 ghost use Rattle.rawk.specs.Dialogs.{Speaks, quits_by, report_over};
+ghost use Rattle.rawk.specs.Turns.{FindsNone, TakesTurn};
 
 use crate::lines::Lines;
 use rawk_debug::{Reply, Session, Stepper, carry_out};
-use rawk_tape::{Sink, Source, write_all};
+use rawk_tape::{DeviceFault, Sink, Source, write_all};
 use std::alloc::Global;
 
 /// How a dialog is over.
@@ -21,8 +24,8 @@ pub enum Over {
     Unread,
     /// an answer could not be written
     Unwritten,
-    /// memory was refused for the reading of a command that has 65,536 bytes or more, or 2^64 - 1 were carried out
-    NoMemory,
+    /// 2^64 - 1 commands were answered, or the next one has as many bytes and memory was refused for it
+    TooMany,
 }
 
 /// Whether a reply ends the session.
@@ -35,9 +38,55 @@ fn quits(reply: &Reply) -> bool
     }
 }
 
+/// Carries out the line of the commands that is due, lets it go, and answers the reply; or how the dialog is over, where none is due. A line
+/// for whose reading memory is refused is passed over, and replied to as refused.
+fn take_turn<M: Stepper, C: Source>(
+    alloc: Global,
+    session: &mut Session<M>,
+    lines: &mut Lines,
+    commands: &mut C,
+) -> Result<Reply, Over>
+    requires reported { C.over commands.old ≡ lines.old.over }
+    requires unfailed { lines.old.over ≢ Some Failed }
+    ensures takes { IfOk result (TakesTurn M.may_be C.may_give C.handed (stand M.position session.old) (stand M.position session.new) (machine_of session.new) (M.held (machine_of session.new)).state.output commands.old lines.old commands.new lines.new) }
+    ensures none { IfErr result (FindsNone C.may_give C.handed commands.old lines.old commands.new) }
+    ensures few { OnOk result (lines.old.taken < 2 ^ 64 - 1) }
+    ensures same { OnErr result (session.new ≡ session.old) }
+    ensures narrows { (input : Input) → M.may_be (machine_of session.new) input → M.may_be (machine_of session.old) input }
+    ensures reported { OnOk result (C.over commands.new ≡ lines.new.over) }
+    ensures unfailed { OnOk result (lines.new.over ≢ Some Failed) }
+    ensures unfailing { OnOk result (CountsUp (C.failures commands.old) (C.failures commands.new) 0) }
+    ensures failures { IfErr result (λ over. CountsUp (C.failures commands.old) (C.failures commands.new) (read_failures (report_over over).cause)) }
+    ensures unwritten { IfErr result (λ over. write_failures (report_over over).cause ≡ 0) }
+{
+    match lines.next(commands) {
+        Ok(Some(line)) => {
+            let reply = carry_out(alloc, session, lines.text(line));
+            lines.let_go(line);
+            Ok(reply)
+        }
+        Ok(None) => Ok(Reply::Line(rawk_commands::C::OutOfMemory)),
+        Err(over) => Err(over),
+    }
+}
+
+/// Writes a reply: what it shows of the output, and its bytes behind that. At the first failure it stops, and less than all was taken.
+fn write_reply<W: Sink>(sink: &mut W, output: &[u8], reply: &Reply) -> Result<(), DeviceFault>
+    ensures ok { OnOk result ((held : List ℕ) → W.may_hold sink.old held → W.may_hold sink.new (held ++ reply_text output.now reply.now)) }
+    ensures err { OnErr result ((held : List ℕ) → W.may_hold sink.old held →
+        (size : ℕ) × (size < length (reply_text output.now reply.now)) × W.may_hold sink.new (held ++ take size (reply_text output.now reply.now))) }
+    ensures failures { CountsUp (W.failures sink.old) (W.failures sink.new) (failures_of result) }
+{
+    match write_all(sink, reply.shown(output)) {
+        Ok(()) => write_all(sink, reply.rest()),
+        Err(fault) => Err(fault),
+    }
+}
+
 /// Carries out each line of the commands when it is read, and hands its answer on before the next one is asked for, until the commands
 /// are at their end, one of them is `quit`, or a device fails. A line ends at a newline; the last one needs none. A line that was
-/// carried out is let go. The commands are read only while the bytes kept do not hold the end of the line that is due.
+/// carried out is let go; one for whose reading memory is refused is passed over, and its answer says so. The commands are read only
+/// while the bytes kept do not hold the end of the line that is due.
 pub fn hold<M: Stepper, C: Source, W: Sink>(
     alloc: Global,
     session: &mut Session<M>,
@@ -53,16 +102,14 @@ pub fn hold<M: Stepper, C: Source, W: Sink>(
     ensures unread { CountsUp (C.failures commands.old) (C.failures commands.new) (read_failures (report_over result).cause) }
 {
     'lines: loop {
-        let line = match lines.next(commands) {
-            Ok(line) => line,
+        let reply = match take_turn(alloc, session, lines, commands) {
+            Ok(reply) => reply,
             Err(over) => return over,
         };
-        let reply = carry_out(alloc, session, lines.text(line));
-        lines.let_go(line);
         if quits(&reply) {
             return Over::Ended;
         }
-        match write_all(sink, reply.bytes()) {
+        match write_reply(sink, session.machine().output(), &reply) {
             Ok(()) => {}
             Err(_) => return Over::Unwritten,
         }

@@ -1,14 +1,14 @@
 //! The lines of commands, read from a source that is handed in.
 
-ghost use Rattle.std.specs.Prelude.{◌≡◌, ◌≢◌, ◌≤◌, ◌<◌, ◌-◌, ◌+◌, ◌^◌, ◌⊎◌, [], drop, take, length, None, Some, Err, IfOk, IfErr, OnOk, OnErr};
+ghost use Rattle.std.specs.Prelude.{ℕ, ◌≡◌, ◌≢◌, ◌≤◌, ◌<◌, ◌-◌, ◌+◌, ◌^◌, [], drop, take, length, None, Some, IfOk, IfErr, OnOk, OnErr};
 ghost use Rattle.std.specs.List.{position_or_len};
 ghost use Rattle.rawk_tape.specs.declared.source.Ending.{Ending as End};
-ghost use Rattle.rawk_tape.specs.Records.{Input};
-ghost use Rattle.rawk_tape.specs.Inputs.{CountsUp, before, ending_of, failures_of, size_taken};
+ghost use Rattle.rawk_tape.specs.Inputs.{CountsUp, ending_of, failures_of, size_taken};
 ghost use Rattle.rawk_tape.specs.Tapes.{ReadsOn};
-ghost use Rattle.rawk.specs.Reads.{IsDue, IsLong, ReadsMore, failures_by, is_newline};
+ghost use Rattle.rawk.specs.Reads.{ReadsMore, failures_by, is_newline};
 ghost use Rattle.rawk.specs.Reports.{read_failures, write_failures};
-ghost use Rattle.rawk.specs.Dialogs.{HasNoLine, IsNextLine, report_over};
+ghost use Rattle.rawk.specs.Dialogs.{report_over};
+ghost use Rattle.rawk.specs.Turns.{Finds, FindsNone, PassesOver};
 
 use crate::dialog::Over;
 use memchr::memchr;
@@ -36,6 +36,16 @@ fn first_newline(bytes: &[u8]) -> usize
         Some(at) => at,
         None => bytes.len(),
     }
+}
+
+/// The same, where none of the first `seen` bytes is a newline.
+fn newline_behind(bytes: &[u8], seen: usize) -> usize
+    requires small { length bytes.now < 2 ^ 63 }
+    requires inside { seen ≤ length bytes.now }
+    requires without { position_or_len is_newline (take seen bytes.now) ≡ seen }
+    ensures { result ≡ position_or_len is_newline bytes.now }
+{
+    seen + first_newline(&bytes[seen..])
 }
 
 /// How many bytes a read took.
@@ -82,8 +92,8 @@ fn read_behind<C: Source>(
     requires open { C.over source.old ≡ None }
     requires room { end < length items.old }
     ensures in_bounds { end + size_taken result ≤ length items.new }
-    ensures reads { ReadsOn C.may_give C.over C.handed source.old (take end items.old)
-        source.new (take (end + size_taken result) items.new) }
+    ensures reads { (start : ℕ) → start ≤ end → ReadsOn C.may_give C.over C.handed source.old (drop start (take end items.old))
+        source.new (drop start (take (end + size_taken result) items.new)) }
     ensures over { C.over source.new ≡ ending_of result }
     ensures failures { CountsUp (C.failures source.old) (C.failures source.new) (failures_of result) }
     ensures none { C.over source.new ≡ Some End.Failed → take (end + size_taken result) items.new ≡ take end items.old }
@@ -93,16 +103,20 @@ fn read_behind<C: Source>(
     source.read(&mut items[end..end + size])
 }
 
-/// Moves the bytes from `start` up to `end` to the front, and answers where they end there.
+/// Moves the bytes from `start` up to `end` to the front, where no room is behind them, and answers where they begin.
 fn move_to_front(items: &mut Vec<u8>, start: usize, end: usize) -> usize
     requires low { start ≤ end }
     requires high { end ≤ length items.old.items }
-    ensures kept { take result items.new.items ≡ drop start (take end items.old.items) }
-    ensures value { result ≡ end - start }
+    ensures kept { drop result (take (result + (end - start)) items.new.items) ≡ drop start (take end items.old.items) }
+    ensures low { result ≤ start }
+    ensures front { result + (end - start) ≡ length items.old.items → result ≡ 0 }
     ensures len { length items.new.items ≡ length items.old.items }
 {
+    if start == 0 || end < items.len() {
+        return start;
+    }
     items.copy_within(start..end, 0);
-    end - start
+    0
 }
 
 /// The bytes that were read of a source and not let go yet. There is room for 65,536 bytes before the first read, and more
@@ -166,7 +180,7 @@ impl Lines {
         self.taken
     }
 
-    /// Reads once more behind the bytes.
+    /// Reads once more behind the bytes. It fails where memory is refused for the room, which 65,536 bytes or more fill then.
     fn fill<C: Source>(&mut self, source: &mut C) -> Result<(), AllocError>
         requires { C.over source.old ≡ None }
         ensures reads { OnOk result (ReadsOn C.may_give C.over C.handed source.old self.old.bytes source.new self.new.bytes) }
@@ -178,13 +192,29 @@ impl Lines {
         ensures same { OnErr result (self.new ≡ self.old) }
         ensures long { OnErr result (65536 ≤ length self.old.bytes) }
     {
-        self.end = move_to_front(&mut self.items, self.start, self.end);
-        self.start = 0;
+        let start = move_to_front(&mut self.items, self.start, self.end);
+        self.end = start + (self.end - self.start);
+        self.start = start;
         make_room(&mut self.items, self.end)?;
         let read = read_behind(source, &mut self.items, self.end);
         self.end += size_of_read(&read);
         self.over = ending_of_read(&read);
         Ok(())
+    }
+
+    /// Lets all bytes go, and reads once. It takes no memory.
+    fn read_anew<C: Source>(&mut self, source: &mut C)
+        requires { C.over source.old ≡ None }
+        ensures reads { ReadsOn C.may_give C.over C.handed source.old [] source.new self.new.bytes }
+        ensures reported { C.over source.new ≡ self.new.over }
+        ensures failures { CountsUp (C.failures source.old) (C.failures source.new) (failures_by self.new.over) }
+        ensures failed { self.new.over ≡ Some End.Failed → self.new.bytes ≡ [] }
+        ensures taken { self.new.taken ≡ self.old.taken }
+    {
+        let read = read_behind(source, &mut self.items, 0);
+        self.start = 0;
+        self.end = size_of_read(&read);
+        self.over = ending_of_read(&read);
     }
 
     /// Reads until the bytes hold a newline or the source is over, and answers how many bytes stand before the newline. It fails where
@@ -198,15 +228,16 @@ impl Lines {
         ensures reported { C.over source.new ≡ self.new.over }
         ensures taken { self.new.taken ≡ self.old.taken }
         ensures reads { ReadsMore C.may_give C.handed source.old self.old.bytes source.new self.new.bytes }
-        ensures lazy { (self.new.bytes ≡ self.old.bytes) ⊎ IsDue self.new.bytes 0 }
         ensures failures { CountsUp (C.failures source.old) (C.failures source.new) (failures_by self.new.over) }
         ensures open { OnErr result (self.new.over ≡ None) }
-        ensures long { OnErr result (IsLong self.new.bytes 0) }
+        ensures without { OnErr result (length self.new.bytes ≤ position_or_len is_newline self.new.bytes) }
+        ensures long { OnErr result (65536 ≤ length self.new.bytes) }
         ensures small { length self.new.bytes < 2 ^ 63 }
     {
+        let mut seen = 0;
         'reads: loop {
             let kept = self.kept();
-            let size = first_newline(kept);
+            let size = newline_behind(kept, seen);
             if size < kept.len() {
                 return Ok(size);
             }
@@ -214,53 +245,91 @@ impl Lines {
                 Some(_) => return Ok(size),
                 None => {}
             }
+            seen = size;
             self.fill(source)?;
         }
     }
 
-    /// The next line, or how a dialog is over that has none. Nothing is let go yet. The source is read only while the bytes kept do
-    /// not hold the line's end.
-    pub fn next<C: Source>(&mut self, source: &mut C) -> Result<Line, Over>
+    /// Passes over the line that is due, whose end is not among the bytes kept, and lets it go. It takes no memory.
+    fn pass_over<C: Source>(&mut self, source: &mut C) -> Result<(), Over>
+        requires reported { C.over source.old ≡ self.old.over }
+        requires open { self.old.over ≡ None }
+        requires without { length self.old.bytes ≤ position_or_len is_newline self.old.bytes }
+        requires long { 65536 ≤ length self.old.bytes }
+        requires few { self.old.taken < 2 ^ 64 - 1 }
+        ensures passes { OnOk result (PassesOver C.may_give C.handed source.old self.old source.new self.new) }
+        ensures none { IfErr result (λ over. FindsNone C.may_give C.handed source.old self.old source.new over) }
+        ensures reported { OnOk result (C.over source.new ≡ self.new.over) }
+        ensures unfailed { OnOk result (self.new.over ≢ Some End.Failed) }
+        ensures unfailing { OnOk result (CountsUp (C.failures source.old) (C.failures source.new) 0) }
+        ensures failures { IfErr result (λ over. CountsUp (C.failures source.old) (C.failures source.new) (read_failures (report_over over).cause)) }
+        ensures unwritten { IfErr result (λ over. write_failures (report_over over).cause ≡ 0) }
+    {
+        for reads in 0..u64::MAX {
+            self.read_anew(source);
+            let kept = self.kept();
+            let size = first_newline(kept);
+            if size < kept.len() {
+                self.let_go(Line {
+                    size,
+                    count: size + 1,
+                });
+                return Ok(());
+            }
+            match self.over() {
+                Some(Ending::Ended) => {
+                    self.let_go(Line { size, count: size });
+                    return Ok(());
+                }
+                Some(Ending::Failed) => return Err(Over::Unread),
+                None => {}
+            }
+        }
+        Err(Over::TooMany)
+    }
+
+    /// The next line, of which nothing is let go yet; or nothing, where memory was refused for the reading of one, which was passed over and let go;
+    /// or how a dialog is over that has no next line. The source is read only while the line's end is not held.
+    pub fn next<C: Source>(&mut self, source: &mut C) -> Result<Option<Line>, Over>
         requires reported { C.over source.old ≡ self.old.over }
         requires unfailed { self.old.over ≢ Some End.Failed }
-        ensures reported { C.over source.new ≡ self.new.over }
-        ensures unfailed { IfOk result (λ line. self.new.over ≢ Some End.Failed) }
-        ensures taken { self.new.taken ≡ self.old.taken }
-        ensures few { IfOk result (λ line. self.new.taken < 2 ^ 64 - 1) }
-        ensures reads { ReadsMore C.may_give C.handed source.old self.old.bytes source.new self.new.bytes }
-        ensures lazy { (self.new.bytes ≡ self.old.bytes) ⊎ IsDue self.new.bytes 0 }
-        ensures line { IfOk result (λ line. (rest : Input) → C.may_give source.new rest
-            → IsNextLine (before self.new.bytes rest) 0 (take line.size self.new.bytes) line.count) }
-        ensures within { IfOk result (λ line. (line.size ≤ line.count) × (line.count ≤ length self.new.bytes)) }
-        ensures over { IfErr result (λ over. (rest : Input) → C.may_give source.new rest → HasNoLine (before self.new.bytes rest) 0 over) }
-        ensures long { result ≡ Err Over.NoMemory → IsLong self.new.bytes 0 ⊎ (2 ^ 64 - 1 ≤ self.new.taken) }
-        ensures unfailing { IfOk result (λ line. CountsUp (C.failures source.old) (C.failures source.new) 0) }
+        ensures finds { IfOk result (λ found. Finds C.may_give C.handed source.old self.old source.new self.new found) }
+        ensures none { IfErr result (λ over. FindsNone C.may_give C.handed source.old self.old source.new over) }
+        ensures few { OnOk result (self.old.taken < 2 ^ 64 - 1) }
+        ensures reported { OnOk result (C.over source.new ≡ self.new.over) }
+        ensures unfailed { OnOk result (self.new.over ≢ Some End.Failed) }
+        ensures unfailing { OnOk result (CountsUp (C.failures source.old) (C.failures source.new) 0) }
         ensures failures { IfErr result (λ over. CountsUp (C.failures source.old) (C.failures source.new) (read_failures (report_over over).cause)) }
         ensures unwritten { IfErr result (λ over. write_failures (report_over over).cause ≡ 0) }
     {
         if self.taken() == u64::MAX {
-            return Err(Over::NoMemory);
+            return Err(Over::TooMany);
         }
         let size = match self.read_line(source) {
             Ok(size) => size,
-            Err(_) => return Err(Over::NoMemory),
+            Err(_) => {
+                return match self.pass_over(source) {
+                    Ok(()) => Ok(None),
+                    Err(over) => Err(over),
+                };
+            }
         };
         let length = self.kept().len();
         if size < length {
-            return Ok(Line {
+            return Ok(Some(Line {
                 size,
                 count: size + 1,
-            });
+            }));
         }
         match self.over() {
             Some(Ending::Ended) => {
                 if length == 0 {
                     return Err(Over::Ended);
                 }
-                Ok(Line {
+                Ok(Some(Line {
                     size: length,
                     count: length,
-                })
+                }))
             }
             Some(Ending::Failed) => Err(Over::Unread),
             None => unreachable!(),

@@ -1,9 +1,11 @@
 //! Runs, written as they go.
 
-ghost use Rattle.std.specs.Prelude.{◌≡◌, ◌+◌, ◌≤◌, [], ℕ, None, IfOk, IfSome, OnOk, OnErr};
+ghost use Rattle.std.specs.Prelude.{◌≡◌, ◌+◌, ◌≤◌, [], ℕ, None, Some, IfOk, IfSome, OnOk, OnErr};
 ghost use Rattle.rawk_tape.specs.Inputs.{CountsUp, failures_of};
 ghost use Rattle.rawk_tape.specs.Records.{Input};
+ghost use Rattle.rawk_tape.specs.declared.source.Ending.{Ending};
 ghost use Rattle.rawk_machine.specs.Standing.{MayCome, IsAt, step_of};
+ghost use Rattle.rawk_machine.specs.Asked.{AskedBy};
 ghost use Rattle.rawk_code.specs.Correct.{CodeOf};
 ghost use Rattle.rawk.specs.Reports.{write_failures};
 ghost use Rattle.rawk.specs.Runs.{HandsOn, IsCut, IsRun, Runs, refused_behind, step_report};
@@ -11,7 +13,8 @@ ghost use Rattle.rawk.specs.Tells.{Tells};
 
 use crate::preparing::{Prepared, prepare};
 use crate::report::{Cause, Report, stopped};
-use rawk_code::{Settings, laws};
+use rawk_code::Settings;
+use rawk_compiler::laws;
 use rawk_machine::{Machine, Off, Step};
 use rawk_syntax::Program;
 use rawk_tape::{DeviceFault, Sink, Source, write_all};
@@ -22,6 +25,7 @@ use std::alloc::{AllocError, Global};
 fn reported<R: Source + Drop>(program: &Program, machine: &Machine<R, Off>) -> Option<Report>
     ensures report { result ≡ step_report program.now.lines.items (step_of machine.now.ending machine.now.state.status) machine.now.site machine.now.point }
     ensures failures { IfSome result (λ report. write_failures report.cause ≡ 0) }
+    ensures failed { IfSome result (λ report. report.cause ≡ Cause.Faulted Fault.ReadFailed → R.over machine.now.tape.source ≡ Some Ending.Failed) }
 {
     let (status, cause) = match machine.step() {
         Step::At => return None,
@@ -61,6 +65,7 @@ fn give_on<R: Source + Drop, W: Sink>(
     ensures ok { OnOk result (HandsOn R.may_give W.may_hold machine.old sink.old machine.new sink.new) }
     ensures err { OnErr result (IsCut W.may_hold machine.old.state.output sink.old sink.new) }
     ensures point { machine.new.point ≡ machine.old.point }
+    ensures source { machine.new.tape.source ≡ machine.old.tape.source }
     ensures failures { CountsUp (W.failures sink.old) (W.failures sink.new) (failures_of result) }
 {
     machine.give_into(buffer);
@@ -85,6 +90,7 @@ fn hand_on<R: Source + Drop, W: Sink>(
     ensures ok { OnOk result (HandsOn R.may_give W.may_hold machine.old sink.old machine.new sink.new) }
     ensures err { OnErr result (IsCut W.may_hold machine.old.state.output sink.old sink.new) }
     ensures point { machine.new.point ≡ machine.old.point }
+    ensures source { machine.new.tape.source ≡ machine.old.tape.source }
     ensures failures { CountsUp (W.failures sink.old) (W.failures sink.new) (failures_of result) }
 {
     if !machine.has_news() {
@@ -103,9 +109,10 @@ fn run_machine<R: Source + Drop, W: Sink>(
     requires fresh { machine.old.point ≡ 0 }
     requires alone { machine.old.unset ≡ [] }
     requires stands { (input : Input) → MayCome R.may_give machine.old [] input → IsAt machine.old input [] [] }
+    requires asked { (input : Input) → MayCome R.may_give machine.old [] input → AskedBy machine.old input 0 machine.old.tape.bytes }
     requires still { (input : Input) × MayCome R.may_give machine.old [] input }
     requires compiled { CodeOf program.now machine.old.code }
-    ensures runs { Runs R.may_give W.may_hold program.now machine.old sink.old sink.new result }
+    ensures runs { Runs R.may_give R.over R.handed W.may_hold program.now machine.old machine.new.tape.source sink.old sink.new result }
     ensures failures { CountsUp (W.failures sink.old) (W.failures sink.new) (write_failures result.cause) }
 {
     laws::output();
@@ -137,7 +144,7 @@ fn run_prepared<R: Source + Drop, W: Sink>(
 ) -> Result<Report, AllocError>
     requires open { R.over source ≡ None }
     requires compiled { CodeOf prepared.program prepared.code }
-    ensures ran { IfOk result (IsRun (R.may_give source) W.may_hold prepared.program settings.now steps sink.old sink.new) }
+    ensures ran { IfOk result (IsRun R.may_give R.over R.handed W.may_hold prepared.program settings.now source steps sink.old sink.new) }
     ensures failures { IfOk result (λ report. CountsUp (W.failures sink.old) (W.failures sink.new) (write_failures report.cause)) }
     ensures err { OnErr result (sink.new ≡ sink.old) }
 {
@@ -155,8 +162,9 @@ fn run_prepared<R: Source + Drop, W: Sink>(
 /// The report has the program's status, how it ended, the line of a fault or a refusal, and the ending's number.
 /// Refusals of the text (P1 to P10) come before S1, a first value that can't be assigned; then nothing ran and nothing
 /// was written. F11 is reported exactly where the sink failed, at the point behind the step whose output failed. F12 is
-/// reported where memory was refused, at the last point reached and with its line. The source is asked for nothing after its end or failure,
-/// and for at most 65,536 bytes more than the record at hand needs.
+/// reported where memory was refused, at the last point reached and with its line. F10 is reported only where a read of the source failed during
+/// the call. The source is asked for nothing after its end or failure, and only for the record at hand: before the last read, which gave 65,536 bytes
+/// at most, what was read did not settle that record.
 pub fn run<R: Source + Drop, W: Sink>(
     alloc: Global,
     settings: &Settings,
@@ -167,7 +175,7 @@ pub fn run<R: Source + Drop, W: Sink>(
 ) -> Report
     requires limit { steps ≤ 9223372036854775807 }
     requires open { R.over source ≡ None }
-    ensures reported { Tells R.may_give W.may_hold program.now settings.now source steps sink.old sink.new result }
+    ensures reported { Tells R.may_give R.over R.handed W.may_hold program.now settings.now source steps sink.old sink.new result }
     ensures failures { CountsUp (W.failures sink.old) (W.failures sink.new) (write_failures result.cause) }
 {
     laws::first_output();

@@ -83,12 +83,12 @@ pub enum ArraysChange {
 }
 
 impl Arrays {
-    /// No arrays. It takes no memory.
-    pub fn new(alloc: Global) -> Self
+    /// No arrays, whose keys are found by hashes with this seed. It takes no memory.
+    pub fn new(alloc: Global, seed: u64) -> Self
         ensures { result ≡ at_rest no_arrays }
     {
         Arrays {
-            index: Keys::new(alloc),
+            index: Keys::new(alloc, seed),
             cells: Slots::new(alloc),
             live: 0,
             began: 0,
@@ -379,8 +379,9 @@ impl Arrays {
 }
 
 impl Reversible for Arrays {
-    ghost use Rattle.std.specs.Prelude.{◌≡◌};
-    ghost use Rattle.rawk_arrays.specs.Elements.{changed_arrays};
+    ghost use Rattle.std.specs.Prelude.{◌≡◌, List};
+    ghost use Rattle.std.proofs.Common.{◌∙◌, sym};
+    ghost use Rattle.rawk_arrays.specs.Elements.{Elements, changed_arrays};
     ghost use Rattle.rawk_arrays.specs.Laid.{IsSameArrays, arrays_of};
     ghost use Rattle.rawk_arrays.specs.ArraysBack.{FitsArrays, arrays_back};
     ghost use Rattle.rawk_arrays.specs.ArraysLaws.{IsSameArrays-refl};
@@ -389,6 +390,10 @@ impl Reversible for Arrays {
 
     type Undo = ArraysGroup;
 
+    ghost Seen = { List Elements };
+
+    ghost sees = { λ part. arrays_of part.now };
+
     ghost grown = { λ old new. IsSameArrays old.now new.now };
 
     ghost makes = { λ old change new. arrays_of new.now ≡ changed_arrays change (arrays_of old.now) };
@@ -396,6 +401,10 @@ impl Reversible for Arrays {
     ghost leads_back = { λ now undo earlier. FitsArrays undo now.now × IsSameArrays earlier.now (arrays_back now.now undo) };
 
     ghost grown_same = { λ part. IsSameArrays-refl part.now };
+
+    ghost grown_seen = { λ old new h. h.same };
+
+    ghost makes_one = { λ old new other change h k. h ∙ sym k };
 
     fn apply(&mut self, alloc: Global, change: ArraysChange) -> Result<ArraysGroup, AllocError> {
         self.forget();

@@ -294,7 +294,7 @@ pub(crate) fn pack(alloc: Global, index: &mut Keys, cells: &mut ElementSlots, li
     ensures rest { cells.new.start ≡ cells.new.now }
     ensures same { (b : ℕ) → b < live → elements_of b index.new cells.new.now ≡ elements_of b index.old cells.old.now }
 {
-    let mut packed_names = Keys::new(alloc);
+    let mut packed_names = Keys::new_like(alloc, index);
     let mut packed = Slots::new(alloc);
     let done = pack_into(alloc, index, cells, live, &mut packed_names, &mut packed);
     if done.is_ok() {

@@ -5,8 +5,6 @@ pub mod Laws
 pub mod Listing
 pub mod Valid
 pub mod Machine
-pub mod Code
-pub mod Written
 pub mod Correct
 pub mod Steps
 pub mod Settings

@@ -1,18 +1,12 @@
-//! What programs mean, and the instructions that do it.
+//! What programs mean, and what instructions do.
 #![tactic(auto)]
 
 pub mod code;
-pub mod compiler;
-mod emit;
 pub mod fitting;
-pub mod laws;
-mod loops;
-mod operands;
 pub mod sets;
 pub mod settings;
 
-pub use code::{Around, Code, Computation, Destination, Entry, Instr, Operand, Simple, Simples};
-pub use compiler::compile;
+pub use code::{Code, Computation, Destination, Entry, Instr, Operand, Simple, Simples};
 pub use fitting::fits;
 pub use sets::SetAt;
 pub use settings::{FirstValue, Settings};

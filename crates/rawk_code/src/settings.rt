@@ -13,10 +13,12 @@ pub struct FirstValue {
     pub text: Bytes,
 }
 
-/// First values in their order, which contracts see as a list: a later one of the same name counts.
+/// First values in their order, which contracts see as a list: a later one of the same name counts. Beside them stands the seed of
+/// the hashes by which keys of arrays are found. No contract sees it, since no answer depends on it.
 #[derive(Drop)]
 pub struct Settings {
     alloc: Global,
+    seed: u64,
     items: Vec<FirstValue>,
 }
 
@@ -30,12 +32,13 @@ impl Model for Settings {
 }
 
 impl Settings {
-    /// No first values. It takes no memory.
+    /// No first values, and the seed 0. It takes no memory.
     pub fn new(alloc: Global) -> Self
         ensures { result ≡ [] }
     {
         Settings {
             alloc,
+            seed: 0,
             items: Vec::new(alloc),
         }
     }
@@ -48,6 +51,18 @@ impl Settings {
         let value = first_value(self.alloc, name, text)?;
         self.items.push(value)?;
         Ok(())
+    }
+
+    /// Sets the seed.
+    pub fn set_seed(&mut self, seed: u64)
+        ensures { self.new ≡ self.old }
+    {
+        self.seed = seed;
+    }
+
+    /// The seed.
+    pub fn seed(&self) -> u64 {
+        self.seed
     }
 
     /// Each of them, in their order.

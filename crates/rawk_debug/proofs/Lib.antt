@@ -4,3 +4,4 @@ pub mod Refused
 pub mod Undone
 mod Outward
 mod Backward
+mod Shown

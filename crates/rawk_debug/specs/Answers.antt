@@ -97,6 +97,10 @@ place_line m h = codes "point " ++ decimal m.point ++ codes ", " ++ where_text m
 abbrev pub as_lines : Bytes → Bytes
 as_lines text = if nat_eq (slice_index_or text (length text - 1) 10) 10 then text else text ++ 10 ∷ []
 
+-- the newline that text lacks for that
+abbrev pub line_end : Bytes → Bytes
+line_end text = if nat_eq (slice_index_or text (length text - 1) 10) 10 then [] else 10 ∷ []
+
 -- the output beyond its first bytes
 abbrev pub added : ℕ → Snapshot → Bytes
 added from h = as_lines (drop from h.state.output)
@@ -140,3 +144,13 @@ text_of s h came (Made e) = made_line s.machine.program.lines.items (names_of s)
 text_of s h came (Deleted e) = deleted_line e
 text_of s h came Traced = backtrace s.machine.program h
 text_of s h came Left = []
+
+-- what it shows of the output, which comes first
+abbrev pub shown_of : Answer → Bytes → Bytes
+shown_of (Went from) output = drop from output
+shown_of (Halted from) output = drop from output
+shown_of other output = []
+
+-- its text behind that
+abbrev pub behind_shown : Stand → Snapshot → Observed → Answer → Bytes
+behind_shown s h came answer = drop (length (shown_of answer h.state.output)) (text_of s h came answer)

@@ -1,5 +1,5 @@
--- The transcript of a session: what its lines are answered, one after another.
-use Rattle.std.specs.Prelude.{◌≡◌, ◌⊎◌, Bool, true, false, List, [], ◌∷◌, ◌++◌, Option, Some, None, Result, Ok, Err}
+-- The transcript of a session: what the lines of its commands are answered, one after another.
+use Rattle.std.specs.Prelude.{◌≡◌, ◌⊎◌, Bool, true, false, List, [], ◌∷◌, ◌++◌, drop, Option, Some, None, Result, Ok, Err}
 use Rattle.std.specs.Bool.{MatchBool}
 use Rattle.rawk_tape.specs.Records.{Input}
 use Rattle.rawk_value.specs.Values.{Bytes}
@@ -29,6 +29,16 @@ abbrev pub Says : Input → Stand → Observed → Result Answer C → Bytes →
 Says input new came (Ok answer) text = (text ≡ text_of new (here input new.machine) came answer) ⊎ (text ≡ refusal_line (lost answer))
 Says input new came (Err reason) text = text ≡ refusal_line reason
 
+-- what became of a line of the commands: it was heard, or it was passed over, since memory was refused for its reading
+pub data Turn : Type 0 where
+  Heard : Bytes → Turn
+  Passed : Bytes → Turn
+
+-- what a turn asks for: a line that was passed over is refused for want of memory
+abbrev pub request : Turn → Result (Option Command) C
+request (Heard line) = reading line
+request (Passed line) = Err OutOfMemory
+
 -- a command is executed, or refused, and the outcome told
 abbrev pub Obeys : Input → Command → Stand → Bytes → Stand → Type 0
 Obeys input command old text new = (outcome : Result Answer C) × (came : Observed) × Executes input command old outcome came new × Says input new came outcome text
@@ -49,26 +59,35 @@ is_quit (Ok None) = false
 is_quit (Ok (Some command)) = quits command
 is_quit (Err reason) = false
 
--- the bytes of a reply
-abbrev pub reply_text : Reply → Bytes
-reply_text (Text text) = text.items
-reply_text (Line reason) = refusal_line reason
-reply_text Nothing = []
-reply_text Quits = []
+-- what a reply shows of the output
+abbrev pub reply_shown : Bytes → Reply → Bytes
+reply_shown output (Text from text) = drop from output
+reply_shown output other = []
+
+-- its bytes behind that
+abbrev pub reply_rest : Reply → Bytes
+reply_rest (Text from text) = text.items
+reply_rest (Line reason) = refusal_line reason
+reply_rest Nothing = []
+reply_rest Quits = []
+
+-- the bytes of a reply, with this output
+abbrev pub reply_text : Bytes → Reply → Bytes
+reply_text output reply = reply_shown output reply ++ reply_rest reply
 
 -- a reply that does not end the session
 abbrev pub IsReply : Reply → Type 0
 IsReply Quits = ⊥
 IsReply other = Unit {0}
 
--- A line is carried out and replied to; `quit` ends the session.
-abbrev pub Carries : Input → Bytes → Stand → Reply → Stand → Type 0
-Carries input line old Quits new = (is_quit (reading line) ≡ true) × (new ≡ old)
-Carries input line old reply new = (is_quit (reading line) ≡ false) × Follows input (reading line) old (reply_text reply) new
+-- A turn is taken and replied to, where this is the output then; `quit` ends the session.
+abbrev pub Carries : Input → Turn → Stand → Bytes → Reply → Stand → Type 0
+Carries input turn old output Quits new = (is_quit (request turn) ≡ true) × (new ≡ old)
+Carries input turn old output reply new = (is_quit (request turn) ≡ false) × Follows input (request turn) old (reply_text output reply) new
 
--- The lines lead from old to new, and this is the transcript. `quit` ends it.
-abbrev pub Transcript : Input → List Bytes → Stand → Bytes → Stand → Type 0
+-- The turns lead from old to new, and this is the transcript. `quit` ends it.
+abbrev pub Transcript : Input → List Turn → Stand → Bytes → Stand → Type 0
 Transcript input [] old text new = (text ≡ []) × (new ≡ old)
-Transcript input (line ∷ lines) old text new =
-    MatchBool (is_quit (reading line)) ((text ≡ []) × (new ≡ old))
-    ((mid : Stand) × (first : Bytes) × (rest : Bytes) × Follows input (reading line) old first mid × Transcript input lines mid rest new × (text ≡ first ++ rest))
+Transcript input (turn ∷ turns) old text new =
+    MatchBool (is_quit (request turn)) ((text ≡ []) × (new ≡ old))
+    ((mid : Stand) × (first : Bytes) × (rest : Bytes) × Follows input (request turn) old first mid × Transcript input turns mid rest new × (text ≡ first ++ rest))

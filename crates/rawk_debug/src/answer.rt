@@ -1,17 +1,17 @@
 //! What a session answers.
 
-ghost use Rattle.std.specs.Prelude.{◌≡◌, ◌++◌, IfOk, OnOk, IsTrue};
+ghost use Rattle.std.specs.Prelude.{◌≡◌, ◌++◌, drop, IfOk, OnOk, IsTrue};
 ghost use Rattle.rawk_debug.specs.Commands.{IsReady};
 ghost use Rattle.rawk_debug.specs.Sessions.{stand, machine_of};
-ghost use Rattle.rawk_debug.specs.Answers.{stop_lines, text_of};
+ghost use Rattle.rawk_debug.specs.Answers.{behind_shown, shown_of, stop_lines, text_of};
 
 use crate::search::hits_here;
 use crate::session::Session;
 use crate::stepper::Stepper;
 use crate::stop::{Entry, Lvalue};
 use crate::text::{
-    push_added, push_backtrace, push_deleted, push_made, push_place_line, push_shown_line,
-    push_stop_line,
+    output_from, push_backtrace, push_deleted, push_line_end, push_made, push_place_line,
+    push_shown_line, push_stop_line,
 };
 use rawk_commands::{C, push_text};
 use std::alloc::{AllocError, Global};
@@ -56,24 +56,24 @@ fn push_stop_lines<M: Stepper>(out: &mut Vec<u8>, session: &Session<M>) -> Resul
     Ok(())
 }
 
-/// Adds an answer's text.
-fn push_answer<M: Stepper>(
+/// Adds an answer's text behind the output that it shows.
+fn push_behind<M: Stepper>(
     out: &mut Vec<u8>,
     session: &Session<M>,
     answer: Answer,
 ) -> Result<(), AllocError>
     requires { IsReady (M.fresh session.now.machine) answer }
     ensures { OnOk result (out.new.items
-        ≡ out.old.items ++ text_of (stand M.position session.now) (M.held session.now.machine) (M.before session.now.machine) answer) }
+        ≡ out.old.items ++ behind_shown (stand M.position session.now) (M.held session.now.machine) (M.before session.now.machine) answer) }
 {
     match answer {
         Answer::Went(from) => {
-            push_added(out, &session.machine, from)?;
+            push_line_end(out, output_from(session.machine.output(), from))?;
             push_stop_lines(out, session)?;
             push_place_line(out, &session.machine)
         }
         Answer::Halted(from) => {
-            push_added(out, &session.machine, from)?;
+            push_line_end(out, output_from(session.machine.output(), from))?;
             push_text(out, C::OutOfMemory.line().as_bytes())?;
             push_place_line(out, &session.machine)
         }
@@ -96,6 +96,31 @@ fn push_answer<M: Stepper>(
 }
 
 impl Answer {
+    /// From where on it shows the output, which comes first: at the output's end where it shows none.
+    pub fn shown_from(&self, output: &[u8]) -> usize
+        ensures { drop result output.now ≡ shown_of self.now output.now }
+    {
+        match self {
+            Answer::Went(from) => *from,
+            Answer::Halted(from) => *from,
+            _ => output.len(),
+        }
+    }
+
+    /// Its text behind the output that it shows, before the next command. It fails where memory is refused, and then may be asked for again.
+    pub fn behind<M: Stepper>(
+        &self,
+        alloc: Global,
+        session: &Session<M>,
+    ) -> Result<Vec<u8>, AllocError>
+        requires { IsReady (M.fresh (machine_of session.now)) self.now }
+        ensures { IfOk result (λ text. text.items ≡ behind_shown (stand M.position session.now) (M.held (machine_of session.now)) (M.before (machine_of session.now)) self.now) }
+    {
+        let mut out = Vec::new(alloc);
+        push_behind(&mut out, session, *self)?;
+        Ok(out)
+    }
+
     /// Its text, before the next command. It fails where memory is refused, and then may be asked for again.
     pub fn bytes<M: Stepper>(
         &self,
@@ -105,8 +130,10 @@ impl Answer {
         requires { IsReady (M.fresh (machine_of session.now)) self.now }
         ensures { IfOk result (λ text. text.items ≡ text_of (stand M.position session.now) (M.held (machine_of session.now)) (M.before (machine_of session.now)) self.now) }
     {
+        let output = session.machine.output();
         let mut out = Vec::new(alloc);
-        push_answer(&mut out, session, *self)?;
+        push_text(&mut out, output_from(output, self.shown_from(output)))?;
+        push_behind(&mut out, session, *self)?;
         Ok(out)
     }
 }

@@ -10,8 +10,8 @@ use crate::answer::Answer;
 use crate::session::Session;
 use crate::stepper::Stepper;
 use crate::stop::Stop;
-use rawk_code::laws;
 use rawk_commands::{Command, Goal};
+use rawk_compiler::laws;
 use std::alloc::{AllocError, Global};
 
 /// Whether a breakpoint or a watch stops where the machine stands.

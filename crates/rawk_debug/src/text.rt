@@ -1,12 +1,12 @@
 //! The texts that answers are made of. Each call adds to a text; where memory is refused, it may have added a beginning.
 
-ghost use Rattle.std.specs.Prelude.{◌≡◌, ◌++◌, [], OnOk, slice_index_or};
+ghost use Rattle.std.specs.Prelude.{◌≡◌, ◌++◌, [], drop, OnOk, slice_index_or};
 ghost use Rattle.rawk_tree.specs.Sites.{line_at};
 ghost use Rattle.rawk_commands.specs.Texts.{shown_value};
 ghost use Rattle.rawk_store.specs.State.{local_value};
 ghost use Rattle.rawk_debug.specs.Activations.{function_at, name_of};
 ghost use Rattle.rawk_debug.specs.Watching.{seen, value_at};
-ghost use Rattle.rawk_debug.specs.Answers.{place_text, entry_text, watch_text, stop_line, spot_text, made_line, deleted_line, at_line, fault_place, site_text, where_text, place_line, as_lines, added, lvalue_text, lvalue_value, shown_line, frame_line, backtrace};
+ghost use Rattle.rawk_debug.specs.Answers.{place_text, entry_text, watch_text, stop_line, spot_text, made_line, deleted_line, at_line, fault_place, site_text, where_text, place_line, line_end, lvalue_text, lvalue_value, shown_line, frame_line, backtrace};
 
 use crate::naming::local_names;
 use crate::stepper::Stepper;
@@ -230,33 +230,27 @@ pub(crate) fn push_backtrace<M: Stepper>(out: &mut Vec<u8>, machine: &M) -> Resu
     push_frame_line(out, depth, b"main", line)
 }
 
-/// Adds text as whole lines.
-fn push_lines(out: &mut Vec<u8>, text: &[u8]) -> Result<(), AllocError>
-    ensures { OnOk result (out.new.items ≡ out.old.items ++ as_lines text.now) }
+/// The output beyond its first bytes.
+pub(crate) fn output_from(output: &[u8], from: usize) -> &[u8]
+    ensures { result.now ≡ drop from output.now }
 {
-    push_text(out, text)?;
+    if from < output.len() {
+        &output[from..]
+    } else {
+        b""
+    }
+}
+
+/// Adds the newline that a text lacks for whole lines.
+pub(crate) fn push_line_end(out: &mut Vec<u8>, text: &[u8]) -> Result<(), AllocError>
+    ensures { OnOk result (out.new.items ≡ out.old.items ++ line_end text.now) }
+{
     if let Some(last) = text.last() {
         if *last != b'\n' {
             push_text(out, b"\n")?;
         }
     }
     Ok(())
-}
-
-/// Adds the output beyond its first bytes.
-pub(crate) fn push_added<M: Stepper>(
-    out: &mut Vec<u8>,
-    machine: &M,
-    from: usize,
-) -> Result<(), AllocError>
-    ensures { OnOk result (out.new.items ≡ out.old.items ++ added from (M.held machine.now)) }
-{
-    let output = machine.output();
-    if from < output.len() {
-        push_lines(out, &output[from..])
-    } else {
-        Ok(())
-    }
 }
 
 /// Adds a global's value.

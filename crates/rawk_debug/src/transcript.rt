@@ -4,19 +4,20 @@ ghost use Rattle.std.specs.Prelude.{◌≡◌, Ok};
 ghost use Rattle.rawk_tape.specs.Records.{Input};
 ghost use Rattle.rawk_debug.specs.Commands.{IsReady};
 ghost use Rattle.rawk_debug.specs.Sessions.{stand, machine_of};
-ghost use Rattle.rawk_debug.specs.Transcript.{reply_text, Carries, Obeys, Says, IsReply, lost, quits};
+ghost use Rattle.rawk_debug.specs.Transcript.{reply_rest, reply_shown, reply_text, Carries, Heard, Obeys, Says, IsReply, lost, quits};
 
 use crate::answer::Answer;
 use crate::session::Session;
 use crate::stepper::Stepper;
+use crate::text::output_from;
 use rawk_commands::{C, Command};
 use std::alloc::{AllocError, Global};
 
 /// What a line is answered.
 #[derive(Drop)]
 pub enum Reply {
-    /// A text that was made.
-    Text(Vec<u8>),
+    /// The machine's output from a place on, and behind it a text that was made.
+    Text(usize, Vec<u8>),
     /// A fixed line, which takes no memory.
     Line(C),
     /// The line asks for nothing.
@@ -26,12 +27,22 @@ pub enum Reply {
 }
 
 impl Reply {
-    /// Its bytes.
-    pub fn bytes(&self) -> &[u8]
-        ensures { result.now ≡ reply_text self.now }
+    /// What it shows of the machine's output, which comes first.
+    pub fn shown<'a>(&self, output: &'a [u8]) -> &'a [u8]
+        ensures { result.now ≡ reply_shown output.now self.now }
     {
         match self {
-            Reply::Text(text) => text.as_slice(),
+            Reply::Text(from, _) => output_from(output, *from),
+            _ => b"",
+        }
+    }
+
+    /// Its bytes behind that.
+    pub fn rest(&self) -> &[u8]
+        ensures { result.now ≡ reply_rest self.now }
+    {
+        match self {
+            Reply::Text(_, text) => text.as_slice(),
             Reply::Line(reason) => reason.line().as_bytes(),
             Reply::Nothing => b"",
             Reply::Quits => b"",
@@ -49,16 +60,16 @@ fn lost(answer: Answer) -> C
     }
 }
 
-/// The reply of an answer: its text, or where that is refused memory the line that stands for it.
+/// The reply of an answer: the output that it shows and its text behind that, or where that is refused memory the line that stands for it.
 fn told<M: Stepper>(alloc: Global, session: &Session<M>, answer: Answer) -> Reply
     requires { IsReady (M.fresh session.now.machine) answer }
     ensures says { (input : Input) → M.may_be session.now.machine input
-        → Says input (stand M.position session.now) (M.before session.now.machine) (Ok answer) (reply_text result) }
+        → Says input (stand M.position session.now) (M.before session.now.machine) (Ok answer) (reply_text (M.held session.now.machine).state.output result) }
     ensures stays { IsReply result }
 {
     session.machine.known();
-    match answer.bytes(alloc, session) {
-        Ok(text) => Reply::Text(text),
+    match answer.behind(alloc, session) {
+        Ok(text) => Reply::Text(answer.shown_from(session.machine.output()), text),
         Err(AllocError) => Reply::Line(lost(answer)),
     }
 }
@@ -75,7 +86,7 @@ fn is_quit(command: &Command) -> bool
 /// Executes a command that is not `quit`, and tells the outcome.
 fn obey<M: Stepper>(alloc: Global, session: &mut Session<M>, command: Command) -> Reply
     ensures obeys { (input : Input) → M.may_be session.new.machine input
-        → Obeys input command (stand M.position session.old) (reply_text result) (stand M.position session.new) }
+        → Obeys input command (stand M.position session.old) (reply_text (M.held session.new.machine).state.output result) (stand M.position session.new) }
     ensures stays { IsReply result }
     ensures narrows { (input : Input) → M.may_be session.new.machine input → M.may_be session.old.machine input }
 {
@@ -89,7 +100,7 @@ fn obey<M: Stepper>(alloc: Global, session: &mut Session<M>, command: Command) -
 /// asked for is done, and the answer says that it is lost; a move that want of memory stopped says that.
 pub fn carry_out<M: Stepper>(alloc: Global, session: &mut Session<M>, line: &[u8]) -> Reply
     ensures carries { (input : Input) → M.may_be (machine_of session.new) input
-        → Carries input line.now (stand M.position session.old) result (stand M.position session.new) }
+        → Carries input (Heard line.now) (stand M.position session.old) (M.held (machine_of session.new)).state.output result (stand M.position session.new) }
     ensures narrows { (input : Input) → M.may_be (machine_of session.new) input → M.may_be (machine_of session.old) input }
 {
     match Command::read(alloc, line) {

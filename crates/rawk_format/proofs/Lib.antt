@@ -1,2 +1,3 @@
 pub mod Figures
 pub mod Formats
+pub mod Rows

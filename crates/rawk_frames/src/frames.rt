@@ -271,7 +271,9 @@ impl Frames {
 }
 
 impl Reversible for Frames {
-    ghost use Rattle.std.specs.Prelude.{◌≡◌};
+    ghost use Rattle.std.specs.Prelude.{◌≡◌, List};
+    ghost use Rattle.std.proofs.Common.{◌∙◌, sym};
+    ghost use Rattle.rawk_frames.specs.Frame.{Frame};
     ghost use Rattle.rawk_frames.specs.LaidFrames.{IsSameFrames, frames_of};
     ghost use Rattle.rawk_frames.specs.FramesBack.{FitsFrames, frames_back};
     ghost use Rattle.rawk_frames.specs.FramesChanges.{changed_frames};
@@ -281,6 +283,10 @@ impl Reversible for Frames {
 
     type Undo = FramesGroup;
 
+    ghost Seen = { List Frame };
+
+    ghost sees = { λ part. frames_of part.now };
+
     ghost grown = { λ old new. IsSameFrames old.now new.now };
 
     ghost makes = { λ old change new. frames_of new.now ≡ changed_frames change (frames_of old.now) };
@@ -288,6 +294,10 @@ impl Reversible for Frames {
     ghost leads_back = { λ now undo earlier. FitsFrames undo now.now × IsSameFrames earlier.now (frames_back now.now undo) };
 
     ghost grown_same = { λ part. IsSameFrames-refl part.now };
+
+    ghost grown_seen = { λ old new h. h.same };
+
+    ghost makes_one = { λ old new other change h k. h ∙ sym k };
 
     fn apply(&mut self, alloc: Global, change: FramesChange) -> Result<FramesGroup, AllocError> {
         self.forget();

@@ -189,7 +189,9 @@ impl KeysLeft {
 }
 
 impl Reversible for KeysLeft {
-    ghost use Rattle.std.specs.Prelude.{◌≡◌};
+    ghost use Rattle.std.specs.Prelude.{◌≡◌, List};
+    ghost use Rattle.std.proofs.Common.{◌∙◌, sym};
+    ghost use Rattle.rawk_value.specs.Values.{Bytes};
     ghost use Rattle.rawk_frames.specs.LaidKeys.{IsSameKeys, keys_of};
     ghost use Rattle.rawk_frames.specs.KeysBack.{FitsKeys, keys_back};
     ghost use Rattle.rawk_frames.specs.FramesChanges.{changed_keys};
@@ -199,6 +201,10 @@ impl Reversible for KeysLeft {
 
     type Undo = KeysLeftGroup;
 
+    ghost Seen = { List (List Bytes) };
+
+    ghost sees = { λ part. keys_of part.now };
+
     ghost grown = { λ old new. IsSameKeys old.now new.now };
 
     ghost makes = { λ old change new. keys_of new.now ≡ changed_keys change (keys_of old.now) };
@@ -206,6 +212,10 @@ impl Reversible for KeysLeft {
     ghost leads_back = { λ now undo earlier. FitsKeys undo now.now × IsSameKeys earlier.now (keys_back now.now undo) };
 
     ghost grown_same = { λ part. IsSameKeys-refl part.now };
+
+    ghost grown_seen = { λ old new h. h.same };
+
+    ghost makes_one = { λ old new other change h k. h ∙ sym k };
 
     fn apply(&mut self, alloc: Global, change: KeysChange) -> Result<KeysLeftGroup, AllocError> {
         self.forget();

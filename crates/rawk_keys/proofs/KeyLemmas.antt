@@ -71,23 +71,23 @@ named_more text key arrays spans a s p q h e =
     ∙ (ap (λ (keys : List ArrayKey). keys ++ array_key a (slice_range (text ++ key) s.start s.end) ∷ []) (names_text text key arrays spans h)
     ∙ ap (λ (k : Bytes). keys_of text arrays spans ++ array_key a k ∷ []) (rw (p, q) (new_key text key)))
 
-pub AreLaid-more : (text key : Bytes) (hashes arrays : List ℕ) (spans : List KeyRange) (a h : ℕ) (s : KeyRange) → s.start ≡ length text → s.end ≡ length (text ++ key) → h ≡ hash_of a key → AreLaid text spans hashes arrays →
-    AreLaid (text ++ key) (spans ++ s ∷ []) (hashes ++ h ∷ []) (arrays ++ a ∷ [])
-AreLaid-more text key hashes arrays spans a h s p q is n = record {
+pub AreLaid-more : (basis : ℕ) (text key : Bytes) (hashes arrays : List ℕ) (spans : List KeyRange) (a h : ℕ) (s : KeyRange) → s.start ≡ length text → s.end ≡ length (text ++ key) → h ≡ hash_of basis a key → AreLaid basis text spans hashes arrays →
+    AreLaid basis (text ++ key) (spans ++ s ∷ []) (hashes ++ h ∷ []) (arrays ++ a ∷ [])
+AreLaid-more basis text key hashes arrays spans a h s p q is n = record {
   within = within_push (text ++ key) spans s (within_text text key spans n.within) (record { ordered = omega (arith, p, q, length-append text key); inside = omega (arith, q) });
   arrays_size = omega (arith, n.arrays_size, length-append arrays (a ∷ []), length-append spans (s ∷ []));
   hashed =
       let keys : keys_of (text ++ key) (arrays ++ a ∷ []) (spans ++ s ∷ []) ≡ keys_of text arrays spans ++ array_key a key ∷ [] = named_more text key arrays spans a s p q n.within n.arrays_size in
-      let more : hashes_of (keys_of text arrays spans ++ array_key a key ∷ []) ≡ hashes_of (keys_of text arrays spans) ++ hash_of a key ∷ [] = map-append (λ (entry : ArrayKey). hash_of entry.array entry.key) (keys_of text arrays spans) (array_key a key ∷ []) in
+      let more : hashes_of basis (keys_of text arrays spans ++ array_key a key ∷ []) ≡ hashes_of basis (keys_of text arrays spans) ++ hash_of basis a key ∷ [] = map-append (λ (entry : ArrayKey). hash_of basis entry.array entry.key) (keys_of text arrays spans) (array_key a key ∷ []) in
       rw (keys, more, n.hashed, is) refl;
 }
 
 -- a text that grew alone
-pub AreLaid-text : (text key : Bytes) (hashes arrays : List ℕ) (spans : List KeyRange) → AreLaid text spans hashes arrays → AreLaid (text ++ key) spans hashes arrays
-AreLaid-text text key hashes arrays spans n = record {
+pub AreLaid-text : (basis : ℕ) (text key : Bytes) (hashes arrays : List ℕ) (spans : List KeyRange) → AreLaid basis text spans hashes arrays → AreLaid basis (text ++ key) spans hashes arrays
+AreLaid-text basis text key hashes arrays spans n = record {
   within = within_text text key spans n.within;
   arrays_size = n.arrays_size;
-  hashed = n.hashed ∙ ap hashes_of (sym (names_text text key arrays spans n.within));
+  hashed = n.hashed ∙ ap (hashes_of basis) (sym (names_text text key arrays spans n.within));
 }
 
 pub array_of : (text : Bytes) (arrays : List ℕ) (spans : List KeyRange) (j : ℕ) (entry : ArrayKey) → length arrays ≡ length spans → slice_get (keys_of text arrays spans) j ≡ Some entry → slice_index arrays j ≡ entry.array
@@ -111,57 +111,57 @@ key_of text arrays spans j entry d e h =
     ap (λ (x : ArrayKey). x.key) (same_Some _ _ (sym (name_at text arrays spans j d e inside) ∙ h))
 
 -- the hash of an entry that is there
-pub hash_at : (text : Bytes) (hashes arrays : List ℕ) (spans : List KeyRange) (j : ℕ) (entry : ArrayKey) → AreLaid text spans hashes arrays → slice_get (keys_of text arrays spans) j ≡ Some entry → slice_index hashes j ≡ hash_of entry.array entry.key
-hash_at text hashes arrays spans j entry n h =
+pub hash_at : (basis : ℕ) (text : Bytes) (hashes arrays : List ℕ) (spans : List KeyRange) (j : ℕ) (entry : ArrayKey) → AreLaid basis text spans hashes arrays → slice_get (keys_of text arrays spans) j ≡ Some entry → slice_index hashes j ≡ hash_of basis entry.array entry.key
+hash_at basis text hashes arrays spans j entry n h =
     let keys : List ArrayKey = keys_of text arrays spans in
     let inside : j < length keys = slice_get_within keys j entry h in
     ap (λ (hs : List ℕ). slice_index hs j) n.hashed
-    ∙ (get_or-map (λ (x : ArrayKey). hash_of x.array x.key) keys j entry 0 inside
-    ∙ ap (λ (x : ArrayKey). hash_of x.array x.key) (get_or_from_slice_get keys j entry entry h))
+    ∙ (get_or-map (λ (x : ArrayKey). hash_of basis x.array x.key) keys j entry 0 inside
+    ∙ ap (λ (x : ArrayKey). hash_of basis x.array x.key) (get_or_from_slice_get keys j entry entry h))
 
 -- a search goes on to the nearest entry with the hash
-search_on : (keys : List ArrayKey) (hashes : List ℕ) (entry : ArrayKey) (n : ℕ) (at : Option ℕ) → n ≤ length hashes → ((j : ℕ) → n ≤ j → slice_get keys j ≢ Some entry) → ((j : ℕ) → slice_get keys j ≡ Some entry → slice_index hashes j ≡ hash_of entry.array entry.key) →
-    IsNearest hashes n (hash_of entry.array entry.key) at → IsSearching keys hashes entry at
-search_on keys hashes entry n None le past hashed h = record {
+search_on : (basis : ℕ) (keys : List ArrayKey) (hashes : List ℕ) (entry : ArrayKey) (n : ℕ) (at : Option ℕ) → n ≤ length hashes → ((j : ℕ) → n ≤ j → slice_get keys j ≢ Some entry) → ((j : ℕ) → slice_get keys j ≡ Some entry → slice_index hashes j ≡ hash_of basis entry.array entry.key) →
+    IsNearest hashes n (hash_of basis entry.array entry.key) at → IsSearching basis keys hashes entry at
+search_on basis keys hashes entry n None le past hashed h = record {
   within = omega arith;
   here = λ i e. absurd (none-some i e);
   none = λ j after. elim (cases_lt j n) [ inl lt ↦ λ is. h j lt (hashed j is) | inr ge ↦ past j ge ];
 }
-search_on keys hashes entry n (Some i) le past hashed h = record {
+search_on basis keys hashes entry n (Some i) le past hashed h = record {
   within = omega (arith, h.0);
   here = λ k e. ap (slice_index hashes) (sym (same_Some i k e)) ∙ h.1;
   none = λ j after. elim (cases_lt j n) [ inl lt ↦ λ is. h.2 j after lt (hashed j is) | inr ge ↦ past j ge ];
 }
 
-hashes_length : (text : Bytes) (hashes arrays : List ℕ) (spans : List KeyRange) → AreLaid text spans hashes arrays → length hashes ≡ length (keys_of text arrays spans)
-hashes_length text hashes arrays spans n = ap length n.hashed ∙ length-map (keys_of text arrays spans) (λ (x : ArrayKey). hash_of x.array x.key)
+hashes_length : (basis : ℕ) (text : Bytes) (hashes arrays : List ℕ) (spans : List KeyRange) → AreLaid basis text spans hashes arrays → length hashes ≡ length (keys_of text arrays spans)
+hashes_length basis text hashes arrays spans n = ap length n.hashed ∙ length-map (keys_of text arrays spans) (λ (x : ArrayKey). hash_of basis x.array x.key)
 
-pub search_begins : (text : Bytes) (hashes arrays : List ℕ) (spans : List KeyRange) (array : ℕ) (key : Bytes) (h : ℕ) (at : Option ℕ) → h ≡ hash_of array key → AreLaid text spans hashes arrays → IsNearest hashes (length hashes) h at →
-    IsSearching (keys_of text arrays spans) hashes (array_key array key) at
-search_begins text hashes arrays spans array key h at is n near =
+pub search_begins : (basis : ℕ) (text : Bytes) (hashes arrays : List ℕ) (spans : List KeyRange) (array : ℕ) (key : Bytes) (h : ℕ) (at : Option ℕ) → h ≡ hash_of basis array key → AreLaid basis text spans hashes arrays → IsNearest hashes (length hashes) h at →
+    IsSearching basis (keys_of text arrays spans) hashes (array_key array key) at
+search_begins basis text hashes arrays spans array key h at is n near =
     let keys : List ArrayKey = keys_of text arrays spans in
-    search_on keys hashes (array_key array key) (length hashes) at (omega arith)
-    (λ j ge e. absurd (omega (arith, ge, slice_get_within keys j (array_key array key) e, hashes_length text hashes arrays spans n)))
-    (λ j e. hash_at text hashes arrays spans j (array_key array key) n e)
+    search_on basis keys hashes (array_key array key) (length hashes) at (omega arith)
+    (λ j ge e. absurd (omega (arith, ge, slice_get_within keys j (array_key array key) e, hashes_length basis text hashes arrays spans n)))
+    (λ j e. hash_at basis text hashes arrays spans j (array_key array key) n e)
     (rw is at near)
 
-pub search_next : (text : Bytes) (hashes arrays : List ℕ) (spans : List KeyRange) (array : ℕ) (key : Bytes) (i : ℕ) (here at : Option ℕ) → here ≡ Some i → AreLaid text spans hashes arrays → IsSearching (keys_of text arrays spans) hashes (array_key array key) here →
-    (slice_get (keys_of text arrays spans) i ≡ Some (array_key array key) → ⊥) → IsNearest hashes i (slice_index hashes i) at → IsSearching (keys_of text arrays spans) hashes (array_key array key) at
-search_next text hashes arrays spans array key i here at is n s ne near =
+pub search_next : (basis : ℕ) (text : Bytes) (hashes arrays : List ℕ) (spans : List KeyRange) (array : ℕ) (key : Bytes) (i : ℕ) (here at : Option ℕ) → here ≡ Some i → AreLaid basis text spans hashes arrays → IsSearching basis (keys_of text arrays spans) hashes (array_key array key) here →
+    (slice_get (keys_of text arrays spans) i ≡ Some (array_key array key) → ⊥) → IsNearest hashes i (slice_index hashes i) at → IsSearching basis (keys_of text arrays spans) hashes (array_key array key) at
+search_next basis text hashes arrays spans array key i here at is n s ne near =
     let keys : List ArrayKey = keys_of text arrays spans in
-    let t : IsSearching keys hashes (array_key array key) (Some i) = rw is at s in
-    search_on keys hashes (array_key array key) i at (omega (arith, t.within))
+    let t : IsSearching basis keys hashes (array_key array key) (Some i) = rw is at s in
+    search_on basis keys hashes (array_key array key) i at (omega (arith, t.within))
     (λ j ge. elim (cases_eq j i) [
       | inl e ↦ λ q. ne (ap (slice_get keys) (sym e) ∙ q)
       | inr d ↦ t.none j (omega (arith, ge, d))
     ])
-    (λ j e. hash_at text hashes arrays spans j (array_key array key) n e)
+    (λ j e. hash_at basis text hashes arrays spans j (array_key array key) n e)
     (rw (t.here i refl) at near)
 
-pub search_within : (text : Bytes) (hashes arrays : List ℕ) (spans : List KeyRange) (entry : ArrayKey) (i : ℕ) (here : Option ℕ) → here ≡ Some i → AreLaid text spans hashes arrays → IsSearching (keys_of text arrays spans) hashes entry here → i < length spans
-search_within text hashes arrays spans entry i here is n s =
-    let t : IsSearching (keys_of text arrays spans) hashes entry (Some i) = rw is at s in
-    omega (arith, t.within, hashes_length text hashes arrays spans n, names_length text arrays spans n.arrays_size)
+pub search_within : (basis : ℕ) (text : Bytes) (hashes arrays : List ℕ) (spans : List KeyRange) (entry : ArrayKey) (i : ℕ) (here : Option ℕ) → here ≡ Some i → AreLaid basis text spans hashes arrays → IsSearching basis (keys_of text arrays spans) hashes entry here → i < length spans
+search_within basis text hashes arrays spans entry i here is n s =
+    let t : IsSearching basis (keys_of text arrays spans) hashes entry (Some i) = rw is at s in
+    omega (arith, t.within, hashes_length basis text hashes arrays spans n, names_length text arrays spans n.arrays_size)
 
 -- an entry is there where its array and its key are
 pub named_if : (text : Bytes) (arrays : List ℕ) (spans : List KeyRange) (i array : ℕ) (key : Bytes) (d : KeyRange) → length arrays ≡ length spans → i < length spans → slice_index arrays i ≡ array → slice_range text (get_or spans i d).start (get_or spans i d).end ≡ key →

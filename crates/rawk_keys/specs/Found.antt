@@ -14,7 +14,7 @@ left None = 0
 left (Some i) = i + 1
 
 -- a search, from the newest entry on, for one that has this hash: it stands at none of those that come after
-pub record IsSearching (keys : List ArrayKey) (hashes : List ℕ) (entry : ArrayKey) (at : Option ℕ) : Type 0 where
+pub record IsSearching (basis : ℕ) (keys : List ArrayKey) (hashes : List ℕ) (entry : ArrayKey) (at : Option ℕ) : Type 0 where
   pub within : left at ≤ length hashes
-  pub here : (i : ℕ) → at ≡ Some i → slice_index hashes i ≡ hash_of entry.array entry.key
+  pub here : (i : ℕ) → at ≡ Some i → slice_index hashes i ≡ hash_of basis entry.array entry.key
   pub none : (j : ℕ) → IsAfter at j → slice_get keys j ≢ Some entry

@@ -11,11 +11,18 @@ fn mix(hash: usize, byte: usize) -> usize
     hash.wrapping_mul(1099511628211) ^ byte
 }
 
-/// The hash of an array's key.
-pub(crate) fn hash(array: usize, key: &[u8]) -> usize
-    ensures { result ≡ hash_of array key.now }
+/// Where hashes with this seed begin.
+pub(crate) fn seeded_basis(seed: u64) -> usize
+    ensures { result ≡ mixed 14695981039346656037 seed }
 {
-    let mut hash = mix(14695981039346656037, array);
+    mix(14695981039346656037, seed as usize)
+}
+
+/// The hash of an array's key.
+pub(crate) fn hash(basis: usize, array: usize, key: &[u8]) -> usize
+    ensures { result ≡ hash_of basis array key.now }
+{
+    let mut hash = mix(basis, array);
     for byte in key {
         hash = mix(hash, *byte as usize);
     }

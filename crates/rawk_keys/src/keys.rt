@@ -7,7 +7,7 @@ ghost use Rattle.rawk_keys.specs.ArrayKey.{IsAbsent, IsLastOf, ArrayKey, array_k
 ghost use Rattle.rawk_keys.specs.KeysLaid.{AreWithin, AreLaid, keys_of};
 
 use crate::chains::Chains;
-use crate::hash::hash;
+use crate::hash::{hash, seeded_basis};
 use std::alloc::{AllocError, Global};
 use std::marker::Model;
 
@@ -21,8 +21,10 @@ pub struct KeyRange {
 /// Keys of arrays, each with its array's number, in the order in which they were added.
 ///
 /// The keys' bytes stand in one text. One set of chains leads from a hash to the keys that have it, another from an array to its keys.
+/// Which keys share a hash depends on a seed, which no contract sees.
 #[derive(Drop)]
 pub struct Keys {
+    basis: usize,
     text: Vec<u8>,
     spans: Vec<KeyRange>,
     by_hash: Chains,
@@ -39,20 +41,22 @@ impl Model for Keys {
 
     ghost view = { λ n. keys_of n.text.items n.by_array n.spans.items };
 
-    ghost invariant = { λ n. AreLaid n.text.items n.spans.items n.by_hash n.by_array };
+    ghost invariant = { λ n. AreLaid n.basis n.text.items n.spans.items n.by_hash n.by_array };
 }
 
 impl Keys {
-    /// No keys. It takes no memory.
-    pub fn new(alloc: Global) -> Self
+    /// No keys, found by hashes with this seed. It takes no memory.
+    pub fn new(alloc: Global, seed: u64) -> Self
         ensures { result ≡ [] }
     {
-        Keys {
-            text: Vec::new(alloc),
-            spans: Vec::new(alloc),
-            by_hash: Chains::new(alloc),
-            by_array: Chains::new(alloc),
-        }
+        none_from(alloc, seeded_basis(seed))
+    }
+
+    /// No keys, found by hashes with the same seed. It takes no memory.
+    pub fn new_like(alloc: Global, other: &Self) -> Self
+        ensures { result ≡ [] }
+    {
+        none_from(alloc, other.basis)
     }
 
     /// How many keys there are.
@@ -83,6 +87,7 @@ impl Keys {
         ensures { let entry = array_key array key.now in MatchOption result (IsAbsent entry self.now) (λ i. slice_get self.now i ≡ Some entry) }
     {
         find_in(
+            self.basis,
             &self.text,
             &self.spans,
             &self.by_hash,
@@ -114,6 +119,7 @@ impl Keys {
     {
         add_key(
             alloc,
+            self.basis,
             &mut self.text,
             &mut self.spans,
             &mut self.by_hash,
@@ -124,9 +130,23 @@ impl Keys {
     }
 }
 
+/// No keys, with hashes from a basis on.
+fn none_from(alloc: Global, basis: usize) -> Keys
+    ensures { result ≡ [] }
+{
+    Keys {
+        basis,
+        text: Vec::new(alloc),
+        spans: Vec::new(alloc),
+        by_hash: Chains::new(alloc),
+        by_array: Chains::new(alloc),
+    }
+}
+
 /// Adds an entry. Where a label is refused, the key's bytes stand in the text for no entry.
 fn add_key(
     alloc: Global,
+    basis: usize,
     text: &mut Vec<u8>,
     spans: &mut Vec<KeyRange>,
     by_hash: &mut Chains,
@@ -134,16 +154,16 @@ fn add_key(
     array: usize,
     key: &[u8],
 ) -> Result<(), AllocError>
-    requires { AreLaid text.old.items spans.old.items by_hash.old by_array.old }
+    requires { AreLaid basis text.old.items spans.old.items by_hash.old by_array.old }
     ensures did { OnOk result (keys_of text.new.items by_array.new spans.new.items ≡ keys_of text.old.items by_array.old spans.old.items ++ array_key array key.now ∷ []) }
     ensures err { OnErr result (keys_of text.new.items by_array.new spans.new.items ≡ keys_of text.old.items by_array.old spans.old.items) }
-    ensures array_key { AreLaid text.new.items spans.new.items by_hash.new by_array.new }
+    ensures array_key { AreLaid basis text.new.items spans.new.items by_hash.new by_array.new }
 {
     let start = text.len();
     spans.reserve(1)?;
     text.extend_from_slice(key)?;
     let end = text.len();
-    add_labels(alloc, by_hash, by_array, hash(array, key), array)?;
+    add_labels(alloc, by_hash, by_array, hash(basis, array, key), array)?;
     spans.push(KeyRange { start, end })?;
     Ok(())
 }
@@ -252,6 +272,7 @@ fn is_key(
 
 /// The number of an entry.
 fn find_in(
+    basis: usize,
     text: &[u8],
     spans: &[KeyRange],
     by_hash: &Chains,
@@ -259,10 +280,10 @@ fn find_in(
     array: usize,
     key: &[u8],
 ) -> Option<usize>
-    requires { AreLaid text.now spans.now by_hash.now by_array.now }
+    requires { AreLaid basis text.now spans.now by_hash.now by_array.now }
     ensures { let entry = array_key array key.now in let keys = keys_of text.now by_array.now spans.now in MatchOption result (IsAbsent entry keys) (λ i. slice_get keys i ≡ Some entry) }
 {
-    let mut at = by_hash.latest(hash(array, key));
+    let mut at = by_hash.latest(hash(basis, array, key));
     while let Some(number) = at {
         if is_key(text, spans, by_array, number, array, key) {
             return Some(number);

@@ -8,3 +8,4 @@ pub mod Gives
 pub mod Undos
 pub mod Leads
 pub mod Befores
+pub mod Askings

@@ -9,3 +9,4 @@ pub mod Arrival
 pub mod Stood
 pub mod Elements
 pub mod Drops
+pub mod Asked

@@ -9,6 +9,7 @@ ghost use Rattle.rawk_store.specs.Stores.{now_of, start_of};
 ghost use Rattle.rawk_store.specs.declared.store.Store.{Store};
 ghost use Rattle.rawk_travel.specs.Plain.{Reaches};
 ghost use Rattle.rawk_travel.specs.Travel.{HasRoom};
+ghost use Rattle.rawk_travel.specs.Asking.{Asks, Draws};
 ghost use Rattle.rawk_travel.specs.Moving.{moving};
 ghost use Rattle.rawk_machine.specs.Arrival.{settled, site_by, with_registers, Arrives, ends_quietly, EndsByRead, HasReach, IsSettled};
 
@@ -82,7 +83,8 @@ pub fn step<R: Source + Drop>(
     ensures rest { OnErr result (start_of store.new ≡ now_of store.new) }
     ensures sound { OnErr result (IsSound (now_of store.new)) }
     ensures consumed { tape.new.consumed ≡ store.new.registers.now.consumed }
-    ensures longer { length tape.old.bytes ≤ length tape.new.bytes }
+    ensures asks { Asks R.may_give code.now tape.old.bytes tape.new (moving store.old) }
+    ensures draws { Draws R.over R.handed tape.old tape.new }
     ensures quiet { OnOk result (ends_quietly store.new.registers.now.ending) }
     ensures failed { OnOk result (EndsByRead store.new.registers.now.ending (R.over tape.new.source ≡ Some End.Failed)) }
     ensures reach { OnOk result (HasReach reach.new store.new) }

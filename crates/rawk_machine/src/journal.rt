@@ -7,6 +7,7 @@ ghost use Rattle.rawk_tape.specs.declared.source.Ending.{Ending as End};
 ghost use Rattle.rawk_store.specs.Keeping.{keeps_any};
 ghost use Rattle.rawk_store.specs.Layout.{Layout, Grown, IsSound};
 ghost use Rattle.rawk_store.specs.Stores.{now_of, start_of};
+ghost use Rattle.rawk_travel.specs.Asking.{Asks, Draws};
 ghost use Rattle.rawk_travel.specs.Moving.{moving};
 ghost use Rattle.rawk_machine.specs.Arrival.{Arrives, ends_quietly, EndsByRead, HasReach, IsSettled};
 ghost use Rattle.rawk_machine.specs.Closing.{Closes, FitAll};
@@ -89,7 +90,8 @@ pub fn journaled<R: Source + Drop, K: Keeper>(
     ensures rest { start_of store.new ≡ now_of store.new }
     ensures sound { IsSound (now_of store.new) }
     ensures consumed { tape.new.consumed ≡ store.new.registers.now.consumed }
-    ensures longer { length tape.old.bytes ≤ length tape.new.bytes }
+    ensures asks { Asks R.may_give code.now tape.old.bytes tape.new (moving store.old) }
+    ensures draws { Draws R.over R.handed tape.old tape.new }
     ensures quiet { OnOk result (ends_quietly store.new.registers.now.ending) }
     ensures failed { OnOk result (EndsByRead store.new.registers.now.ending (R.over tape.new.source ≡ Some End.Failed)) }
     ensures limit { K.limit keeper.new ≡ K.limit keeper.old }

@@ -4,12 +4,15 @@ ghost use Rattle.std.specs.Prelude.{◌≡◌, ◌↔◌, ◌≤◌, ◌<◌, �
 ghost use Rattle.std.specs.Bool.{OnFalse};
 ghost use Rattle.std.specs.Option.{option_map};
 ghost use Rattle.rawk_value.specs.Values.{Bytes};
+ghost use Rattle.rawk_tape.specs.Inputs.{CountsUp};
 ghost use Rattle.rawk_tape.specs.Records.{Input};
 ghost use Rattle.rawk_tape.specs.declared.source.Ending.{Ending as End};
 ghost use Rattle.rawk_store.specs.Stores.{now_of, start_of};
 ghost use Rattle.rawk_machine.specs.Kept.{below};
 ghost use Rattle.rawk_machine.specs.Stood.{IsFirst};
 ghost use Rattle.rawk_machine.specs.Standing.{Standing, MayCome, IsAt, Stood, step_of, IsQuietStep, Stays, MovesOn, gone_back, taken_back, set_made, dropped, old_values};
+ghost use Rattle.rawk_machine.specs.Asked.{AskedBy};
+ghost use Rattle.rawk_travel.specs.Asking.{Draws};
 ghost use Rattle.rawk_travel.specs.Moving.{ending_of};
 
 use crate::arrival::{site_at, step};
@@ -102,7 +105,7 @@ fn first_registers() -> Registers
 fn first_store(alloc: Global, code: &Code, settings: &Settings) -> Result<Store, AllocError>
     ensures { IfOk result (λ s. IsFirst code.now settings.now s) }
 {
-    let mut store = Store::new(alloc, first_registers());
+    let mut store = Store::new(alloc, settings.seed(), first_registers());
     fill_globals(alloc, &mut store.globals, code.names(), settings.as_slice())?;
     add_ranges(&mut store.ranges, code.ranges())?;
     store.forget();
@@ -133,6 +136,8 @@ impl<R: Source + Drop, K: Keeper> Machine<R, K> {
         ensures may { IfOk result (λ m. (input : Input) → MayCome R.may_give m [] input → R.may_give source input) }
         ensures still { IfOk result (λ m. (gone : Bytes) → (input : Input) × MayCome R.may_give m gone input) }
         ensures stands { IfOk result (λ m. (input : Input) → MayCome R.may_give m [] input → IsAt m input [] []) }
+        ensures asks { IfOk result (λ m. (input : Input) → MayCome R.may_give m [] input → AskedBy m input 0 m.tape.bytes) }
+        ensures counted { IfOk result (λ m. CountsUp (R.handed source) (R.handed m.tape.source) (length m.tape.bytes)) }
         ensures stood { IfOk result (λ m. (input : Input) → MayCome R.may_give m [] input → Stood m input) }
     {
         let settings = copy_settings(alloc, settings)?;
@@ -178,6 +183,8 @@ impl<R: Source + Drop, K: Keeper> Machine<R, K> {
         ensures may { (gone : Bytes) (input : Input) → MayCome R.may_give self.new gone input → MayCome R.may_give self.old gone input }
         ensures still { (gone : Bytes) → (input : Input) × MayCome R.may_give self.new gone input }
         ensures stands { (input : Input) (gone handed : Bytes) → MayCome R.may_give self.new gone input → IsAt self.old input gone handed → IsAt self.new input gone handed }
+        ensures asks { (input : Input) (gone handed : Bytes) → MayCome R.may_give self.new gone input → IsAt self.old input gone handed → AskedBy self.old input self.old.point (gone ++ self.old.tape.bytes) → AskedBy self.new input (self.old.point + 1) (gone ++ self.new.tape.bytes) }
+        ensures draws { Draws R.over R.handed self.old.tape self.new.tape }
         ensures stood { (input : Input) → MayCome R.may_give self.new [] input → Stood self.old input → Stood self.new input }
         ensures moves { OnOk result (self.old.ending ≡ None → MovesOn self.old self.new) }
         ensures limit { self.new.limit ≡ self.old.limit }

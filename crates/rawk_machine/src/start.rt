@@ -96,6 +96,7 @@ pub fn copy_settings(alloc: Global, settings: &Settings) -> Result<Settings, All
     ensures { IfOk result (λ copy. copy ≡ settings.now) }
 {
     let mut copy = Settings::new(alloc);
+    copy.set_seed(settings.seed());
     for first in settings.as_slice() {
         copy.assign(first.name.as_slice(), first.text.as_slice())?;
     }

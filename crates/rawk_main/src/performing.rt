@@ -42,13 +42,27 @@ pub fn perform<R: Env + Files + AllocGlobal + Input + Print + Eprint>(
     is_terminal: bool,
 ) -> u8 {
     match invocation(rt) {
-        Ok(invocation) => {
+        Ok(mut invocation) => {
+            invocation.settings.set_seed(seed(rt));
             let at_once = is_terminal || invocation.commands.is_some();
             let done = run_invocation(rt, &invocation, if at_once { 0 } else { OUTPUT_BUFFER });
             drop(invocation);
             done.unwrap_or_else(|refusal| refused(rt, refusal))
         }
         Err(refusal) => refused(rt, refusal),
+    }
+}
+
+/// A seed from the system; where it gives none, 0.
+fn seed<R: Files>(rt: &R) -> u64 {
+    let mut bytes = [0; 8];
+    let read = match fs::open(rt, "/dev/urandom") {
+        Ok(mut file) => file.read_exact(&mut bytes),
+        Err(error) => Err(error),
+    };
+    match read {
+        Ok(()) => u64::from_le_bytes(bytes),
+        Err(_) => 0,
     }
 }
 

@@ -32,7 +32,7 @@ impl Table {
         ensures { result ≡ [] }
     {
         Table {
-            keys: Keys::new(alloc),
+            keys: Keys::new(alloc, 0),
         }
     }
 

@@ -5,3 +5,4 @@ pub mod Newlines
 pub mod Separated
 pub mod Drafts
 pub mod Shorts
+pub mod Rows

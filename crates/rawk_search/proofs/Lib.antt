@@ -5,3 +5,4 @@ pub mod TokenLemmas
 pub mod ExpressionLemmas
 pub mod CutLemmas
 pub mod CutsLemmas
+pub mod Rows

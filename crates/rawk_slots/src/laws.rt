@@ -1,5 +1,7 @@
 //! A law of every part that can be changed back, said by a call.
 
+ghost use Rattle.std.specs.Prelude.{◌≡◌};
+
 use crate::reversible::Reversible;
 use std::alloc::{AllocError, Global};
 
@@ -11,7 +13,8 @@ pub fn there_and_back<P: Reversible>(
 ) -> Result<(), AllocError>
 where
     P::Undo: Drop,
-    ensures { P.grown part.old part.new }
+    ensures seen { P.sees part.new ≡ P.sees part.old }
+    ensures grown { P.grown part.old part.new }
 {
     let mut undo = part.apply(alloc, change)?;
     part.undo(&mut undo);

@@ -12,6 +12,12 @@ pub trait Reversible {
 
     type Undo;
 
+    // What a program may see of a part.
+    ghost Seen: { Type 0 };
+
+    // What a program sees of this one.
+    ghost sees: { Self → Seen };
+
     // The second is the first, perhaps with more that no program sees.
     ghost grown: { Self → Self → Type 0 };
 
@@ -34,4 +40,10 @@ pub trait Reversible {
 
     // A part is itself, with nothing more.
     ghost grown_same: { (part : Self) → grown part part };
+
+    // What is more is not seen.
+    ghost grown_seen: { (old new : Self) → grown old new → sees new ≡ sees old };
+
+    // A change makes one thing alone of a part, as far as is seen.
+    ghost makes_one: { (old new other : Self) (change : Self.Change) → makes old change new → makes old change other → sees new ≡ sees other };
 }

@@ -207,12 +207,17 @@ pub struct Write<T> {
 }
 
 impl<T: Drop> Reversible for Slots<T> {
-    ghost use Rattle.std.specs.Prelude.{◌≡◌, length, refl, slice_set};
+    ghost use Rattle.std.specs.Prelude.{◌≡◌, List, length, refl, slice_set};
+    ghost use Rattle.std.proofs.Common.{◌∙◌, sym};
     ghost use Rattle.rawk_slots.specs.Back.{back, AreBelow};
 
     type Change = Write<T>;
 
     type Undo = SlotGroup<T>;
+
+    ghost Seen = { List T };
+
+    ghost sees = { λ part. part.now };
 
     ghost grown = { λ old new. new.now ≡ old.now };
 
@@ -221,6 +226,10 @@ impl<T: Drop> Reversible for Slots<T> {
     ghost leads_back = { λ now undo earlier. AreBelow (length now.now) undo.entries.items × (back now.now undo.entries.items ≡ earlier.now) };
 
     ghost grown_same = { λ part. refl };
+
+    ghost grown_seen = { λ old new h. h };
+
+    ghost makes_one = { λ old new other change h k. h ∙ sym k };
 
     fn apply(&mut self, alloc: Global, change: Write<T>) -> Result<SlotGroup<T>, AllocError> {
         self.forget();

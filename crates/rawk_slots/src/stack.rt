@@ -249,7 +249,8 @@ impl<T: Drop> Stack<T> {
 }
 
 impl<T: Drop> Reversible for Stack<T> {
-    ghost use Rattle.std.specs.Prelude.{◌≡◌};
+    ghost use Rattle.std.specs.Prelude.{◌≡◌, List};
+    ghost use Rattle.std.proofs.Common.{◌∙◌, sym};
     ghost use Rattle.rawk_slots.specs.Stacked.{IsSameStack, live_values};
     ghost use Rattle.rawk_slots.specs.StackBack.{FitsStack, stack_back};
     ghost use Rattle.rawk_slots.specs.StackChanges.{changed_values};
@@ -259,6 +260,10 @@ impl<T: Drop> Reversible for Stack<T> {
 
     type Undo = StackGroup<T>;
 
+    ghost Seen = { List T };
+
+    ghost sees = { λ part. live_values part.now };
+
     ghost grown = { λ old new. IsSameStack old.now new.now };
 
     ghost makes = { λ old change new. live_values new.now ≡ changed_values change (live_values old.now) };
@@ -266,6 +271,10 @@ impl<T: Drop> Reversible for Stack<T> {
     ghost leads_back = { λ now undo earlier. FitsStack undo now.now × IsSameStack earlier.now (stack_back now.now undo) };
 
     ghost grown_same = { λ part. IsSameStack-refl part.now };
+
+    ghost grown_seen = { λ old new h. h.same };
+
+    ghost makes_one = { λ old new other change h k. h ∙ sym k };
 
     fn apply(
         &mut self,

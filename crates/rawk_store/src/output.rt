@@ -122,11 +122,16 @@ impl Output {
 }
 
 impl Reversible for Output {
-    ghost use Rattle.std.specs.Prelude.{◌≡◌, ◌≤◌, ◌++◌, length, refl, take};
+    ghost use Rattle.std.specs.Prelude.{◌≡◌, ◌≤◌, ◌++◌, ℕ, List, length, refl, take};
+    ghost use Rattle.std.proofs.Common.{◌∙◌, sym};
 
     type Change = Vec<u8>;
 
     type Undo = usize;
+
+    ghost Seen = { List ℕ };
+
+    ghost sees = { λ part. part.now };
 
     ghost grown = { λ old new. new.now ≡ old.now };
 
@@ -135,6 +140,10 @@ impl Reversible for Output {
     ghost leads_back = { λ now undo earlier. (undo ≤ length now.now) × (take undo now.now ≡ earlier.now) };
 
     ghost grown_same = { λ part. refl };
+
+    ghost grown_seen = { λ old new h. h };
+
+    ghost makes_one = { λ old new other change h k. h ∙ sym k };
 
     /// Adds the bytes; the entry is how many there were.
     fn apply(&mut self, alloc: Global, change: Vec<u8>) -> Result<usize, AllocError> {

@@ -40,13 +40,14 @@ pub struct Store {
 }
 
 impl Store {
-    /// No globals, no arrays, no activations, no keys, no ranges, no operands, the empty record, no output, and these registers. It takes no memory.
-    pub fn new(alloc: Global, registers: Registers) -> Self
+    /// No globals, no arrays, no activations, no keys, no ranges, no operands, the empty record, no output, and these registers. The keys of arrays are found by hashes
+    /// with this seed. It takes no memory.
+    pub fn new(alloc: Global, seed: u64, registers: Registers) -> Self
         ensures { IsNew registers result }
     {
         Store {
             globals: Slots::new(alloc),
-            arrays: Arrays::new(alloc),
+            arrays: Arrays::new(alloc, seed),
             frames: Frames::new(alloc),
             keys: KeysLeft::new(alloc),
             ranges: Slots::new(alloc),

@@ -1,6 +1,6 @@
 -- What reading ahead leaves.
 use Rattle.std.proofs.Common.{◌⊎◌, inl, inr, ◌≡◌, ◌≤◌, ◌+◌, ◌-◌, ℕ, List, Option, None, Some, length, ◌++◌, drop, arith, subst, sym, ◌∙◌, ap, refl}
-use Rattle.std.proofs.lemmas.List.{length-append, append_assoc, append-nil, drop-append-le, drop_all}
+use Rattle.std.proofs.lemmas.List.{length-append, append_assoc, drop-append-le}
 use Rattle.rawk_tape.specs.Records.{Input}
 use Rattle.rawk_tape.specs.Inputs.{before, CountsUp}
 use Rattle.rawk_tape.specs.declared.source.Ending.{Ending}

@@ -6,3 +6,4 @@ pub mod Lines
 pub mod Breaks
 pub mod Paragraphs
 pub mod Separators
+pub mod Rows

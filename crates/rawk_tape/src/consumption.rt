@@ -14,13 +14,19 @@ pub struct Consumption {
 }
 
 impl<R: Source + Drop> Reversible for Tape<R> {
-    ghost use Rattle.std.specs.Prelude.{◌≡◌};
+    ghost use Rattle.std.specs.Prelude.{◌≡◌, ℕ};
+    ghost use Rattle.std.proofs.Common.{◌∙◌, ap, sym};
     ghost use Rattle.rawk_tape.specs.Tapes.{LeadsBack, ReadsAhead, consumed_by};
     ghost use Rattle.rawk_tape.specs.Laws.{ReadsAhead-refl};
 
     type Change = Consumption;
 
     type Undo = Consumption;
+
+    // How many bytes are consumed.
+    ghost Seen = { ℕ };
+
+    ghost sees = { λ part. part.consumed };
 
     // Bytes read ahead stand behind those kept.
     ghost grown = { λ old new. ReadsAhead R.may_give R.over R.handed old new };
@@ -30,6 +36,10 @@ impl<R: Source + Drop> Reversible for Tape<R> {
     ghost leads_back = { λ now undo earlier. LeadsBack R.may_give R.over R.handed now undo.count earlier };
 
     ghost grown_same = { λ part. ReadsAhead-refl R.may_give R.over R.handed part };
+
+    ghost grown_seen = { λ old new h. h.consumed };
+
+    ghost makes_one = { λ old new other change h k. ap (λ part. part.consumed) (h ∙ sym k) };
 
     /// Consumes bytes up to a count. It takes no memory, always succeeds and asks the source for nothing; the entry is the count before.
     fn apply(&mut self, alloc: Global, change: Consumption) -> Result<Consumption, AllocError>

@@ -7,6 +7,7 @@ pub mod Parts
 pub mod Lines
 pub mod Takings
 pub mod Readings
+pub mod Askings
 pub mod Travels
 pub mod AtOnces
 pub mod Turns

@@ -3,6 +3,7 @@ pub mod Reading
 pub mod Borrowed
 pub mod Travel
 pub mod Gets
+pub mod Asking
 pub mod Line
 pub mod Plain
 pub mod AtOnce

@@ -1,11 +1,12 @@
 //! The reading of a record.
 
-ghost use Rattle.std.specs.Prelude.{◌≡◌, ◌≢◌, ◌≤◌, List, Some, length, slice_range, IfOk, OnOk};
+ghost use Rattle.std.specs.Prelude.{◌≡◌, ◌≢◌, ◌≤◌, ◌⊎◌, List, Some, length, slice_range, IfOk, OnOk};
 ghost use Rattle.rawk_store.specs.Stores.{start_of};
 ghost use Rattle.rawk_travel.specs.Plain.{IsPlainMove};
 ghost use Rattle.rawk_travel.specs.Moving.{moving};
 ghost use Rattle.rawk_travel.specs.Reading.{counter_up, Takes, Shows, Counts, Finds, consumed_by, ReadsTo, KeepsRegisters, IsQuietReading};
 ghost use Rattle.rawk_travel.specs.Borrowed.{global_in};
+ghost use Rattle.rawk_travel.specs.Asking.{Draws, IsDue};
 ghost use Rattle.rawk_record.specs.Shown.{read_as};
 ghost use Rattle.rawk_value.specs.Values.{Bytes, text_of, is_empty};
 ghost use Rattle.rawk_tape.specs.Records.{Input};
@@ -180,7 +181,8 @@ pub fn read<R: Source + Drop>(
     ensures start { start_of store.new ≡ start_of store.old }
     ensures plain { IsPlainMove store.old store.new }
     ensures consumed { OnOk result (tape.new.consumed ≡ store.new.registers.now.consumed) }
-    ensures longer { length tape.old.bytes ≤ length tape.new.bytes }
+    ensures asks { (tape.new.bytes ≡ tape.old.bytes) ⊎ IsDue (text_of (global_in RS store.old.globals.now)) store.old.registers.now.consumed tape.new.bytes }
+    ensures draws { Draws R.over R.handed tape.old tape.new }
     ensures quiet { IfOk result IsQuietReading }
     ensures failed { IfOk result (λ r. r ≡ Reading.Faulted Fault.ReadFailed → R.over tape.new.source ≡ Some Ending.Failed) }
 {

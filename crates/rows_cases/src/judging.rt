@@ -1,31 +1,13 @@
 //! What is answered, beside what is wanted.
 
-use crate::case::{Case, cases_of};
+use crate::case::Case;
 use crate::escape::shown;
 use std::alloc::{AllocError, Global};
 use std::io;
 
-/// The cases of the standard input.
-pub fn read<R: Input + AllocGlobal>(rt: &R) -> io::Result<Vec<Case>> {
-    let alloc = rt.alloc();
-    let text = io::read_to_string(alloc, rt.reader())?;
-    Ok(cases_of(alloc, text.as_str())?)
-}
-
-/// Asks for the answer to each case of the standard input, as `judge_cases` does.
-pub fn judge<R, F>(rt: &R, answer: F) -> io::Result<()>
-where
-    R: Input + Print + AllocGlobal,
-    F: Fn(Global, &[&[u8]]) -> Result<Vec<u8>, AllocError>,
-    requires { F.IsAlwaysCallable answer }
-{
-    let cases = read(rt)?;
-    judge_cases(rt, cases.as_slice(), answer)
-}
-
 /// Asks for the answer to each case. It writes where an answer differs from what is wanted, and at the end how many cases there
 /// were, and how many of them were answered wrongly.
-pub fn judge_cases<R, F>(rt: &R, cases: &[Case], answer: F) -> io::Result<()>
+pub fn judge<R, F>(rt: &R, cases: &[Case], answer: F) -> io::Result<()>
 where
     R: Print + AllocGlobal,
     F: Fn(Global, &[&[u8]]) -> Result<Vec<u8>, AllocError>,

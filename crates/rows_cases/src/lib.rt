@@ -31,8 +31,8 @@ mod judging;
 mod number;
 mod value;
 
-pub use case::Case;
+pub use case::{Case, cases_of};
 pub use escape::{shown, unescaped};
-pub use judging::{judge, judge_cases, read};
+pub use judging::judge;
 pub use number::{number_of, setting_of};
 pub use value::{push_value, value_of};

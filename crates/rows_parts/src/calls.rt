@@ -2,8 +2,8 @@
 //! `local N=VALUE`, `leave` or `leave all`; with `apply` or `there and back` before it, a step of its own, which the second takes back.
 //! `step` ends the step, and `back` takes it back.
 
+use crate::stepped::{self, as_step};
 use rawk_frames::{Frames, FramesChange, Local};
-use rawk_slots::{Reversible, there_and_back};
 use rawk_value::Value;
 use rows_cases::{number_of, push_value, value_of};
 use std::alloc::{AllocError, Global};
@@ -30,13 +30,8 @@ fn text_after(
 
 /// Makes one change.
 fn make(alloc: Global, frames: &mut Frames, change: &[u8]) -> Result<(), AllocError> {
-    if let Some(change) = change.strip_prefix(b"apply ".as_slice()) {
-        let change = change_of(alloc, change)?;
-        drop(frames.apply(alloc, change)?);
-        return Ok(());
-    }
-    match change.strip_prefix(b"there and back ".as_slice()) {
-        Some(change) => there_and_back(frames, alloc, change_of(alloc, change)?),
+    match as_step(change) {
+        Some((change, back)) => stepped::make(alloc, frames, change_of(alloc, change)?, back),
         None => call(alloc, frames, change),
     }
 }

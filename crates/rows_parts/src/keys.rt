@@ -2,8 +2,8 @@
 //! `clear`; with `apply` or `there and back` before it, a step of its own, which the second takes back. `step` ends the step, and
 //! `back` takes it back.
 
+use crate::stepped::{self, as_step};
 use rawk_frames::{KeysChange, KeysLeft};
-use rawk_slots::{Reversible, there_and_back};
 use rows_cases::setting_of;
 use std::alloc::{AllocError, Global};
 
@@ -29,13 +29,8 @@ fn text_after(
 
 /// Makes one change.
 fn make(alloc: Global, left: &mut KeysLeft, change: &[u8]) -> Result<(), AllocError> {
-    if let Some(change) = change.strip_prefix(b"apply ".as_slice()) {
-        let change = change_of(alloc, change)?;
-        drop(left.apply(alloc, change)?);
-        return Ok(());
-    }
-    match change.strip_prefix(b"there and back ".as_slice()) {
-        Some(change) => there_and_back(left, alloc, change_of(alloc, change)?),
+    match as_step(change) {
+        Some((change, back)) => stepped::make(alloc, left, change_of(alloc, change)?, back),
         None => call(alloc, left, change),
     }
 }

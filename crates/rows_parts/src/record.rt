@@ -7,7 +7,7 @@
 use crate::fields::fault_text;
 use crate::not_a_case;
 use crate::values::value_of;
-use rawk_store::{Current, FieldRef, Record, RecordChange, Reversible, Separator, field_number};
+use rawk_store::{Current, FieldRef, Record, RecordChange, Reversible, field_number};
 use rawk_value::{Fault, Value, text_of};
 use rows_cases::push_value;
 use std::alloc::{AllocError, Global};
@@ -196,7 +196,12 @@ fn change_and_undo(
     out: &mut Vec<u8>,
     [ofs, text, change]: [&[u8]; 3],
 ) -> Result<(), AllocError> {
-    drop(record.apply(alloc, RecordChange::Becomes(record_of(alloc, text)?))?);
+    let read = RecordChange::Read {
+        text: Vec::from_slice(alloc, text)?,
+        fs: Vec::from_slice(alloc, b" ")?,
+        newline: false,
+    };
+    drop(record.apply(alloc, read)?);
     let Some(change) = change_of(alloc, ofs, change)? else {
         return Ok(());
     };
@@ -207,16 +212,4 @@ fn change_and_undo(
     added?;
     out.extend_from_slice(b" | ")?;
     out.extend_from_slice(record.text())
-}
-
-/// The record of a text, cut at blanks.
-fn record_of(alloc: Global, text: &[u8]) -> Result<Record, AllocError> {
-    let mut record = Record::new(alloc);
-    match record.refill(alloc, text, Separator::Blanks, false) {
-        Ok(()) => Ok(record),
-        Err(error) => {
-            drop(record);
-            Err(error)
-        }
-    }
 }

@@ -1,8 +1,12 @@
 //! `store` and changes: the globals, the operands from the newest on, the output in brackets, and the place in the code. A change
 //! is `global VALUE` for one more, `global N=VALUE`, `operand VALUE`, `text TEXT`, `value VALUE` or `number N` for more output, or
-//! `place N`. `step` ends the step, and `back` ends it and takes it back; `undo` takes back what it did so far.
+//! `place N`; `apply` or `there and back` before `global N=VALUE`, `text TEXT`, `operand VALUE`, `newest VALUE`, `oldest N=VALUE`, `drop N`, `keep N`
+//! or `clear operands` makes a change of that part as a step of its own, which the second takes back. `step` ends the step, and `back` ends it and takes it back; `undo` takes back what it did so far.
 
+use crate::stepped::{self, as_step};
 use crate::values::value_of;
+use rawk_slots::StackChange;
+use rawk_slots::slots::Write;
 use rawk_store::{Phase, Registers, Store};
 use rawk_value::Value;
 use rows_cases::{number_of, push_value};
@@ -23,7 +27,7 @@ fn at_begin() -> Registers {
 
 /// The store after changes.
 pub fn changed(alloc: Global, changes: &[&[u8]]) -> Result<Vec<u8>, AllocError> {
-    let mut store = Store::new(alloc, at_begin());
+    let mut store = Store::new(alloc, 0, at_begin());
     let text = text_after(alloc, &mut store, changes);
     drop(store);
     text
@@ -39,13 +43,74 @@ fn text_after(alloc: Global, store: &mut Store, changes: &[&[u8]]) -> Result<Vec
 
 /// Makes one change.
 fn make(alloc: Global, store: &mut Store, change: &[u8]) -> Result<(), AllocError> {
-    match change.iter().position(|b| *b == b' ') {
-        Some(at) => put(alloc, store, &change[..at], &change[at + 1..]),
+    if let Some((change, back)) = as_step(change) {
+        let (word, rest) = halves(change, b' ').unwrap_or((change, b""));
+        return apply(alloc, store, word, rest, back);
+    }
+    match halves(change, b' ') {
+        Some((word, rest)) => put(alloc, store, word, rest),
         None => {
             end(alloc, store, change);
             Ok(())
         }
     }
+}
+
+/// What stands before the first of these bytes, and what stands behind it.
+fn halves(part: &[u8], between: u8) -> Option<(&[u8], &[u8])> {
+    let at = part.iter().position(|b| *b == between)?;
+    Some((&part[..at], &part[at + 1..]))
+}
+
+/// Changes a part of the store as a step of its own.
+fn apply(
+    alloc: Global,
+    store: &mut Store,
+    word: &[u8],
+    rest: &[u8],
+    back: bool,
+) -> Result<(), AllocError> {
+    match word {
+        b"global" => {
+            let (place, value) = numbered(alloc, rest)?;
+            stepped::make(alloc, &mut store.globals, Write { place, value }, back)
+        }
+        b"text" => stepped::make(
+            alloc,
+            &mut store.output,
+            Vec::from_slice(alloc, rest)?,
+            back,
+        ),
+        _ => {
+            let change = operands_change(alloc, word, rest)?;
+            stepped::make(alloc, &mut store.operands, change, back)
+        }
+    }
+}
+
+/// The number before a `=`, and the value behind it.
+fn numbered(alloc: Global, part: &[u8]) -> Result<(usize, Value), AllocError> {
+    let (number, value) = halves(part, b'=').unwrap_or((part, b"u"));
+    Ok((number_of(number).unwrap_or(0), value_of(alloc, value)?))
+}
+
+/// The change of the operands that a word is, with what stands behind it.
+fn operands_change(
+    alloc: Global,
+    word: &[u8],
+    rest: &[u8],
+) -> Result<StackChange<Value>, AllocError> {
+    Ok(match word {
+        b"operand" => StackChange::Push(value_of(alloc, rest)?),
+        b"newest" => StackChange::SetNewest(value_of(alloc, rest)?),
+        b"oldest" => {
+            let (number, value) = numbered(alloc, rest)?;
+            StackChange::SetOldest { number, value }
+        }
+        b"drop" => StackChange::DropNewest(number_of(rest).unwrap_or(0)),
+        b"keep" => StackChange::KeepOldest(number_of(rest).unwrap_or(0)),
+        _ => StackChange::Clear,
+    })
 }
 
 /// Ends the step, or takes it back.
@@ -79,9 +144,9 @@ fn put(alloc: Global, store: &mut Store, word: &[u8], rest: &[u8]) -> Result<(),
 /// Adds a global, or sets one.
 fn put_global(alloc: Global, store: &mut Store, global: &[u8]) -> Result<(), AllocError> {
     match global {
-        [number, b'=', value @ ..] => {
-            let number = number_of(&[*number]).unwrap_or(0);
-            store.globals.set(number, value_of(alloc, value)?)
+        [_, b'=', ..] => {
+            let (number, value) = numbered(alloc, global)?;
+            store.globals.set(number, value)
         }
         value => store.globals.add(value_of(alloc, value)?),
     }

@@ -4,7 +4,8 @@
 ghost use Rattle.std.specs.Prelude.{◌≡◌, None};
 
 use crate::back::compare;
-use rawk_code::{Code, Settings, compile};
+use rawk_code::{Code, Settings};
+use rawk_compiler::compile;
 use rawk_machine::{Machine, Step};
 use rawk_store::Full;
 use rawk_syntax::parse;

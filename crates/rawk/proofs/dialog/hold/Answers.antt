@@ -1,9 +1,11 @@
-use Rattle.std.proofs.Common.{◌+◌, Err, ap, refl, sym, take, ◌∙◌}
+use Rattle.std.proofs.Common.{ℕ, ◌<◌, ◌++◌, length, take, ap, arith, refl, sym, subst, ◌∙◌}
+use Rattle.rawk_debug.specs.declared.session.Session.{Session}
+use Rattle.rawk_value.specs.Values.{Bytes}
+use Rattle.rawk_debug.specs.Transcript.{reply_text}
 use Rattle.rawk_debug.specs.Sessions.{stand, machine_of}
-use Rattle.rawk.specs.declared.dialog.Over.{Over}
 use Rattle.rawk.specs.Reads.{LinesState}
 use Rattle.rawk.specs.Reports.{read_failures, write_failures}
-use Rattle.rawk.specs.Dialogs.{report_over}
+use Rattle.rawk.specs.Dialogs.{Speaks, report_over}
 use Rattle.rawk.proofs.SoFar.{none_counted, counted}
 use Rattle.rawk.proofs.DialogSoFar.{begun, not_failed, unread_is, quitted, stopped, answered}
 use Rattle.rawk.proofs.dialog.hold.Goals as goal
@@ -20,8 +22,9 @@ lines-init g c = record {
 -- there is no next line
 pub returns-in-Err-clause-speaks : goal.returns-in-Err-clause-speaks
 returns-in-Err-clause-speaks g c =
-    unread_is g.M.Stepper.may_be g.C.Source.may_give g.C.Source.handed g.W.Sink.may_hold (stand g.M.Stepper.position c.args.session.now) (stand g.M.Stepper.position c.lines.session) (stand g.M.Stepper.position c.lines.session) (machine_of c.args.session.now) (machine_of c.lines.session) (machine_of c.lines.session) c.args.commands.now c.lines.commands c.next.new.source c.lines.lines c.next.new.self c.args.sink.now c.lines.sink c.lines.sink c.lines.invariant.so c.next.ensures.reads c.next.ensures.lazy
-    c.in-Err.over c.in-Err.ensures.over (λ e. c.next.ensures.long (c.in-Err.is ∙ ap (λ (o : Over). Err o) e)) c.next.ensures.taken
+    let f = c.in-Err.ensures.none in
+    subst (λ (s : Session g.row.M.Denot). Speaks g.M.Stepper.may_be g.C.Source.may_give g.C.Source.handed g.W.Sink.may_hold (stand g.M.Stepper.position c.args.session.now) (stand g.M.Stepper.position s) (machine_of s) c.args.commands.now c.take_turn.new.commands c.args.sink.now c.lines.sink c.in-Err.over) (sym c.in-Err.ensures.same)
+    (unread_is g.M.Stepper.may_be g.C.Source.may_give g.C.Source.handed g.W.Sink.may_hold (stand g.M.Stepper.position c.args.session.now) (stand g.M.Stepper.position c.lines.session) (machine_of c.args.session.now) (machine_of c.lines.session) c.args.commands.now c.lines.commands c.take_turn.new.commands c.lines.lines c.args.sink.now c.lines.sink c.lines.invariant.so f.all f.reads c.in-Err.over f.none f.many)
 
 pub returns-in-Err-clause-failures : goal.returns-in-Err-clause-failures
 returns-in-Err-clause-failures g c =
@@ -29,37 +32,43 @@ returns-in-Err-clause-failures g c =
 
 pub returns-in-Err-clause-unread : goal.returns-in-Err-clause-unread
 returns-in-Err-clause-unread g c =
-    counted (g.C.Source.failures c.args.commands.now) (g.C.Source.failures c.lines.commands) (g.C.Source.failures c.next.new.source) (read_failures (report_over c.in-Err.over).cause) (read_failures (report_over c.in-Err.over).cause) c.lines.invariant.unread c.in-Err.ensures.failures refl
+    counted (g.C.Source.failures c.args.commands.now) (g.C.Source.failures c.lines.commands) (g.C.Source.failures c.take_turn.new.commands) (read_failures (report_over c.in-Err.over).cause) (read_failures (report_over c.in-Err.over).cause) c.lines.invariant.unread c.in-Err.ensures.failures refl
 
 -- the line is `quit`
 pub returns-then-quits-clause-speaks : goal.returns-then-quits-clause-speaks
 returns-then-quits-clause-speaks g c =
-    quitted g.M.Stepper.may_be g.C.Source.may_give g.C.Source.handed g.W.Sink.may_hold (stand g.M.Stepper.position c.args.session.now) (stand g.M.Stepper.position c.lines.session) (stand g.M.Stepper.position c.carry_out-reply.new.session) (machine_of c.args.session.now) (machine_of c.lines.session) (machine_of c.carry_out-reply.new.session) c.args.commands.now c.lines.commands c.next.new.source c.lines.lines c.next.new.self c.args.sink.now c.lines.sink c.lines.sink c.lines.invariant.so c.next.ensures.reads c.next.ensures.lazy
-    c.text.result.now (take c.in-Ok.line.size c.next.new.self.bytes) c.in-Ok.line.count c.carry_out-reply.result c.text.ensures c.in-Ok.ensures.line c.carry_out-reply.ensures.narrows c.carry_out-reply.ensures.carries (sym c.quits.ensures ∙ c.if-quits.true)
+    quitted g.M.Stepper.may_be g.C.Source.may_give g.C.Source.handed g.W.Sink.may_hold (stand g.M.Stepper.position c.args.session.now) (stand g.M.Stepper.position c.lines.session) (machine_of c.args.session.now) (machine_of c.lines.session) c.args.commands.now c.lines.commands c.take_turn.new.commands c.lines.lines c.args.sink.now c.lines.sink c.lines.invariant.so c.in-Ok.ensures.takes.all c.in-Ok.ensures.takes.reads
+    (machine_of c.take_turn.new.session) (stand g.M.Stepper.position c.take_turn.new.session) c.lines.sink c.in-Ok.ensures.takes.turn c.in-Ok.ensures.takes.count (g.M.Stepper.held (machine_of c.take_turn.new.session)).state.output c.in-Ok.reply c.in-Ok.ensures.takes.next c.take_turn.ensures.narrows c.in-Ok.ensures.takes.carries (sym c.quits.ensures ∙ c.if-quits.true)
 
 -- the answer is not written
-pub returns-in-Err-write_all-clause-speaks : goal.returns-in-Err-write_all-clause-speaks
-returns-in-Err-write_all-clause-speaks g c =
-    stopped g.M.Stepper.may_be g.C.Source.may_give g.C.Source.handed g.W.Sink.may_hold (stand g.M.Stepper.position c.args.session.now) (stand g.M.Stepper.position c.lines.session) (stand g.M.Stepper.position c.carry_out-reply.new.session) (machine_of c.args.session.now) (machine_of c.lines.session) (machine_of c.carry_out-reply.new.session) c.args.commands.now c.lines.commands c.next.new.source c.lines.lines c.next.new.self c.args.sink.now c.lines.sink c.write_all.new.sink c.lines.invariant.so c.next.ensures.reads c.next.ensures.lazy
-    c.text.result.now (take c.in-Ok.line.size c.next.new.self.bytes) c.in-Ok.line.count c.carry_out-reply.result c.text.ensures c.in-Ok.ensures.line c.carry_out-reply.ensures.narrows c.carry_out-reply.ensures.carries c.bytes.result.now c.bytes.ensures (sym c.quits.ensures ∙ c.if-quits.false) c.in-Err-write_all.ensures.err
+pub returns-in-Err-write_reply-clause-speaks : goal.returns-in-Err-write_reply-clause-speaks
+returns-in-Err-write_reply-clause-speaks g c =
+    stopped g.M.Stepper.may_be g.C.Source.may_give g.C.Source.handed g.W.Sink.may_hold (stand g.M.Stepper.position c.args.session.now) (stand g.M.Stepper.position c.lines.session) (machine_of c.args.session.now) (machine_of c.lines.session) c.args.commands.now c.lines.commands c.take_turn.new.commands c.lines.lines c.args.sink.now c.lines.sink c.lines.invariant.so c.in-Ok.ensures.takes.all c.in-Ok.ensures.takes.reads
+    (machine_of c.take_turn.new.session) (stand g.M.Stepper.position c.take_turn.new.session) c.write_reply.new.sink c.in-Ok.ensures.takes.turn c.in-Ok.ensures.takes.count (g.M.Stepper.held (machine_of c.take_turn.new.session)).state.output c.in-Ok.reply c.in-Ok.ensures.takes.next c.take_turn.ensures.narrows c.in-Ok.ensures.takes.carries (sym c.quits.ensures ∙ c.if-quits.false) (subst (λ (b : Bytes). (held : Bytes) → g.W.Sink.may_hold c.lines.sink held → (size : ℕ) × (size < length (reply_text b c.in-Ok.reply)) × g.W.Sink.may_hold c.write_reply.new.sink (held ++ take size (reply_text b c.in-Ok.reply))) (c.output.ensures ∙ ap (λ (m : g.row.M.Denot). (g.M.Stepper.held m).state.output) c.machine.ensures) c.in-Err-write_reply.ensures.err)
 
 -- the next line
 pub lines-preserved : goal.lines-preserved
 lines-preserved g c = record {
-  so = answered g.M.Stepper.may_be g.C.Source.may_give g.C.Source.handed g.W.Sink.may_hold (stand g.M.Stepper.position c.args.session.now) (stand g.M.Stepper.position c.lines.session) (stand g.M.Stepper.position c.carry_out-reply.new.session) (machine_of c.args.session.now) (machine_of c.lines.session) (machine_of c.carry_out-reply.new.session) c.args.commands.now c.lines.commands c.next.new.source c.lines.lines c.next.new.self c.args.sink.now c.lines.sink c.write_all.new.sink c.lines.invariant.so c.next.ensures.reads c.next.ensures.lazy
-      c.text.result.now (take c.in-Ok.line.size c.next.new.self.bytes) c.in-Ok.line.count c.carry_out-reply.result c.text.ensures c.in-Ok.ensures.line c.carry_out-reply.ensures.narrows c.carry_out-reply.ensures.carries c.let_go.new.self c.in-Ok.ensures.within.1 c.let_go.ensures.bytes (c.let_go.ensures.taken ∙ ap (λ k. k + 1) c.next.ensures.taken) c.bytes.result.now c.bytes.ensures (sym c.quits.ensures ∙ c.if-quits.false) c.in-Ok-write_all.ensures.ok;
-  reported = c.next.ensures.reported ∙ sym c.let_go.ensures.over;
-  unfailed = λ e. c.in-Ok.ensures.unfailed (sym c.let_go.ensures.over ∙ e);
-  failures = counted (g.W.Sink.failures c.args.sink.now) (g.W.Sink.failures c.lines.sink) (g.W.Sink.failures c.write_all.new.sink) 0 0 c.lines.invariant.failures c.in-Ok-write_all.ensures.failures refl;
-  unread = counted (g.C.Source.failures c.args.commands.now) (g.C.Source.failures c.lines.commands) (g.C.Source.failures c.next.new.source) 0 0 c.lines.invariant.unread c.in-Ok.ensures.unfailing refl;
+  so = answered g.M.Stepper.may_be g.C.Source.may_give g.C.Source.handed g.W.Sink.may_hold (stand g.M.Stepper.position c.args.session.now) (stand g.M.Stepper.position c.lines.session) (machine_of c.args.session.now) (machine_of c.lines.session) c.args.commands.now c.lines.commands c.take_turn.new.commands c.lines.lines c.args.sink.now c.lines.sink c.lines.invariant.so c.in-Ok.ensures.takes.all c.in-Ok.ensures.takes.reads
+      (machine_of c.take_turn.new.session) (stand g.M.Stepper.position c.take_turn.new.session) c.write_reply.new.sink c.in-Ok.ensures.takes.turn c.in-Ok.ensures.takes.count (g.M.Stepper.held (machine_of c.take_turn.new.session)).state.output c.in-Ok.reply c.in-Ok.ensures.takes.next c.take_turn.ensures.narrows c.in-Ok.ensures.takes.carries c.take_turn.new.lines c.in-Ok.ensures.takes.within c.in-Ok.ensures.takes.left c.in-Ok.ensures.takes.taken (sym c.quits.ensures ∙ c.if-quits.false) (subst (λ (b : Bytes). (held : Bytes) → g.W.Sink.may_hold c.lines.sink held → g.W.Sink.may_hold c.write_reply.new.sink (held ++ reply_text b c.in-Ok.reply)) (c.output.ensures ∙ ap (λ (m : g.row.M.Denot). (g.M.Stepper.held m).state.output) c.machine.ensures) c.in-Ok-write_reply.ensures.ok);
+  reported = c.in-Ok.ensures.reported;
+  unfailed = c.in-Ok.ensures.unfailed;
+  failures = counted (g.W.Sink.failures c.args.sink.now) (g.W.Sink.failures c.lines.sink) (g.W.Sink.failures c.write_reply.new.sink) 0 0 c.lines.invariant.failures c.in-Ok-write_reply.ensures.failures refl;
+  unread = counted (g.C.Source.failures c.args.commands.now) (g.C.Source.failures c.lines.commands) (g.C.Source.failures c.take_turn.new.commands) 0 0 c.lines.invariant.unread c.in-Ok.ensures.unfailing refl;
 }
 
-pub lines-preserved-in-Ok-write_all : goal.lines-preserved-in-Ok-write_all
-lines-preserved-in-Ok-write_all g c = record {
-  so = answered g.M.Stepper.may_be g.C.Source.may_give g.C.Source.handed g.W.Sink.may_hold (stand g.M.Stepper.position c.args.session.now) (stand g.M.Stepper.position c.lines.session) (stand g.M.Stepper.position c.carry_out-reply.new.session) (machine_of c.args.session.now) (machine_of c.lines.session) (machine_of c.carry_out-reply.new.session) c.args.commands.now c.lines.commands c.next.new.source c.lines.lines c.next.new.self c.args.sink.now c.lines.sink c.write_all.new.sink c.lines.invariant.so c.next.ensures.reads c.next.ensures.lazy
-      c.text.result.now (take c.in-Ok.line.size c.next.new.self.bytes) c.in-Ok.line.count c.carry_out-reply.result c.text.ensures c.in-Ok.ensures.line c.carry_out-reply.ensures.narrows c.carry_out-reply.ensures.carries c.let_go.new.self c.in-Ok.ensures.within.1 c.let_go.ensures.bytes (c.let_go.ensures.taken ∙ ap (λ k. k + 1) c.next.ensures.taken) c.bytes.result.now c.bytes.ensures (sym c.quits.ensures ∙ c.if-quits.false) c.in-Ok-write_all.ensures.ok;
-  reported = c.next.ensures.reported ∙ sym c.let_go.ensures.over;
-  unfailed = λ e. c.in-Ok.ensures.unfailed (sym c.let_go.ensures.over ∙ e);
-  failures = counted (g.W.Sink.failures c.args.sink.now) (g.W.Sink.failures c.lines.sink) (g.W.Sink.failures c.write_all.new.sink) 0 0 c.lines.invariant.failures c.in-Ok-write_all.ensures.failures refl;
-  unread = counted (g.C.Source.failures c.args.commands.now) (g.C.Source.failures c.lines.commands) (g.C.Source.failures c.next.new.source) 0 0 c.lines.invariant.unread c.in-Ok.ensures.unfailing refl;
+pub lines-preserved-in-Ok-write_reply : goal.lines-preserved-in-Ok-write_reply
+lines-preserved-in-Ok-write_reply g c = record {
+  so = answered g.M.Stepper.may_be g.C.Source.may_give g.C.Source.handed g.W.Sink.may_hold (stand g.M.Stepper.position c.args.session.now) (stand g.M.Stepper.position c.lines.session) (machine_of c.args.session.now) (machine_of c.lines.session) c.args.commands.now c.lines.commands c.take_turn.new.commands c.lines.lines c.args.sink.now c.lines.sink c.lines.invariant.so c.in-Ok.ensures.takes.all c.in-Ok.ensures.takes.reads
+      (machine_of c.take_turn.new.session) (stand g.M.Stepper.position c.take_turn.new.session) c.write_reply.new.sink c.in-Ok.ensures.takes.turn c.in-Ok.ensures.takes.count (g.M.Stepper.held (machine_of c.take_turn.new.session)).state.output c.in-Ok.reply c.in-Ok.ensures.takes.next c.take_turn.ensures.narrows c.in-Ok.ensures.takes.carries c.take_turn.new.lines c.in-Ok.ensures.takes.within c.in-Ok.ensures.takes.left c.in-Ok.ensures.takes.taken (sym c.quits.ensures ∙ c.if-quits.false) (subst (λ (b : Bytes). (held : Bytes) → g.W.Sink.may_hold c.lines.sink held → g.W.Sink.may_hold c.write_reply.new.sink (held ++ reply_text b c.in-Ok.reply)) (c.output.ensures ∙ ap (λ (m : g.row.M.Denot). (g.M.Stepper.held m).state.output) c.machine.ensures) c.in-Ok-write_reply.ensures.ok);
+  reported = c.in-Ok.ensures.reported;
+  unfailed = c.in-Ok.ensures.unfailed;
+  failures = counted (g.W.Sink.failures c.args.sink.now) (g.W.Sink.failures c.lines.sink) (g.W.Sink.failures c.write_reply.new.sink) 0 0 c.lines.invariant.failures c.in-Ok-write_reply.ensures.failures refl;
+  unread = counted (g.C.Source.failures c.args.commands.now) (g.C.Source.failures c.lines.commands) (g.C.Source.failures c.take_turn.new.commands) 0 0 c.lines.invariant.unread c.in-Ok.ensures.unfailing refl;
 }
+
+pub lines-smaller : goal.lines-smaller
+lines-smaller g c = omega (arith, c.in-Ok.ensures.takes.taken, c.in-Ok.ensures.few)
+
+pub lines-smaller-in-Ok-write_reply : goal.lines-smaller-in-Ok-write_reply
+lines-smaller-in-Ok-write_reply g c = omega (arith, c.in-Ok.ensures.takes.taken, c.in-Ok.ensures.few)

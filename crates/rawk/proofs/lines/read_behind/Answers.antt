@@ -1,18 +1,21 @@
-use Rattle.std.proofs.Common.{◌≡◌, ◌≤◌, ◌<◌, ◌++◌, length, take, arith, ap, sym, ◌∙◌}
-use Rattle.std.proofs.lemmas.List.{append-nil, length-take-le}
+use Rattle.std.proofs.Common.{◌≡◌, ◌≤◌, ◌<◌, ◌++◌, length, take, drop, arith, ap, sym, ◌∙◌}
+use Rattle.std.proofs.lemmas.List.{append-nil, drop-append-le, length-take-le}
+use Rattle.rawk_value.specs.Values.{Bytes}
 use Rattle.rawk_tape.specs.Inputs.{size_taken}
 use Rattle.rawk.proofs.Room.{none_taken, put_behind, some_taken}
 use Rattle.rawk.proofs.lines.read_behind.Goals as goal
 
 pub returns-clause-reads : goal.returns-clause-reads
-returns-clause-reads g c =
+returns-clause-reads g c = λ start within.
     let B = c.read.new.buf in
     let s = size_taken c.read.result in
     let low : s ≤ length B = c.read.ensures.in_bounds in
     let n : length (take s B) ≡ s = length-take-le s B low in
+    let first = take c.args.end c.args.items.now in
+    let held : start ≤ length first = omega (arith, within, length-take-le c.args.end c.args.items.now (omega arith)) in
     record {
       chunk = take s B;
-      grown = put_behind c.args.items.now B _ c.args.end s (omega arith) low;
+      grown = ap (λ (x : Bytes). drop start x) (put_behind c.args.items.now B _ c.args.end s (omega arith) low) ∙ drop-append-le start first (take s B) held;
       bounded = omega (arith, c.read.auto.buf, c.min-size.ensures);
       progress = λ still. let some : 0 < s = some_taken c.read.result (sym c.read.ensures.over ∙ still) in omega arith;
       comes = c.read.ensures.bytes;

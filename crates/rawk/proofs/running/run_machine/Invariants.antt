@@ -6,7 +6,7 @@ use Rattle.rawk.proofs.running.run_machine.Given as goal
 -- the sink has taken the output of all points before the one at which the machine stands
 abbrev pub invariant-steps : goal.invariant-steps
 invariant-steps g l = record {
-  so : SoFar g.R.Source.may_give g.W.Sink.may_hold l.fn.machine l.fn.sink l.machine l.sink;
+  so : SoFar g.R.Source.may_give g.R.Source.handed g.W.Sink.may_hold l.fn.machine l.fn.sink l.machine l.sink;
   failures : CountsUp (g.W.Sink.failures l.fn.sink) (g.W.Sink.failures l.sink) 0;
   alone : l.machine.unset ≡ [];
 }

@@ -20,7 +20,7 @@ returns-in_err-add_labels-clause-array_key c =
     let text = c.args.text.now.items in
     let key = c.args.key.now in
     let text2 : c.extend_from_slice.new.self.items ≡ text ++ key = c.in_ok-extend_from_slice.ensures.items in
-    rw (text2, c.in_err-add_labels.ensures.same_arrays, c.in_err-add_labels.ensures.same_hashes, c.reserve.ensures.items) (AreLaid-text text key c.args.by_hash.now c.args.by_array.now c.args.spans.now.items c.requires)
+    rw (text2, c.in_err-add_labels.ensures.same_arrays, c.in_err-add_labels.ensures.same_hashes, c.reserve.ensures.items) (AreLaid-text c.args.basis text key c.args.by_hash.now c.args.by_array.now c.args.spans.now.items c.requires)
 
 pub returns-clause-did : goal.returns-clause-did
 returns-clause-did c =
@@ -44,4 +44,4 @@ returns-clause-array_key c =
     let spans2 : c.push.new.self.items ≡ spans ++ s ∷ [] = c.in_ok-push.ensures.items ∙ ap (λ (xs : List KeyRange). xs ++ s ∷ []) c.reserve.ensures.items in
     let start : c.len-start.result ≡ length text = c.len-start.ensures ∙ c.args.text.now.ok.0 in
     let end : c.len-end.result ≡ length (text ++ key) = c.len-end.ensures ∙ (c.extend_from_slice.new.self.ok.0 ∙ ap length text2) in
-    rw (text2, c.in_ok-add_labels.ensures.arrays, c.in_ok-add_labels.ensures.hashes, spans2) (AreLaid-more text key c.args.by_hash.now c.args.by_array.now spans c.args.array c.hash.result s start end c.hash.ensures c.requires)
+    rw (text2, c.in_ok-add_labels.ensures.arrays, c.in_ok-add_labels.ensures.hashes, spans2) (AreLaid-more c.args.basis text key c.args.by_hash.now c.args.by_array.now spans c.args.array c.hash.result s start end c.hash.ensures c.requires)

@@ -1,8 +1,9 @@
-use Rattle.std.proofs.Common.{◌≡◌, Some}
+use Rattle.std.proofs.Common.{◌≡◌, Some, refl}
 use Rattle.std.specs.Prelude.{slice_range}
 use Rattle.rawk_tape.specs.declared.source.Ending.TheVariants.{Failed}
 use Rattle.rawk_travel.specs.Moving.{moving}
 use Rattle.rawk_travel.proofs.Readings.{found_did, missing_did, fault_did, fault_quiet, found_quiet, found_calm}
+use Rattle.rawk_travel.proofs.Askings.{last_due, draws_ahead}
 use Rattle.rawk_travel.proofs.reading.read.Goals as goal
 
 pub returns-in-Err-clause-did : goal.returns-in-Err-clause-did
@@ -33,3 +34,21 @@ pub returns-in-Ok-Some-clause-failed : goal.returns-in-Ok-Some-clause-failed
 returns-in-Ok-Some-clause-failed g c =
     let bytes = c.next.new.self.bytes in
     found_calm (g.R.Source.over c.take_found.new.tape.source ≡ Some Failed) c.take_found.result (slice_range bytes c.in-Ok-Some.found.start c.in-Ok-Some.found.end) c.in-Ok-Some.found.count (moving c.args.store.now) (moving c.take_found.new.store) c.take_found.ensures.did
+
+pub returns-in-Err-clause-asks : goal.returns-in-Err-clause-asks
+returns-in-Err-clause-asks g c = last_due c.separator_in-separator.result.now _ c.args.tape.now.consumed _ c.args.tape.now c.next.new.self c.next.new.self c.separator_in-separator.ensures c.requires c.next.ensures.lazy refl
+
+pub returns-in-Err-clause-draws : goal.returns-in-Err-clause-draws
+returns-in-Err-clause-draws g c = draws_ahead g.R.Source.may_give g.R.Source.over g.R.Source.handed c.args.tape.now c.next.new.self c.next.new.self refl c.next.ensures.ahead
+
+pub returns-in-Ok-None-clause-asks : goal.returns-in-Ok-None-clause-asks
+returns-in-Ok-None-clause-asks g c = last_due c.separator_in-separator.result.now _ c.args.tape.now.consumed _ c.args.tape.now c.next.new.self c.next.new.self c.separator_in-separator.ensures c.requires c.next.ensures.lazy refl
+
+pub returns-in-Ok-None-clause-draws : goal.returns-in-Ok-None-clause-draws
+returns-in-Ok-None-clause-draws g c = draws_ahead g.R.Source.may_give g.R.Source.over g.R.Source.handed c.args.tape.now c.next.new.self c.next.new.self refl c.next.ensures.ahead
+
+pub returns-in-Ok-Some-clause-asks : goal.returns-in-Ok-Some-clause-asks
+returns-in-Ok-Some-clause-asks g c = last_due c.separator_in-separator.result.now _ c.args.tape.now.consumed _ c.args.tape.now c.next.new.self c.take_found.new.tape c.separator_in-separator.ensures c.requires c.next.ensures.lazy c.take_found.ensures.tape
+
+pub returns-in-Ok-Some-clause-draws : goal.returns-in-Ok-Some-clause-draws
+returns-in-Ok-Some-clause-draws g c = draws_ahead g.R.Source.may_give g.R.Source.over g.R.Source.handed c.args.tape.now c.next.new.self c.take_found.new.tape c.take_found.ensures.tape c.next.ensures.ahead

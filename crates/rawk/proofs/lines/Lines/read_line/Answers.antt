@@ -1,11 +1,11 @@
-use Rattle.std.proofs.Common.{◌≡◌, ◌≤◌, inr, length, None, arith, ap, refl, sym, subst, ◌∙◌, Option}
+use Rattle.std.proofs.Common.{◌≡◌, ◌≤◌, length, None, arith, ap, refl, sym, subst, ◌∙◌, Option}
 use Rattle.std.specs.List.{position_or_len}
 use Rattle.rawk_value.specs.Values.{Bytes}
 use Rattle.rawk_tape.specs.Inputs.{CountsUp}
 use Rattle.rawk_tape.specs.declared.source.Ending.{Ending}
-use Rattle.rawk.specs.Reads.{IsLong, LinesState, failures_by, is_newline}
+use Rattle.rawk.specs.Reads.{failures_by, is_newline}
 use Rattle.rawk.proofs.SoFar.{counted}
-use Rattle.rawk.proofs.Room.{due_now, is_long, on_any, reads_on}
+use Rattle.rawk.proofs.Room.{reads_on, seen_all}
 use Rattle.rawk.proofs.lines.Lines.read_line.Goals as goal
 
 pub reads-preserved : goal.reads-preserved
@@ -13,23 +13,17 @@ reads-preserved g c =
     let i = c.reads.invariant in
     let f = c.in_ok-fill.ensures in
     let t = c.reads.self.bytes in
-    let at : c.first_newline-size.result ≡ position_or_len is_newline t = c.first_newline-size.ensures ∙ ap (λ (b : Bytes). position_or_len is_newline b) c.kept-kept.ensures.value in
+    let at : c.newline_behind-size.result ≡ position_or_len is_newline t = c.newline_behind-size.ensures ∙ ap (λ (b : Bytes). position_or_len is_newline b) c.kept-kept.ensures.value in
     let n : length c.kept-kept.result.now ≡ length t = ap length c.kept-kept.ensures.value in
     let far : length t ≤ position_or_len is_newline t = omega (arith, at, n) in
     let still : c.reads.self.over ≡ None = sym c.over.ensures ∙ c.in-None.is in
+    let seen = seen_all t f.reads.chunk c.fill.new.self.bytes c.newline_behind-size.result f.reads.grown at far in
     record {
       reported = f.reported;
       taken = c.fill.ensures.taken ∙ i.taken;
-      reads = reads_on g.C.Source.may_give g.C.Source.over g.C.Source.handed c.args.source.now c.reads.source c.fill.new.source c.args.self.now.bytes t c.fill.new.self.bytes i.reads f.reads;
-      lazy = inr (due_now g.C.Source.may_give g.C.Source.over g.C.Source.handed c.reads.source c.fill.new.source t c.fill.new.self.bytes f.reads far);
+      reads = reads_on g.C.Source.may_give g.C.Source.over g.C.Source.handed c.args.source.now c.reads.source c.fill.new.source c.args.self.now.bytes t c.fill.new.self.bytes i.reads f.reads far;
       failures = counted _ _ _ _ _ (subst (λ (o : Option Ending). CountsUp (g.C.Source.failures c.args.source.now) (g.C.Source.failures c.reads.source) (failures_by o)) still i.failures) f.failures refl;
       failed = λ e. subst (λ (b : Bytes). length b ≤ position_or_len is_newline b) (sym (f.failed e)) far;
+      inside = seen.0;
+      without = seen.1;
     }
-
-pub returns-in_err-fill-clause-long : goal.returns-in_err-fill-clause-long
-returns-in_err-fill-clause-long g c =
-    let t = c.reads.self.bytes in
-    let at : c.first_newline-size.result ≡ position_or_len is_newline t = c.first_newline-size.ensures ∙ ap (λ (b : Bytes). position_or_len is_newline b) c.kept-kept.ensures.value in
-    let n : length c.kept-kept.result.now ≡ length t = ap length c.kept-kept.ensures.value in
-    let far : length t ≤ position_or_len is_newline t = omega (arith, at, n) in
-    on_any c.from_residual.result (IsLong c.fill.new.self.bytes 0) (subst (λ (l : LinesState). IsLong l.bytes 0) (sym c.in_err-fill.ensures.same) (is_long t far c.in_err-fill.ensures.long))

@@ -1,19 +1,20 @@
-use Rattle.std.proofs.Common.{◌≡◌, ◌⊎◌, ◌≤◌, ◌+◌, ◌-◌, ◌*◌, ◌^◌, length, Some, is_none, if◌then◌else◌}
+use Rattle.std.proofs.Common.{◌≡◌, ◌≤◌, ◌+◌, ◌-◌, ◌*◌, ◌^◌, length, take, Some, is_none, if◌then◌else◌}
 use Rattle.std.specs.List.{position_or_len}
 use Rattle.rawk_tape.specs.Inputs.{CountsUp}
 use Rattle.rawk_tape.specs.declared.source.Ending.TheVariants.{Failed}
-use Rattle.rawk.specs.Reads.{IsDue, ReadsMore, failures_by, is_newline}
+use Rattle.rawk.specs.Reads.{ReadsMore, failures_by, is_newline}
 use Rattle.rawk.proofs.lines.Lines.read_line.Given as goal
 
--- it has only read on, and where a read failed no newline is held
+-- it has only read on, none of the bytes seen is a newline, and where a read failed none is held
 abbrev pub invariant-reads : goal.invariant-reads
 invariant-reads g l = record {
   reported : g.C.Source.over l.source ≡ l.self.over;
   taken : l.self.taken ≡ l.fn.self.taken;
   reads : ReadsMore g.C.Source.may_give g.C.Source.handed l.fn.source l.fn.self.bytes l.source l.self.bytes;
-  lazy : (l.self.bytes ≡ l.fn.self.bytes) ⊎ IsDue l.self.bytes 0;
   failures : CountsUp (g.C.Source.failures l.fn.source) (g.C.Source.failures l.source) (failures_by l.self.over);
   failed : l.self.over ≡ Some Failed → length l.self.bytes ≤ position_or_len is_newline l.self.bytes;
+  inside : l.seen ≤ length l.self.bytes;
+  without : position_or_len is_newline (take l.seen l.self.bytes) ≡ l.seen;
 }
 
 -- bytes can be held up to a bound, and then the source is over

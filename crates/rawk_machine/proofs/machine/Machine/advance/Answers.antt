@@ -1,4 +1,4 @@
-use Rattle.std.proofs.Common.{◌≡◌, ℕ, ◌+◌, List, [], length, reverse, refl, sym, ap, ◌∙◌, subst, arith, Option, None}
+use Rattle.std.proofs.Common.{◌≡◌, ℕ, ◌+◌, ◌++◌, List, [], length, reverse, refl, sym, ap, ◌∙◌, subst, arith, Option, None}
 use Rattle.rawk_value.specs.declared.value.Value.{Value}
 use Rattle.rawk_record.specs.Shown.{Shown}
 use Rattle.rawk_store.specs.Groups.{Group, Kept}
@@ -7,7 +7,7 @@ use Rattle.rawk_store.specs.Stores.{now_of}
 use Rattle.rawk_machine.specs.Last.{Last, On, last_of}
 use Rattle.rawk_travel.specs.Moving.{ending_of}
 use Rattle.std.specs.Option.{option_map}
-use Rattle.rawk_machine.specs.Standing.{Standing, Moment, Past, IsAt, StandsAt, MovesOn, ground_of, moment_of}
+use Rattle.rawk_machine.specs.Standing.{Standing, Moment, Past, IsAt, StandsAt, MovesOn, ground_of, given_of, moment_of}
 use Rattle.rawk_machine.specs.Kept.{IsPlaced, unsets, pasts, before_of, Chain, Few}
 use Rattle.rawk_machine.specs.Stood.{standing_of, IsBelow}
 use Rattle.rawk_machine.specs.Arrival.{ends_quietly}
@@ -16,6 +16,9 @@ use Rattle.rawk_machine.proofs.Chains.{ends_with, fit_here, chain-grown, chain-s
 use Rattle.rawk_machine.proofs.Journals.{moved, few_moved}
 use Rattle.rawk_machine.proofs.Stands.{at_step, come_some, stood_step, stood_same}
 use Rattle.rawk_machine.proofs.Gives.{on_err}
+use Rattle.rawk_machine.proofs.Askings.{asked_step}
+use Rattle.rawk_machine.specs.Asked.{AskedBy, HasAsked, asked_wider}
+use Rattle.rawk_travel.specs.Asking.{Draws}
 use Rattle.rawk_machine.proofs.machine.Machine.advance.Goals as goal
 
 pub returns-in_err-journaled-in-None-clause-still : goal.returns-in_err-journaled-in-None-clause-still
@@ -46,7 +49,7 @@ returns-in_ok-journaled-in-None-clause-moves g c = λ none.
     let n = now_of c.journaled.new.store in
     let placed : IsPlaced l i.point (length i.tape.bytes) = record { goes = c.in-None.is; here = (v.below c.in-None.is).0; consumed = c.journaled.ensures.within } in
     let m = moved l e.kept.0 n i.point (length i.tape.bytes) (length c.journaled.new.tape.bytes) i.sets.items i.here.items (g.K.Keeper.kept i.keeper) (g.K.Keeper.kept c.journaled.new.keeper) (g.K.Keeper.limit i.keeper)
-    v.sound e.kept.1 placed c.journaled.ensures.longer e.kept.2 v.chain in
+    v.sound e.kept.1 placed c.journaled.ensures.draws.longer e.kept.2 v.chain in
     let old : Standing g.row.R.Denot = standing_of i.code i.settings i.steps i.sets.items i.point i.tape l i.executed (reverse i.here.items) (g.K.Keeper.kept i.keeper) (g.K.Keeper.limit i.keeper) (last_of i.last (g.K.Keeper.forth i.keeper)) in
     let new = λ (gs : List Group) (la : Last). standing_of i.code i.settings i.steps i.sets.items (i.point + 1) c.journaled.new.tape n c.journaled.new.executed (reverse gs) (g.K.Keeper.kept c.journaled.new.keeper) (g.K.Keeper.limit c.journaled.new.keeper) la in
     let on : MovesOn old (new [] On) = record { point = refl; unset = refl; saved = m.saved; history = m.front; kept = m.count; before = λ any. m.before any } in
@@ -74,7 +77,7 @@ invariant_of-self g c =
     let same : n.registers ≡ l.registers = e.grown.registers in
     let going : c.journaled.new.store.registers.now.ending ≡ None = ap (λ (r : Registers). r.ending) same ∙ c.in-None.is in
     let size = length c.journaled.new.tape.bytes in
-    let chain : Chain l i.point size i.sets.items (reverse i.here.items) (g.K.Keeper.kept i.keeper) = chain-size l i.point (length i.tape.bytes) size i.sets.items (reverse i.here.items) (g.K.Keeper.kept i.keeper) c.journaled.ensures.longer v.chain in
+    let chain : Chain l i.point size i.sets.items (reverse i.here.items) (g.K.Keeper.kept i.keeper) = chain-size l i.point (length i.tape.bytes) size i.sets.items (reverse i.here.items) (g.K.Keeper.kept i.keeper) c.journaled.ensures.draws.longer v.chain in
     let grew : Chain n i.point size i.sets.items (reverse i.here.items) (g.K.Keeper.kept i.keeper) = chain-grown l n i.point size i.sets.items (reverse i.here.items) (g.K.Keeper.kept i.keeper) e.grown chain in
     record {
       rest = c.journaled.ensures.rest;
@@ -101,7 +104,7 @@ invariant_of-self-in-None g c =
     let under = (v.below c.in-None.is).1 in
     let placed : IsPlaced l i.point (length i.tape.bytes) = record { goes = c.in-None.is; here = (v.below c.in-None.is).0; consumed = c.journaled.ensures.within } in
     let m = moved l e.kept.0 n i.point (length i.tape.bytes) size i.sets.items i.here.items (g.K.Keeper.kept i.keeper) (g.K.Keeper.kept c.journaled.new.keeper) (g.K.Keeper.limit i.keeper)
-    v.sound e.kept.1 placed c.journaled.ensures.longer e.kept.2 v.chain in
+    v.sound e.kept.1 placed c.journaled.ensures.draws.longer e.kept.2 v.chain in
     record {
       rest = c.journaled.ensures.rest;
       sound = c.journaled.ensures.sound;
@@ -179,3 +182,32 @@ returns-in_err-journaled-in-None-clause-stands g c = λ input gone handed may at
     let i = c.self.inside in
     let same = moment-grown (now_of i.store) (now_of c.journaled.new.store) c.in_err-journaled-in-None.ensures.grown c.self.invariant.sound in
     subst (λ (m : Moment). StandsAt (record { code = i.code; settings = i.settings; steps = i.steps; input = input }) i.sets.items i.point m gone handed) (sym same) (subst (λ (m : Standing g.row.R.Denot). IsAt m input gone handed) (sym c.self.view_is) at)
+
+pub returns-in_ok-journaled-in-None-clause-asks : goal.returns-in_ok-journaled-in-None-clause-asks
+returns-in_ok-journaled-in-None-clause-asks g c = λ input gone handed may at asked.
+    let i = c.self.inside in
+    subst (λ (m : Standing g.row.R.Denot). HasAsked i.code i.settings (record { input = input; sets = i.sets.items; steps = i.steps }) (m.point + 1) (gone ++ c.journaled.new.tape.bytes)) c.self.view_is
+    (asked_step g.R.Source.may_give i.code i.settings i.steps i.sets.items i.point i.tape.bytes c.journaled.new.tape (now_of i.store) input gone handed c.in-None.is c.journaled.ensures.asks may.kept may.whole may.may
+    (subst (λ (m : Standing g.row.R.Denot). IsAt m input gone handed) (sym c.self.view_is) at)
+    (subst (λ (m : Standing g.row.R.Denot). AskedBy m input m.point (gone ++ m.tape.bytes)) (sym c.self.view_is) asked))
+
+pub returns-in_ok-journaled-in-None-clause-draws : goal.returns-in_ok-journaled-in-None-clause-draws
+returns-in_ok-journaled-in-None-clause-draws g c =
+    subst (λ (m : Standing g.row.R.Denot). Draws g.R.Source.over g.R.Source.handed m.tape c.journaled.new.tape) c.self.view_is c.journaled.ensures.draws
+
+pub returns-in_err-journaled-in-None-clause-asks : goal.returns-in_err-journaled-in-None-clause-asks
+returns-in_err-journaled-in-None-clause-asks g c = λ input gone handed may at asked.
+    let i = c.self.inside in
+    subst (λ (m : Standing g.row.R.Denot). HasAsked i.code i.settings (record { input = input; sets = i.sets.items; steps = i.steps }) (m.point + 1) (gone ++ c.journaled.new.tape.bytes)) c.self.view_is
+    (asked_step g.R.Source.may_give i.code i.settings i.steps i.sets.items i.point i.tape.bytes c.journaled.new.tape (now_of i.store) input gone handed c.in-None.is c.journaled.ensures.asks may.kept may.whole may.may
+    (subst (λ (m : Standing g.row.R.Denot). IsAt m input gone handed) (sym c.self.view_is) at)
+    (subst (λ (m : Standing g.row.R.Denot). AskedBy m input m.point (gone ++ m.tape.bytes)) (sym c.self.view_is) asked))
+
+pub returns-in_err-journaled-in-None-clause-draws : goal.returns-in_err-journaled-in-None-clause-draws
+returns-in_err-journaled-in-None-clause-draws g c =
+    subst (λ (m : Standing g.row.R.Denot). Draws g.R.Source.over g.R.Source.handed m.tape c.journaled.new.tape) c.self.view_is c.journaled.ensures.draws
+
+pub returns-in-Some-clause-asks : goal.returns-in-Some-clause-asks
+returns-in-Some-clause-asks g c = λ input gone handed may at asked.
+    let old = c.args.self.now in
+    asked_wider old.code old.settings (given_of old input) old.point (old.point + 1) (gone ++ old.tape.bytes) (omega arith) asked

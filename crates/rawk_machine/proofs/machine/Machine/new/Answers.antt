@@ -1,4 +1,4 @@
-use Rattle.std.proofs.Common.{List, [], reverse, ap, sym, subst}
+use Rattle.std.proofs.Common.{List, [], length, reverse, ap, sym, subst}
 use Rattle.rawk_tape.specs.Tapes.{TapeState}
 use Rattle.rawk_store.specs.Groups.{Group, Kept}
 use Rattle.rawk_code.specs.Actions.{SetAt}
@@ -9,6 +9,11 @@ use Rattle.rawk_store.specs.Stores.{now_of}
 use Rattle.rawk_travel.specs.Moving.{going, moving_of}
 use Rattle.rawk_travel.specs.Reading.{run_in}
 use Rattle.rawk_machine.proofs.Stands.{at_start, come_some, come_first}
+use Rattle.rawk_value.specs.Values.{Bytes}
+use Rattle.rawk_tape.specs.Inputs.{CountsUp}
+use Rattle.rawk_travel.specs.Asking.{Asks}
+use Rattle.rawk_machine.specs.Asked.{HasAsked}
+use Rattle.rawk_machine.proofs.Askings.{asked_first, counted_first}
 use Rattle.rawk_machine.proofs.machine.Machine.new.Goals as goal
 
 pub returns-clause-may : goal.returns-clause-may
@@ -28,6 +33,20 @@ returns-clause-stands g c = λ input may.
     (subst (λ (x : Layout). StandsAt ground [] 0 (moment_in x) [] []) (sym c.forget.ensures.now)
     (at_start g.R.Source.may_give c.args.code c.in_ok-settings.settings c.args.steps c.step.new.tape l (now_of c.step.new.store) input
     starts c.in_ok-step.ensures.did may.kept may.whole may.may))
+
+pub returns-clause-asks : goal.returns-clause-asks
+returns-clause-asks g c = λ input may.
+    let l = now_of c.in_ok-store.store in
+    let starts = ap (λ (x : Layout). going (moving_of x) x.registers.place (run_in (moving_of x) [] [] [])) (sym c.in_ok-store.ensures.now) in
+    let empty = ap (λ (t : TapeState g.row.R.Denot). t.bytes) c.new-tape.ensures in
+    subst (λ (xs : List SetAt). HasAsked c.args.code c.in_ok-settings.settings (record { input = input; sets = xs; steps = c.args.steps }) 0 c.step.new.tape.bytes) (sym c.new.ensures.items)
+    (asked_first g.R.Source.may_give c.args.code c.in_ok-settings.settings c.args.steps c.step.new.tape l input starts
+    (subst (λ (b : Bytes). Asks g.R.Source.may_give c.args.code b c.step.new.tape (moving_of l)) empty c.step.ensures.asks) may.kept may.whole may.may)
+
+pub returns-clause-counted : goal.returns-clause-counted
+returns-clause-counted g c =
+    subst (λ (s : g.row.R.Denot). CountsUp (g.R.Source.handed s) (g.R.Source.handed c.step.new.tape.source) (length c.step.new.tape.bytes)) (ap (λ (t : TapeState g.row.R.Denot). t.source) c.new-tape.ensures)
+    (counted_first g.R.Source.over g.R.Source.handed c.new-tape.result c.step.new.tape (ap (λ (t : TapeState g.row.R.Denot). t.bytes) c.new-tape.ensures) c.step.ensures.draws)
 
 pub returns-clause-stood : goal.returns-clause-stood
 returns-clause-stood g c = λ input may.

@@ -1,8 +1,0 @@
-use Rattle.std.proofs.Common.{◌∙◌, ◌-◌, ap, take}
-use Rattle.rawk_value.specs.Values.{Bytes}
-use Rattle.rawk.proofs.Room.{moved_to_front}
-use Rattle.rawk.proofs.lines.move_to_front.Goals as goal
-
-pub returns-clause-kept : goal.returns-clause-kept
-returns-clause-kept c =
-    ap (λ (x : Bytes). take (c.args.end - c.args.start) x) c.copy_within.ensures.items ∙ moved_to_front c.args.items.now.items c.args.start c.args.end c.requires.low c.requires.high

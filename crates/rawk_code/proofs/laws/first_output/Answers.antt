@@ -1,5 +1,0 @@
-use Rattle.rawk_code.proofs.FirstOutput.{first_output_law}
-use Rattle.rawk_code.proofs.laws.first_output.Goals as goal
-
-pub returns : goal.returns
-returns c = first_output_law

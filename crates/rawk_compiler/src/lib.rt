@@ -1,0 +1,10 @@
+//! From programs to instructions that do what they mean; and the laws of that meaning.
+#![tactic(auto)]
+
+pub mod compiler;
+mod emit;
+pub mod laws;
+mod loops;
+mod operands;
+
+pub use compiler::compile;

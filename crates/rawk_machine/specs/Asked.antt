@@ -1,0 +1,30 @@
+-- What a run asked for of its input.
+use Rattle.std.proofs.Common.{◌≡◌, ◌⊎◌, inl, inr, ◌≤◌, ℕ, List, [], refl}
+use Rattle.rawk_value.specs.Values.{Bytes}
+use Rattle.rawk_tape.specs.Records.{Input}
+use Rattle.rawk_tree.specs.declared.tree.Program.{Program}
+use Rattle.rawk_code.specs.Actions.{Given}
+use Rattle.rawk_code.specs.Correct.{CodeOf, first}
+use Rattle.rawk_code.specs.Listing.{Listing}
+use Rattle.rawk_code.specs.Trace.{FirstValue}
+use Rattle.rawk_travel.specs.Asking.{AskedFrom, asked_behind}
+use Rattle.rawk_machine.specs.Standing.{Standing, given_of}
+
+-- nothing was read, or the code's run asked for all that was read, behind so many points at most
+abbrev pub HasAsked : Listing → List FirstValue → Given → ℕ → Bytes → Type 0
+HasAsked code settings given points read = (read ≡ []) ⊎ AskedFrom code given points (first code settings) read
+
+-- the same of a machine's run
+abbrev pub AskedBy : {S : Type 0} → Standing S → Input → ℕ → Bytes → Type 0
+AskedBy machine input points read = HasAsked machine.code machine.settings (given_of machine input) points read
+
+-- nothing was read, or the run of a code that does what the program does asked for all that was read, behind so many points at most
+abbrev pub IsAskedFor : Program → List FirstValue → Given → ℕ → Bytes → Type 0
+IsAskedFor p settings given points read = (read ≡ []) ⊎ ((code : Listing) × CodeOf p code × AskedFrom code given points (first code settings) read)
+
+-- behind more points at most
+pub asked_wider : (code : Listing) (settings : List FirstValue) (given : Given) (m n : ℕ) (read : Bytes) → m ≤ n → HasAsked code settings given m read → HasAsked code settings given n read
+asked_wider code settings given m n read low asked = elim asked [
+  | inl none ↦ inl none
+  | inr some ↦ inr (asked_behind code given m n (first code settings) (first code settings) read low (0, refl) some)
+]
