@@ -5,6 +5,9 @@ use Rattle.std.proofs.Math.Seq.{take-append-add}
 use Rattle.rawk_value.specs.Values.{Bytes}
 use Rattle.rawk_tape.specs.Records.{Input, next_record}
 use Rattle.rawk_tape.specs.Inputs.{CountsUp, before}
+use Rattle.rawk_tape.specs.Lines.{HasNoLine, IsDue, IsEndless, IsNextLine, LinesState, NoNewline, ReadsMore, failures_at, failures_by, newline}
+use Rattle.rawk_tape.specs.declared.lines.NoLine.{NoLine}
+use Rattle.rawk_tape.specs.declared.lines.NoLine.TheVariants as no_line
 use Rattle.rawk_tape.specs.declared.source.Ending.{Ending}
 use Rattle.rawk_tape.specs.declared.source.Ending.TheVariants.{Failed}
 use Rattle.rawk_tape.specs.Laws.{before-before, moved, next_record-before}
@@ -13,10 +16,9 @@ use Rattle.rawk_debug.specs.declared.transcript.Reply.TheVariants.{Text, Line, N
 use Rattle.rawk_debug.specs.Moves.{Stand}
 use Rattle.rawk_debug.specs.Transcript.{Transcript, Turn, Heard, Passed, Carries, IsReply, is_quit, reply_text, request}
 use Rattle.rawk_debug.specs.Runs.{Leads, leads_nowhere, leads_on, leads_to_quit, leads_to_end}
-use Rattle.rawk.specs.declared.dialog.Over.{Over}
-use Rattle.rawk.specs.declared.dialog.Over.TheVariants.{Ended, Unread, Unwritten, TooMany}
-use Rattle.rawk.specs.Reads.{LinesState, NoNewline, IsDue, IsEndless, ReadsMore, failures_by}
-use Rattle.rawk.specs.Dialogs.{IsNextLine, IsNextTurn, TurnsTo, NoneQuits, HasNoLine, newline, IsDialog, Speaks, to_end, to_quit, unread, too_many, unwritten, quits_by}
+use Rattle.rawk.specs.declared.dialog.Over.TheVariants.{Ended, Unwritten}
+use Rattle.rawk.specs.Reports.{read_failures, write_failures}
+use Rattle.rawk.specs.Dialogs.{IsNextTurn, TurnsTo, NoneQuits, IsDialog, Speaks, to_end, to_quit, unread, too_many, unwritten, over_by, quits_by, report_over}
 
 -- the line that is due begins here, or later
 due_on : (read : Bytes) (k m : ℕ) → k ≤ m → IsDue read k → IsDue read m
@@ -70,11 +72,21 @@ turn_behind : (front bytes : Bytes) (rest : Input) (turn : Turn) (count : ℕ) �
 turn_behind front bytes rest (Heard line) count is = line_behind front bytes rest line count is
 turn_behind front bytes rest (Passed line) count (is, long) = (line_behind front bytes rest line count is, long)
 
-none_there : (front bytes : Bytes) (rest : Input) (over : Over) → HasNoLine (before bytes rest) 0 over → HasNoLine (before (front ++ bytes) rest) (length front) over
-none_there front bytes rest Ended is = record_behind front bytes rest ∙ ap (moved (length front)) is
-none_there front bytes rest Unread is = record_behind front bytes rest ∙ ap (moved (length front)) is
-none_there front bytes rest Unwritten is = is
-none_there front bytes rest TooMany is = tt
+none_there : (front bytes : Bytes) (rest : Input) (why : NoLine) → HasNoLine (before bytes rest) 0 why → HasNoLine (before (front ++ bytes) rest) (length front) why
+none_there front bytes rest no_line.Ended is = record_behind front bytes rest ∙ ap (moved (length front)) is
+none_there front bytes rest no_line.Unread is = record_behind front bytes rest ∙ ap (moved (length front)) is
+none_there front bytes rest no_line.TooMany is = tt
+
+-- a dialog that has no next line reports a failed read exactly where there was one, and no failed write
+pub reads_reported : (why : NoLine) → failures_at why ≡ read_failures (report_over (over_by why)).cause
+reads_reported no_line.Ended = refl
+reads_reported no_line.Unread = refl
+reads_reported no_line.TooMany = refl
+
+pub writes_reported : (why : NoLine) → 0 ≡ write_failures (report_over (over_by why)).cause
+writes_reported no_line.Ended = refl
+writes_reported no_line.Unread = refl
+writes_reported no_line.TooMany = refl
 
 -- one turn more
 pub turns_on : (asked : Input) (start : ℕ) (turns : List Turn) (count : ℕ) (turn : Turn) (next : ℕ) → TurnsTo asked start turns count → IsNextTurn asked count turn next → TurnsTo asked start (turns ++ turn ∷ []) next
@@ -201,12 +213,11 @@ module _ {M C V : Type 0} (may_be : M → Input → Type 0) (may_give : C → In
   is_due = due_by so.gone state.bytes fresh so.wanted so.passed so.due more.lazy
 
   -- there is no next line
-  no_next : (over : Over) → ((rest : Input) → may_give commands2 rest → HasNoLine (before fresh rest) 0 over) → (over ≡ TooMany → IsEndless fresh 0 ⊎ (2 ^ 64 - 1 ≤ state.taken))
-      → (input rest : Input) → may_be machine input → may_give commands2 rest → IsDialog input (before all rest) all first now over so.out
-  no_next Ended none many input rest may come = to_end so.turns (length so.gone) so.out (read rest come) (so.stays input may) (none_there so.gone fresh rest Ended (none rest come)) is_due (leads_to_end input so.turns first so.out now (so.leads input may))
-  no_next Unread none many input rest may come = unread so.turns (length so.gone) so.out (read rest come) (so.stays input may) (none_there so.gone fresh rest Unread (none rest come)) is_due (leads_to_end input so.turns first so.out now (so.leads input may))
-  no_next Unwritten none many input rest may come = absurd (none rest come)
-  no_next TooMany none many input rest may come =
+  no_next : (why : NoLine) → ((rest : Input) → may_give commands2 rest → HasNoLine (before fresh rest) 0 why) → (why ≡ no_line.TooMany → IsEndless fresh 0 ⊎ (2 ^ 64 - 1 ≤ state.taken))
+      → (input rest : Input) → may_be machine input → may_give commands2 rest → IsDialog input (before all rest) all first now (over_by why) so.out
+  no_next no_line.Ended none many input rest may come = to_end so.turns (length so.gone) so.out (read rest come) (so.stays input may) (none_there so.gone fresh rest no_line.Ended (none rest come)) is_due (leads_to_end input so.turns first so.out now (so.leads input may))
+  no_next no_line.Unread none many input rest may come = unread so.turns (length so.gone) so.out (read rest come) (so.stays input may) (none_there so.gone fresh rest no_line.Unread (none rest come)) is_due (leads_to_end input so.turns first so.out now (so.leads input may))
+  no_next no_line.TooMany none many input rest may come =
       let behind : IsEndless all (length so.gone) ⊎ (2 ^ 64 - 1 ≤ length so.turns) =
       elim (many refl) [
         | inl here ↦ inl (endless_behind so.gone fresh here)
@@ -214,13 +225,13 @@ module _ {M C V : Type 0} (may_be : M → Input → Type 0) (may_give : C → In
       ] in
       too_many so.turns (length so.gone) so.out (read rest come) (so.stays input may) is_due behind (leads_to_end input so.turns first so.out now (so.leads input may))
 
-  pub unread_is : (over : Over) → ((rest : Input) → may_give commands2 rest → HasNoLine (before fresh rest) 0 over) → (over ≡ TooMany → IsEndless fresh 0 ⊎ (2 ^ 64 - 1 ≤ state.taken))
-      → Speaks may_be may_give handed may_hold first now machine commands_first commands2 sink_first sink over
-  unread_is over none many = record {
+  pub unread_is : (why : NoLine) → ((rest : Input) → may_give commands2 rest → HasNoLine (before fresh rest) 0 why) → (why ≡ no_line.TooMany → IsEndless fresh 0 ⊎ (2 ^ 64 - 1 ≤ state.taken))
+      → Speaks may_be may_give handed may_hold first now machine commands_first commands2 sink_first sink (over_by why)
+  unread_is why none many = record {
     read = all;
     comes = comes;
     counted = counted;
-    taken = λ input rest may come held h. (so.out, so.taken held h, no_next over none many input rest may come);
+    taken = λ input rest may come held h. (so.out, so.taken held h, no_next why none many input rest may come);
   }
 
   module _ (machine2 : M) (new : Stand) (sink2 : V) (turn : Turn) (count : ℕ) (output : Bytes) (reply : Reply) (next : (rest : Input) → may_give commands2 rest → IsNextTurn (before fresh rest) 0 turn count) (narrows : (input : Input) → may_be machine2 input → may_be machine input) (carries : (input : Input) → may_be machine2 input → Carries input turn now output reply new) where

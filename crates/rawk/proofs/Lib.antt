@@ -1,5 +1,5 @@
+mod Stages
 mod SoFar
 mod DialogSoFar
-mod Room
 mod Runs
 mod Sessions

@@ -12,7 +12,7 @@ use Rattle.rawk_debug.specs.Positions.{Position}
 use Rattle.rawk_debug.specs.Moves.{Stand}
 use Rattle.rawk_debug.specs.Sessions.{stand, machine_of}
 use Rattle.rawk_debug.specs.declared.session.Session.{Session}
-use Rattle.rawk_inferior.specs.Staged.{position_of}
+use Rattle.rawk.specs.Staged.{position_of}
 use Rattle.rawk.specs.declared.dialog.Over.{Over}
 use Rattle.rawk.specs.declared.report.Report.{Report}
 use Rattle.rawk.specs.Preparing as preparing

@@ -28,7 +28,7 @@ use Rattle.rawk.specs.declared.report.Report.{Report}
 use Rattle.rawk.specs.declared.report.Cause.{Cause}
 use Rattle.rawk.specs.declared.report.Cause.TheVariants as cause
 use Rattle.rawk.specs.Reports.{stopped_by}
-use Rattle.rawk.specs.Runs.{output_or, output_at, output_before, IsRunOf, whole, sink_failed, memory_refused, never_stood, refused_behind, report_of, cause_of, step_report, trace_of, SameRun, HandsOn, IsCut, points_until, TookFrom, Runs, IsRun}
+use Rattle.rawk.specs.Runs.{output_or, output_at, output_before, IsRunOf, whole, sink_failed, memory_refused, never_stood, refused_behind, report_of, cause_of, step_report, trace_of, SameRun, HandsOn, IsCut, points_until, TookFrom, Took, Runs, IsRun}
 
 pub SameRun-trans : {S : Type 0} (l m n : Standing S) → SameRun l m → SameRun m n → SameRun l n
 SameRun-trans l m n a b = record { code = b.code ∙ a.code; settings = b.settings ∙ a.settings; sets = b.sets ∙ a.sets; steps = b.steps ∙ a.steps }
@@ -415,17 +415,16 @@ first_by t None is some none = none (no_points t.run.points is)
 first_by t (Some point) is some none = some point is
 
 -- memory is refused before the machine stands
-pub not_stood : {S V : Type 0} (may_give : S → Input → Type 0) (over : S → Option End) (drawn : S → ℕ) (may_hold : V → Bytes → Type 0) (p : Program) (settings : List FirstValue) (source : S) (steps : ℕ) (sink now : V)
-    → (rest : Input) × may_give source rest → FirstOutputLaw → now ≡ sink → IsRun may_give over drawn may_hold p settings source steps sink now (stopped_by (cause.Faulted OutOfMemory) 0)
-not_stood may_give over drawn may_hold p settings source steps sink now some first same = record {
-  last = source;
-  read = [];
-  took = record { some = some; given = λ rest comes. comes; asked = λ rest comes. inl refl; counted = λ small. omega arith; failed = λ other. absurd (cc other) };
+pub not_stood : {S V : Type 0} (may_give : S → Input → Type 0) (over : S → Option End) (drawn : S → ℕ) (may_hold : V → Bytes → Type 0) (p : Program) (settings : List FirstValue) (source last : S) (steps : ℕ) (sink now : V) (read : Bytes)
+    → FirstOutputLaw → now ≡ sink → Took may_give over drawn p settings source steps (stopped_by (cause.Faulted OutOfMemory) 0) last read → IsRun may_give over drawn may_hold p settings source last steps sink now (stopped_by (cause.Faulted OutOfMemory) 0)
+not_stood may_give over drawn may_hold p settings source last steps sink now read first same took = record {
+  read = read;
+  took = took;
   taken = λ held holds. (
     [],
     subst (λ (x : Bytes). may_hold now x) (sym (append-nil held)) (subst (λ v. may_hold v held) (sym same) holds),
     λ rest comes.
-        let given : Given = record { input = before [] rest; sets = []; steps = steps } in
+        let given : Given = record { input = before read rest; sets = []; steps = steps } in
         let t : Trace = trace p settings given in
         never_stood (first_by t (slice_get t.run.points 0) refl (first p settings given).0 (first p settings given).1),
   );

@@ -1,9 +1,12 @@
 -- The dialog of a session: the lines of its commands, and what was written of the answers.
-use Rattle.std.specs.Prelude.{◌≡◌, ℕ, ◌-◌, ◌^◌, ◌<◌, ◌≤◌, ◌⊎◌, Bool, true, false, List, [], ◌∷◌, ◌++◌, length, Some, None, Ok, Err}
+use Rattle.std.specs.Prelude.{◌≡◌, ℕ, ◌-◌, ◌^◌, ◌<◌, ◌≤◌, ◌⊎◌, Bool, true, false, List, [], ◌∷◌, ◌++◌, length, None, Ok, Err}
 use Rattle.rawk_value.specs.Values.{Bytes}
 use Rattle.rawk_value.specs.declared.fault.Fault.TheVariants.{OutOfMemory, ReadFailed, WriteFailed}
 use Rattle.rawk_tape.specs.Records.{Input, next_record}
 use Rattle.rawk_tape.specs.Inputs.{CountsUp, before}
+use Rattle.rawk_tape.specs.Lines.{IsDue, IsEndless, IsNextLine, newline}
+use Rattle.rawk_tape.specs.declared.lines.NoLine.{NoLine}
+use Rattle.rawk_tape.specs.declared.lines.NoLine.TheVariants as no_line
 use Rattle.rawk_code.specs.Laws.{IsBeginning}
 use Rattle.rawk_debug.specs.declared.transcript.Reply.{Reply}
 use Rattle.rawk_debug.specs.declared.transcript.Reply.TheVariants.{Quits}
@@ -14,14 +17,6 @@ use Rattle.rawk.specs.declared.dialog.Over.TheVariants.{Ended, Unread, Unwritten
 use Rattle.rawk.specs.declared.report.Report.{Report}
 use Rattle.rawk.specs.declared.report.Cause.TheVariants as cause
 use Rattle.rawk.specs.Reports.{stopped_by}
-use Rattle.rawk.specs.Reads.{IsDue, IsEndless}
-
-abbrev pub newline : Bytes
-newline = 10 ∷ []
-
--- this is the next line of an input behind a count of bytes
-abbrev pub IsNextLine : Input → ℕ → Bytes → ℕ → Type 0
-IsNextLine input count line next = next_record input count newline ≡ Ok (Some (record { text = line; count = next }))
 
 -- this became of the next line: one that was passed over has 65,536 bytes and more
 abbrev pub IsNextTurn : Input → ℕ → Turn → ℕ → Type 0
@@ -39,11 +34,10 @@ NoneQuits [] = Unit {0}
 NoneQuits (turn ∷ turns) = (is_quit (request turn) ≡ false) × NoneQuits turns
 
 -- how a dialog is over that has no next line to carry out
-abbrev pub HasNoLine : Input → ℕ → Over → Type 0
-HasNoLine input count Ended = next_record input count newline ≡ Ok None
-HasNoLine input count Unread = next_record input count newline ≡ Err ReadFailed
-HasNoLine input count Unwritten = ⊥
-HasNoLine input count TooMany = Unit {0}
+abbrev pub over_by : NoLine → Over
+over_by no_line.Ended = Ended
+over_by no_line.Unread = Unread
+over_by no_line.TooMany = TooMany
 
 -- A dialog on an input of the program, with these commands, of which so much was read: from where the session stood to where it stands, how it is over, and what was written of the transcript of the lines that were read. Behind a `quit` no line is read, and before a line is read all answers before it are written.
 pub data IsDialog (input asked : Input) (read : Bytes) (first last : Stand) : Over → Bytes → Type 0 where

@@ -1,3 +1,4 @@
+pub mod Staged
 pub mod Reports
 pub mod Preparing
 pub mod Runs

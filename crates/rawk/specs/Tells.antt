@@ -14,13 +14,13 @@ use Rattle.rawk.specs.Reports.{stopped_by, refused_by}
 use Rattle.rawk.specs.Preparing.{IsRefusedText}
 use Rattle.rawk.specs.Runs.{IsRun}
 
--- what a report says of a run, with what the sink took
-pub data Tells {S V : Type 0} (may_give : S → Input → Type 0) (over : S → Option Ending) (handed : S → ℕ) (may_hold : V → Bytes → Type 0) (text : Bytes) (settings : List FirstValue) (source : S) (steps : ℕ) (sink now : V) : Report → Type 0 where
-  -- The text was refused, nothing ran and nothing was written. A text that plain rules read, within the limits, is refused for want of memory alone.
-  text_refused : (refusal : Refusal) → IsRefusedText text refusal → now ≡ sink → Tells may_give over handed may_hold text settings source steps sink now (refused_by refusal)
-  -- a first value can't be assigned: nothing ran and nothing was written
-  settings_refused : (p : Program) → IsProgram text p → settings_fit p settings ≡ false → now ≡ sink
-      → Tells may_give over handed may_hold text settings source steps sink now (stopped_by cause.BadAssignment 0)
+-- what a report says of a run, with how its source was left and what the sink took
+pub data Tells {S V : Type 0} (may_give : S → Input → Type 0) (over : S → Option Ending) (handed : S → ℕ) (may_hold : V → Bytes → Type 0) (text : Bytes) (settings : List FirstValue) (source last : S) (steps : ℕ) (sink now : V) : Report → Type 0 where
+  -- The text was refused, nothing ran, nothing was read and nothing was written. A text that plain rules read, within the limits, is refused for want of memory alone.
+  text_refused : (refusal : Refusal) → IsRefusedText text refusal → last ≡ source → now ≡ sink → Tells may_give over handed may_hold text settings source last steps sink now (refused_by refusal)
+  -- a first value can't be assigned: nothing ran, nothing was read and nothing was written
+  settings_refused : (p : Program) → IsProgram text p → settings_fit p settings ≡ false → last ≡ source → now ≡ sink
+      → Tells may_give over handed may_hold text settings source last steps sink now (stopped_by cause.BadAssignment 0)
   -- the program of the text ran, on what the source gives
-  ran : (p : Program) (report : Report) → IsProgram text p → settings_fit p settings ≡ true → IsRun may_give over handed may_hold p settings source steps sink now report
-      → Tells may_give over handed may_hold text settings source steps sink now report
+  ran : (p : Program) (report : Report) → IsProgram text p → settings_fit p settings ≡ true → IsRun may_give over handed may_hold p settings source last steps sink now report
+      → Tells may_give over handed may_hold text settings source last steps sink now report

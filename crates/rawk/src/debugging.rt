@@ -3,10 +3,10 @@
 ghost use Rattle.std.specs.Prelude.{◌≡◌, ◌≤◌, [], true, ℕ, None, IfOk, OnErr};
 ghost use Rattle.rawk_tape.specs.Inputs.{CountsUp, cut_off, left_from};
 ghost use Rattle.rawk_tape.specs.Records.{Input};
-ghost use Rattle.rawk_store.specs.Keeping.{keeps_any};
+ghost use Rattle.rawk_history.specs.Keeping.{keeps_any};
 ghost use Rattle.rawk_code.specs.Correct.{CodeOf};
 ghost use Rattle.rawk_machine.specs.Standing.{MayCome};
-ghost use Rattle.rawk_inferior.specs.Staged.{position_of};
+ghost use Rattle.rawk.specs.Staged.{position_of};
 ghost use Rattle.rawk.specs.Reads.{WasRead};
 ghost use Rattle.rawk.specs.Reports.{read_failures, write_failures};
 ghost use Rattle.rawk.specs.Dialogs.{IsHeld, report_over};
@@ -14,15 +14,14 @@ ghost use Rattle.rawk_limits.specs.History.{IsHistory};
 ghost use Rattle.rawk.specs.Debugs.{Debugs, asks_all, first_position, first_stand, stand_at};
 
 use crate::dialog::{Over, hold};
-use crate::lines::Lines;
 use crate::preparing::{Prepared, prepare};
 use crate::report::{Cause, Report, stopped};
 use rawk_code::Settings;
 use rawk_debug::{Session, Stepper};
-use rawk_inferior::Stage;
-use rawk_machine::{Full, Keeper, Machine};
-use rawk_store::Ring;
-use rawk_tape::{BytesSource, Sink, Source};
+use crate::stage::Stage;
+use rawk_history::{Full, Keeper, Ring};
+use rawk_machine::Machine;
+use rawk_tape::{BytesSource, Lines, Sink, Source};
 use rawk_value::Fault;
 use std::alloc::{AllocError, Global};
 
@@ -60,6 +59,8 @@ fn session_on<M: Stepper, C: Source, W: Sink>(
     let mut session = Session::new(alloc, machine);
     let over = hold(alloc, &mut session, &mut lines, commands, sink);
     session.machine().known();
+    drop(session);
+    drop(lines);
     over
 }
 
@@ -80,7 +81,10 @@ fn stage_of<R: Source + Drop, K: Keeper>(
     ensures may { IfOk result (λ s. (input : Input) → MayCome R.may_give s.machine [] input → R.may_give source input) }
 {
     let Prepared { program, code } = prepared;
-    let machine = Machine::new(alloc, code, settings, source, keeper, steps)?;
+    let machine = match Machine::new(alloc, code, settings, source, keeper, steps) {
+        Ok(machine) => machine,
+        Err((refused, _)) => return Err(refused),
+    };
     Ok(Stage::new(program, machine))
 }
 
@@ -107,8 +111,13 @@ fn session_over<R: Source + Drop, K: Keeper, C: Source, W: Sink>(
     ensures none { OnErr result (commands.new ≡ commands.old) }
 {
     let stage = stage_of(alloc, settings, prepared, source, keeper, steps)?;
-    let lines = Lines::new(alloc)?;
-    Ok(session_on(alloc, stage, lines, commands, sink))
+    match Lines::new(alloc) {
+        Ok(lines) => Ok(session_on(alloc, stage, lines, commands, sink)),
+        Err(refused) => {
+            drop(stage);
+            Err(refused)
+        }
+    }
 }
 
 /// Holds a session over a program that is ready to run, and keeps so many steps, or all. It fails where memory is refused before the session stands.
@@ -139,12 +148,16 @@ fn session_kept<R: Source + Drop, C: Source, W: Sink>(
                 alloc, settings, prepared, source, keeper, commands, sink, steps,
             )
         }
-        Some(count) => {
-            let ring = Ring::new(alloc, count as usize)?;
-            session_over(
+        Some(count) => match Ring::new(alloc, count as usize) {
+            Ok(ring) => session_over(
                 alloc, settings, prepared, source, ring, commands, sink, steps,
-            )
-        }
+            ),
+            Err(refused) => {
+                drop(prepared);
+                drop(source);
+                Err(refused)
+            }
+        },
     }
 }
 

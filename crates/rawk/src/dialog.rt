@@ -3,16 +3,16 @@
 ghost use Rattle.std.specs.Prelude.{ℕ, List, ◌≡◌, ◌≢◌, ◌<◌, ◌-◌, ◌^◌, ◌++◌, [], length, take, None, Some, IfOk, IfErr, OnOk, OnErr};
 ghost use Rattle.rawk_tape.specs.declared.source.Ending.TheVariants.{Failed};
 ghost use Rattle.rawk_tape.specs.Inputs.{CountsUp, failures_of};
+ghost use Rattle.rawk_tape.specs.Lines.{FindsNone, failures_at};
 ghost use Rattle.rawk_tape.specs.Records.{Input};
 ghost use Rattle.rawk_debug.specs.Sessions.{stand, machine_of};
 ghost use Rattle.rawk_debug.specs.Transcript.{reply_text};
 ghost use Rattle.rawk.specs.Reports.{read_failures, write_failures};
-ghost use Rattle.rawk.specs.Dialogs.{Speaks, quits_by, report_over};
-ghost use Rattle.rawk.specs.Turns.{FindsNone, TakesTurn};
+ghost use Rattle.rawk.specs.Dialogs.{Speaks, over_by, quits_by, report_over};
+ghost use Rattle.rawk.specs.Turns.{TakesTurn};
 
-use crate::lines::Lines;
 use rawk_debug::{Reply, Session, Stepper, carry_out};
-use rawk_tape::{DeviceFault, Sink, Source, write_all};
+use rawk_tape::{DeviceFault, Lines, NoLine, Sink, Source, write_all};
 use std::alloc::Global;
 
 /// How a dialog is over.
@@ -28,6 +28,19 @@ pub enum Over {
     TooMany,
 }
 
+/// How a dialog is over that has no next line.
+impl From<NoLine> for Over {
+    ghost from_gives = { λ why over. over ≡ over_by why };
+
+    fn from(why: NoLine) -> Over {
+        match why {
+            NoLine::Ended => Over::Ended,
+            NoLine::Unread => Over::Unread,
+            NoLine::TooMany => Over::TooMany,
+        }
+    }
+}
+
 /// Whether a reply ends the session.
 fn quits(reply: &Reply) -> bool
     ensures { result ≡ quits_by reply.now }
@@ -38,14 +51,14 @@ fn quits(reply: &Reply) -> bool
     }
 }
 
-/// Carries out the line of the commands that is due, lets it go, and answers the reply; or how the dialog is over, where none is due. A line
-/// for whose reading memory is refused is passed over, and replied to as refused.
+/// Carries out the line of the commands that is due, lets it go, and answers the reply; or why none is due. A line for whose
+/// reading memory is refused is passed over, and replied to as refused.
 fn take_turn<M: Stepper, C: Source>(
     alloc: Global,
     session: &mut Session<M>,
     lines: &mut Lines,
     commands: &mut C,
-) -> Result<Reply, Over>
+) -> Result<Reply, NoLine>
     requires reported { C.over commands.old ≡ lines.old.over }
     requires unfailed { lines.old.over ≢ Some Failed }
     ensures takes { IfOk result (TakesTurn M.may_be C.may_give C.handed (stand M.position session.old) (stand M.position session.new) (machine_of session.new) (M.held (machine_of session.new)).state.output commands.old lines.old commands.new lines.new) }
@@ -56,8 +69,7 @@ fn take_turn<M: Stepper, C: Source>(
     ensures reported { OnOk result (C.over commands.new ≡ lines.new.over) }
     ensures unfailed { OnOk result (lines.new.over ≢ Some Failed) }
     ensures unfailing { OnOk result (CountsUp (C.failures commands.old) (C.failures commands.new) 0) }
-    ensures failures { IfErr result (λ over. CountsUp (C.failures commands.old) (C.failures commands.new) (read_failures (report_over over).cause)) }
-    ensures unwritten { IfErr result (λ over. write_failures (report_over over).cause ≡ 0) }
+    ensures failures { IfErr result (λ why. CountsUp (C.failures commands.old) (C.failures commands.new) (failures_at why)) }
 {
     match lines.next(commands) {
         Ok(Some(line)) => {
@@ -66,7 +78,7 @@ fn take_turn<M: Stepper, C: Source>(
             Ok(reply)
         }
         Ok(None) => Ok(Reply::Line(rawk_commands::C::OutOfMemory)),
-        Err(over) => Err(over),
+        Err(why) => Err(why),
     }
 }
 
@@ -104,7 +116,7 @@ pub fn hold<M: Stepper, C: Source, W: Sink>(
     'lines: loop {
         let reply = match take_turn(alloc, session, lines, commands) {
             Ok(reply) => reply,
-            Err(over) => return over,
+            Err(why) => return Over::from(why),
         };
         if quits(&reply) {
             return Over::Ended;

@@ -3,10 +3,10 @@
 
 mod debugging;
 mod dialog;
-mod lines;
 mod preparing;
 mod report;
 mod running;
+mod stage;
 
 pub use debugging::{debug, debug_from, debug_with};
 pub use rawk_code::Settings;
@@ -15,4 +15,4 @@ pub use rawk_syntax::RefusalKind;
 pub use rawk_tape::{BytesSink, BytesSource, DeviceFault, Sink, Source, StdSink, StdSource};
 pub use rawk_value::Fault;
 pub use report::{Cause, Report};
-pub use running::run;
+pub use running::{Finished, run, run_from};

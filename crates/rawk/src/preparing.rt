@@ -28,10 +28,14 @@ pub fn prepare(alloc: Global, settings: &Settings, text: &[u8]) -> Result<Prepar
         Err(refusal) => return Err(text_refused(refusal)),
     };
     if !fits(&program, settings) {
+        drop(program);
         return Err(stopped(Cause::BadAssignment, 0));
     }
     match compile(alloc, &program) {
         Ok(code) => Ok(Prepared { program, code }),
-        Err(_) => Err(stopped(Cause::Faulted(Fault::OutOfMemory), 0)),
+        Err(_) => {
+            drop(program);
+            Err(stopped(Cause::Faulted(Fault::OutOfMemory), 0))
+        }
     }
 }

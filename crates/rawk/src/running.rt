@@ -19,7 +19,7 @@ use rawk_machine::{Machine, Off, Step};
 use rawk_syntax::Program;
 use rawk_tape::{DeviceFault, Sink, Source, write_all};
 use rawk_value::Fault;
-use std::alloc::{AllocError, Global};
+use std::alloc::Global;
 
 /// The report of a machine that is at its ending; nothing at a point.
 fn reported<R: Source + Drop>(program: &Program, machine: &Machine<R, Off>) -> Option<Report>
@@ -133,7 +133,16 @@ fn run_machine<R: Source + Drop, W: Sink>(
     }
 }
 
-/// Runs a program that is ready to run. It fails where memory is refused before the machine stands.
+/// A run that is over.
+#[derive(Drop)]
+pub struct Finished<R: Source + Drop> {
+    /// What is reported of it.
+    pub report: Report,
+    /// Its source, as it was left.
+    pub source: R,
+}
+
+/// Runs a program that is ready to run.
 fn run_prepared<R: Source + Drop, W: Sink>(
     alloc: Global,
     settings: &Settings,
@@ -141,30 +150,59 @@ fn run_prepared<R: Source + Drop, W: Sink>(
     source: R,
     sink: &mut W,
     steps: u64,
-) -> Result<Report, AllocError>
+) -> Finished<R>
     requires open { R.over source ≡ None }
     requires compiled { CodeOf prepared.program prepared.code }
-    ensures ran { IfOk result (IsRun R.may_give R.over R.handed W.may_hold prepared.program settings.now source steps sink.old sink.new) }
-    ensures failures { IfOk result (λ report. CountsUp (W.failures sink.old) (W.failures sink.new) (write_failures report.cause)) }
-    ensures err { OnErr result (sink.new ≡ sink.old) }
+    ensures ran { IsRun R.may_give R.over R.handed W.may_hold prepared.program settings.now source result.source steps sink.old sink.new result.report }
+    ensures failures { CountsUp (W.failures sink.old) (W.failures sink.new) (write_failures result.report.cause) }
 {
+    laws::first_output();
     let Prepared { program, code } = prepared;
-    let mut machine = Machine::new(alloc, code, settings, source, Off, steps)?;
+    let mut machine = match Machine::new(alloc, code, settings, source, Off, steps) {
+        Ok(machine) => machine,
+        Err((_, source)) => {
+            return Finished {
+                report: stopped(Cause::Faulted(Fault::OutOfMemory), 0),
+                source,
+            };
+        }
+    };
     let report = run_machine(alloc, &mut machine, &program, sink);
-    // By a call: where it is dropped in place, the check goes through each part of a machine, for a minute.
-    drop(machine);
-    Ok(report)
+    let source = machine.into_source();
+    drop(program);
+    Finished { report, source }
 }
 
 /// Runs a program's text on the input of a source, with these first values and at most so many steps, and writes its
-/// output to a sink: each step's output before the next step (POSIX awk, Overall Program Structure).
+/// output to a sink: each step's output before the next step (POSIX awk, Overall Program Structure). It hands the source back.
 ///
 /// The report has the program's status, how it ended, the line of a fault or a refusal, and the ending's number.
-/// Refusals of the text (P1 to P10) come before S1, a first value that can't be assigned; then nothing ran and nothing
-/// was written. F11 is reported exactly where the sink failed, at the point behind the step whose output failed. F12 is
+/// Refusals of the text (P1 to P10) come before S1, a first value that can't be assigned; then nothing ran, nothing was read and nothing was
+/// written. F11 is reported exactly where the sink failed, at the point behind the step whose output failed. F12 is
 /// reported where memory was refused, at the last point reached and with its line. F10 is reported only where a read of the source failed during
 /// the call. The source is asked for nothing after its end or failure, and only for the record at hand: before the last read, which gave 65,536 bytes
 /// at most, what was read did not settle that record.
+pub fn run_from<R: Source + Drop, W: Sink>(
+    alloc: Global,
+    settings: &Settings,
+    program: &[u8],
+    source: R,
+    sink: &mut W,
+    steps: u64,
+) -> Finished<R>
+    requires limit { steps ≤ 9223372036854775807 }
+    requires open { R.over source ≡ None }
+    ensures reported { Tells R.may_give R.over R.handed W.may_hold program.now settings.now source result.source steps sink.old sink.new result.report }
+    ensures failures { CountsUp (W.failures sink.old) (W.failures sink.new) (write_failures result.report.cause) }
+{
+    laws::first_output();
+    match prepare(alloc, settings, program) {
+        Ok(prepared) => run_prepared(alloc, settings, prepared, source, sink, steps),
+        Err(report) => Finished { report, source },
+    }
+}
+
+/// `run_from` where the source is let go.
 pub fn run<R: Source + Drop, W: Sink>(
     alloc: Global,
     settings: &Settings,
@@ -175,16 +213,11 @@ pub fn run<R: Source + Drop, W: Sink>(
 ) -> Report
     requires limit { steps ≤ 9223372036854775807 }
     requires open { R.over source ≡ None }
-    ensures reported { Tells R.may_give R.over R.handed W.may_hold program.now settings.now source steps sink.old sink.new result }
+    ensures reported { (last : R) × Tells R.may_give R.over R.handed W.may_hold program.now settings.now source last steps sink.old sink.new result }
     ensures failures { CountsUp (W.failures sink.old) (W.failures sink.new) (write_failures result.cause) }
 {
-    laws::first_output();
-    let prepared = match prepare(alloc, settings, program) {
-        Ok(prepared) => prepared,
-        Err(report) => return report,
-    };
-    match run_prepared(alloc, settings, prepared, source, sink, steps) {
-        Ok(report) => report,
-        Err(_) => stopped(Cause::Faulted(Fault::OutOfMemory), 0),
-    }
+    let finished = run_from(alloc, settings, program, source, sink, steps);
+    let Finished { report, source } = finished;
+    drop(source);
+    report
 }

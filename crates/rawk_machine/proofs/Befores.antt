@@ -2,14 +2,15 @@
 use Rattle.std.proofs.Common.{◌≡◌, ℕ, List, [], ◌∷◌, length, Option, None, Some, refl, sym, ap, ◌∙◌}
 use Rattle.std.proofs.lemmas.Option.{same_Some}
 use Rattle.rawk_value.specs.declared.value.Value.{Value}
-use Rattle.rawk_store.specs.Groups.{Group, Kept}
+use Rattle.rawk_store.specs.Groups.{Group}
+use Rattle.rawk_history.specs.Steps.{Kept}
 use Rattle.rawk_store.specs.Back.{back}
 use Rattle.rawk_store.specs.BackLaws.{length-back}
 use Rattle.rawk_store.specs.Layout.{Layout}
 use Rattle.rawk_code.specs.Actions.{SetAt}
 use Rattle.rawk_machine.specs.Last.{Last, last_of}
 use Rattle.rawk_machine.specs.declared.last_move.LastMove.TheVariants as move
-use Rattle.rawk_store.specs.Groups.{Forth}
+use Rattle.rawk_history.specs.Steps.{Forth}
 use Rattle.rawk_machine.specs.Last as last
 use Rattle.rawk_machine.specs.Standing.{Seen}
 use Rattle.rawk_machine.specs.Kept.{pasts, back_in, globals_forth, before_of}

@@ -3,13 +3,14 @@ use Rattle.std.proofs.Common.{◌≡◌, ℕ, suc, ◌+◌, ◌-◌, ◌≤◌, 
 use Rattle.rawk_value.specs.Values.{Bytes}
 use Rattle.rawk_value.specs.declared.value.Value.{Value}
 use Rattle.rawk_store.specs.declared.registers.Registers.{Registers}
-use Rattle.rawk_store.specs.Groups.{Group, Kept}
+use Rattle.rawk_store.specs.Groups.{Group}
+use Rattle.rawk_history.specs.Steps.{Kept}
 use Rattle.rawk_store.specs.State.{State}
 use Rattle.rawk_store.specs.Layout.{Layout, Grown, IsSound, keys, operands, state}
 use Rattle.rawk_store.specs.Saving.{saved_in}
 use Rattle.rawk_store.specs.GroupBack.{FitsIn, put_back}
 use Rattle.rawk_store.specs.Growth.{state-grown, operands-grown, keys-grown, Grown-put_back, FitsIn-grown, IsSound-put_back}
-use Rattle.rawk_store.specs.Keeping.{IsFront}
+use Rattle.rawk_history.specs.Keeping.{IsFront}
 use Rattle.std.specs.Option.{option_map}
 use Rattle.std.proofs.lemmas.List.{append-nil}
 use Rattle.rawk_code.specs.Actions.{SetAt, sets_at}

@@ -1,8 +1,9 @@
 -- A step that is kept, or forgotten, leads to a machine that has moved on.
 use Rattle.std.proofs.Common.{◌≡◌, ℕ, ◌+◌, ◌-◌, ◌≤◌, Bool, true, false, List, [], ◌∷◌, ◌++◌, length, reverse, Option, None, Some, refl, sym, ap, ◌∙◌, subst, arith}
 use Rattle.std.proofs.lemmas.Bool.{ltb-false, ltb-true}
-use Rattle.rawk_store.specs.Groups.{Group, Kept}
-use Rattle.rawk_store.specs.Keeping.{IsFront, KeepsStep, room, keeps_any}
+use Rattle.rawk_store.specs.Groups.{Group}
+use Rattle.rawk_history.specs.Steps.{Kept}
+use Rattle.rawk_history.specs.Keeping.{IsFront, KeepsStep, room, keeps_any}
 use Rattle.rawk_store.specs.Layout.{Layout, Grown, IsSound, state}
 use Rattle.rawk_store.specs.Growth.{Grown-then_same}
 use Rattle.rawk_store.specs.Saving.{saved_in}

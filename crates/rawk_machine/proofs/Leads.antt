@@ -5,7 +5,8 @@ use Rattle.rawk_value.specs.declared.value.Value.{Value}
 use Rattle.rawk_tape.specs.Tapes.{TapeState}
 use Rattle.rawk_record.specs.Shown.{Shown, record_back}
 use Rattle.rawk_store.specs.Back.{back}
-use Rattle.rawk_store.specs.Groups.{Forth, Group, Kept}
+use Rattle.rawk_store.specs.Groups.{Group}
+use Rattle.rawk_history.specs.Steps.{Forth, Kept}
 use Rattle.rawk_frames.specs.LaidFrames.{returns_of}
 use Rattle.rawk_frames.specs.LaidKeys.{LaidKeys, keys_of}
 use Rattle.rawk_store.specs.declared.registers.Ending.{Ending}

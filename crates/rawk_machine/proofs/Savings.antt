@@ -1,10 +1,12 @@
 -- How many old values the groups hold that are kept.
 use Rattle.std.proofs.Common.{◌≡◌, ℕ, ◌+◌, ◌-◌, List, [], ◌∷◌, refl, sym, ap, ◌∙◌}
 use Rattle.std.proofs.lemmas.List.Sums.{sum_by-cons}
-use Rattle.rawk_store.specs.Groups.{Group, Kept}
+use Rattle.rawk_store.specs.Groups.{Group}
+use Rattle.rawk_history.specs.Steps.{Kept}
 use Rattle.rawk_store.specs.Layout.{Layout}
 use Rattle.rawk_store.specs.GroupBack.{put_back}
-use Rattle.rawk_store.specs.Saving.{saved_in, saved_in_groups, saved_by, saved_by_all, saved_in_groups-reverse}
+use Rattle.rawk_store.specs.Saving.{saved_in}
+use Rattle.rawk_history.specs.Saving.{saved_in_groups, saved_by, saved_by_all, saved_in_groups-reverse}
 use Rattle.rawk_code.specs.Actions.{SetAt}
 use Rattle.rawk_machine.specs.Standing.{Earlier, Past, saved_of, saved_before}
 use Rattle.rawk_machine.specs.Kept.{moment_in, but_last, below, newest_first, unsets, back_in, pasts}

@@ -1,7 +1,8 @@
 -- What a run asked for of its input.
-use Rattle.std.proofs.Common.{◌≡◌, ◌⊎◌, inl, inr, ◌≤◌, ℕ, List, [], refl}
+use Rattle.std.proofs.Common.{◌≡◌, ◌⊎◌, inl, inr, ◌≤◌, ℕ, List, [], length, refl}
 use Rattle.rawk_value.specs.Values.{Bytes}
 use Rattle.rawk_tape.specs.Records.{Input}
+use Rattle.rawk_tape.specs.Inputs.{CountsUp, before}
 use Rattle.rawk_tree.specs.declared.tree.Program.{Program}
 use Rattle.rawk_code.specs.Actions.{Given}
 use Rattle.rawk_code.specs.Correct.{CodeOf, first}
@@ -28,3 +29,10 @@ asked_wider code settings given m n read low asked = elim asked [
   | inl none ↦ inl none
   | inr some ↦ inr (asked_behind code given m n (first code settings) (first code settings) read low (0, refl) some)
 ]
+
+-- memory was refused before a machine stood: this was read of its source, and so it is left. The code's run asked for all of it, before its first point.
+pub record Unstood {S : Type 0} (may_give : S → Input → Type 0) (handed : S → ℕ) (code : Listing) (settings : List FirstValue) (source : S) (steps : ℕ) (last : S) : Type 0 where
+  pub read : Bytes
+  pub given : (rest : Input) → may_give last rest → may_give source (before read rest)
+  pub asked : (rest : Input) → may_give last rest → HasAsked code settings (record { input = before read rest; sets = []; steps = steps }) 0 read
+  pub counted : CountsUp (handed source) (handed last) (length read)

@@ -2,10 +2,11 @@
 use Rattle.std.specs.Prelude.{◌≡◌, ℕ, Bool, true, false, List, [], ◌∷◌, reverse, Option, Some}
 use Rattle.rawk_store.specs.Back.{back}
 use Rattle.rawk_record.specs.Shown.{record_back}
-use Rattle.rawk_store.specs.Groups.{Group, Kept, Forth}
+use Rattle.rawk_store.specs.Groups.{Group}
+use Rattle.rawk_history.specs.Steps.{Kept, Forth}
 use Rattle.rawk_store.specs.Layout.{Layout}
 use Rattle.rawk_store.specs.GroupBack.{FitsIn, put_back}
-use Rattle.rawk_store.specs.Keeping.{KeepsStep}
+use Rattle.rawk_history.specs.Keeping.{KeepsStep}
 use Rattle.rawk_machine.specs.Kept.{back_in, globals_forth, record_forth}
 
 -- the step is kept where any is, and else nothing is

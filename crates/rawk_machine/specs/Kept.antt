@@ -3,7 +3,8 @@ use Rattle.std.specs.Prelude.{◌≡◌, ℕ, ◌-◌, ◌<◌, ◌≤◌, nat_l
 use Rattle.rawk_value.specs.declared.value.Value.{Value}
 use Rattle.rawk_record.specs.Shown.{Shown, record_back}
 use Rattle.std.specs.Option.{option_map}
-use Rattle.rawk_store.specs.Groups.{Group, Kept, Forth}
+use Rattle.rawk_store.specs.Groups.{Group}
+use Rattle.rawk_history.specs.Steps.{Kept, Forth}
 use Rattle.rawk_store.specs.Layout.{Layout, state, operands, keys}
 use Rattle.rawk_store.specs.Back.{back}
 use Rattle.rawk_store.specs.Saving.{saved_in}

@@ -1,6 +1,6 @@
 -- The last move of a machine.
 use Rattle.std.specs.Prelude.{Option, None, Some}
-use Rattle.rawk_store.specs.Groups.{Forth}
+use Rattle.rawk_history.specs.Steps.{Forth}
 use Rattle.rawk_machine.specs.declared.last_move.LastMove.{LastMove}
 use Rattle.rawk_machine.specs.declared.last_move.LastMove.TheVariants as move
 

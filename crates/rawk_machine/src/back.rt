@@ -2,7 +2,8 @@
 
 ghost use Rattle.std.specs.Prelude.{◌≡◌, ◌∷◌, ◌++◌, [], List, OnOk, OnErr, length, reverse};
 ghost use Rattle.rawk_code.specs.Actions.{SetAt};
-ghost use Rattle.rawk_store.specs.Groups.{Group, Kept};
+ghost use Rattle.rawk_store.specs.Groups.{Group};
+ghost use Rattle.rawk_history.specs.Steps.{Kept};
 ghost use Rattle.rawk_store.specs.GroupBack.{FitsIn, put_back};
 ghost use Rattle.rawk_store.specs.Layout.{IsSound};
 ghost use Rattle.rawk_store.specs.Stores.{now_of, start_of};
@@ -12,7 +13,8 @@ ghost use Rattle.rawk_machine.specs.Written.{IsWritten};
 
 use crate::journal::undo_all;
 use rawk_code::SetAt;
-use rawk_store::{Group, Keeper, Local, Store, Target};
+use rawk_history::Keeper;
+use rawk_store::{Group, Local, Store, Target};
 use rawk_value::Value;
 use std::alloc::{AllocError, Global};
 

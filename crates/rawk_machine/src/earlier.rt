@@ -10,7 +10,8 @@ ghost use Rattle.rawk_machine.specs.Standing.{Seen};
 
 use crate::last_move::LastMove;
 use crate::machine::Machine;
-use rawk_store::{FieldRef, Group, Keeper, Record, led_to};
+use rawk_history::Keeper;
+use rawk_store::{FieldRef, Group, Record, led_to};
 use rawk_tape::Source;
 use rawk_value::Value;
 

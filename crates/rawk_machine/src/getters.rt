@@ -13,7 +13,8 @@ ghost use Rattle.rawk_machine.specs.Kept.{AllBelow, Few};
 ghost use Rattle.rawk_machine.specs.Standing.{Earlier, MayCome, LastMade};
 
 use crate::machine::Machine;
-use rawk_store::{Activation, Ending, FieldRef, Keeper, Local};
+use rawk_history::Keeper;
+use rawk_store::{Activation, Ending, FieldRef, Local};
 use rawk_tape::Source;
 use rawk_value::Value;
 

@@ -4,7 +4,7 @@ ghost use Rattle.std.specs.Prelude.{◌≡◌, ◌<◌, ◌≤◌, ◌+◌, ◌^
 ghost use Rattle.rawk_tape.specs.Records.{Input};
 ghost use Rattle.rawk_tape.specs.Tapes.{MayBe};
 ghost use Rattle.rawk_tape.specs.declared.source.Ending.{Ending as End};
-ghost use Rattle.rawk_store.specs.Keeping.{keeps_any};
+ghost use Rattle.rawk_history.specs.Keeping.{keeps_any};
 ghost use Rattle.rawk_store.specs.Layout.{Layout, Grown, IsSound};
 ghost use Rattle.rawk_store.specs.Stores.{now_of, start_of};
 ghost use Rattle.rawk_travel.specs.Asking.{Asks, Draws};
@@ -15,7 +15,8 @@ ghost use Rattle.rawk_machine.specs.Kept.{all_back, globals_forth, record_forth}
 
 use crate::arrival::step;
 use rawk_code::Code;
-use rawk_store::{Group, Keeper, Store};
+use rawk_history::Keeper;
+use rawk_store::{Group, Store};
 use rawk_tape::{Source, Tape};
 use rawk_travel::count::Count;
 use rawk_travel::reach::Reach;

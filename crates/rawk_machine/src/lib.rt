@@ -12,5 +12,5 @@ mod start;
 mod step;
 
 pub use machine::Machine;
-pub use rawk_store::{Full, Keeper, Off};
+pub use rawk_history::{Full, Keeper, Off};
 pub use step::Step;

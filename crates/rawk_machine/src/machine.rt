@@ -1,6 +1,6 @@
 //! A machine that runs a code from point to point.
 
-ghost use Rattle.std.specs.Prelude.{◌≡◌, ◌↔◌, ◌≤◌, ◌<◌, ◌+◌, ◌-◌, ◌*◌, ◌^◌, [], ◌++◌, ℕ, nat_lt, List, None, Some, IsSome, IsTrue, length, take, drop, IfOk, OnOk, OnErr};
+ghost use Rattle.std.specs.Prelude.{◌≡◌, ◌↔◌, ◌≤◌, ◌<◌, ◌+◌, ◌-◌, ◌*◌, ◌^◌, [], ◌++◌, ℕ, nat_lt, List, None, Some, IsSome, IsTrue, length, take, drop, IfOk, IfErr, OnOk, OnErr};
 ghost use Rattle.std.specs.Bool.{OnFalse};
 ghost use Rattle.std.specs.Option.{option_map};
 ghost use Rattle.rawk_value.specs.Values.{Bytes};
@@ -11,7 +11,7 @@ ghost use Rattle.rawk_store.specs.Stores.{now_of, start_of};
 ghost use Rattle.rawk_machine.specs.Kept.{below};
 ghost use Rattle.rawk_machine.specs.Stood.{IsFirst};
 ghost use Rattle.rawk_machine.specs.Standing.{Standing, MayCome, IsAt, Stood, step_of, IsQuietStep, Stays, MovesOn, gone_back, taken_back, set_made, dropped, old_values};
-ghost use Rattle.rawk_machine.specs.Asked.{AskedBy};
+ghost use Rattle.rawk_machine.specs.Asked.{AskedBy, Unstood};
 ghost use Rattle.rawk_travel.specs.Asking.{Draws};
 ghost use Rattle.rawk_travel.specs.Moving.{ending_of};
 
@@ -22,7 +22,8 @@ use crate::last_move::LastMove;
 use crate::start::{add_ranges, copy_settings, fill_globals};
 use crate::step::Step;
 use rawk_code::{Code, SetAt, Settings};
-use rawk_store::{Ending, Group, Keeper, Off, Phase, Registers, Store, Target, saved_in_groups};
+use rawk_history::{Keeper, Off, saved_in_groups};
+use rawk_store::{Ending, Group, Phase, Registers, Store, Target};
 use rawk_tape::{Source, Tape};
 use rawk_travel::count::Count;
 use rawk_travel::reach::Reach;
@@ -112,9 +113,23 @@ fn first_store(alloc: Global, code: &Code, settings: &Settings) -> Result<Store,
     Ok(store)
 }
 
+/// A copy of the first values, and the parts before the first instruction. It fails where memory is refused.
+fn first_parts(
+    alloc: Global,
+    code: &Code,
+    settings: &Settings,
+) -> Result<(Settings, Store), AllocError>
+    ensures settings { IfOk result (λ parts. parts.0 ≡ settings.now) }
+    ensures first { IfOk result (λ parts. IsFirst code.now parts.0 parts.1) }
+{
+    let settings = copy_settings(alloc, settings)?;
+    let store = first_store(alloc, code, &settings)?;
+    Ok((settings, store))
+}
+
 impl<R: Source + Drop, K: Keeper> Machine<R, K> {
     /// A machine at point 0 of the run, or at an ending before it. `steps` is the number of points that the run may reach.
-    /// It fails where memory is refused.
+    /// It fails where memory is refused, and then hands the source back.
     pub fn new(
         alloc: Global,
         code: Code,
@@ -122,7 +137,7 @@ impl<R: Source + Drop, K: Keeper> Machine<R, K> {
         source: R,
         keeper: K,
         steps: u64,
-    ) -> Result<Self, AllocError>
+    ) -> Result<Self, (AllocError, R)>
         requires open { R.over source ≡ None }
         requires empty { K.kept keeper ≡ [] }
         ensures code { IfOk result (λ m. m.code ≡ code) }
@@ -139,13 +154,17 @@ impl<R: Source + Drop, K: Keeper> Machine<R, K> {
         ensures asks { IfOk result (λ m. (input : Input) → MayCome R.may_give m [] input → AskedBy m input 0 m.tape.bytes) }
         ensures counted { IfOk result (λ m. CountsUp (R.handed source) (R.handed m.tape.source) (length m.tape.bytes)) }
         ensures stood { IfOk result (λ m. (input : Input) → MayCome R.may_give m [] input → Stood m input) }
+        ensures err { IfErr result (λ refused. Unstood R.may_give R.handed code settings.now source steps refused.1) }
     {
-        let settings = copy_settings(alloc, settings)?;
-        let mut store = first_store(alloc, &code, &settings)?;
+        let (settings, store) = match first_parts(alloc, &code, settings) {
+            Ok(parts) => parts,
+            Err(refused) => return Err((refused, source)),
+        };
+        let mut store = store;
         let mut tape = Tape::new(alloc, source);
         let mut executed = Count::new();
         let mut reach = Reach::Wide;
-        step(
+        match step(
             alloc,
             &code,
             &mut store,
@@ -154,7 +173,10 @@ impl<R: Source + Drop, K: Keeper> Machine<R, K> {
             &mut executed,
             0,
             steps,
-        )?;
+        ) {
+            Ok(()) => {}
+            Err(refused) => return Err((refused, tape.into_source())),
+        }
         store.forget();
         Ok(Machine {
             code,
@@ -170,6 +192,30 @@ impl<R: Source + Drop, K: Keeper> Machine<R, K> {
             executed,
             reach,
         })
+    }
+
+    /// The source, as it was left. All else is let go.
+    pub fn into_source(self) -> R
+        ensures { result ≡ self.tape.source }
+    {
+        let Machine {
+            code,
+            settings,
+            store,
+            tape,
+            keeper,
+            sets,
+            here,
+            ..
+        } = self;
+        // By calls: where they are dropped in place, the check goes through each part of them, for a minute.
+        drop(code);
+        drop(settings);
+        drop(store);
+        drop(keeper);
+        drop(sets);
+        drop(here);
+        tape.into_source()
     }
 
     /// Runs to the next point or to the ending; at the ending it answers the same again and changes nothing. The point that it leaves is

@@ -254,13 +254,6 @@ impl Names {
         self.functions.find(0, word)
     }
 
-    /// How many functions there are.
-    pub fn function_count(&self) -> usize
-        ensures { result ≡ length self.now.functions }
-    {
-        self.functions.len()
-    }
-
     /// Where the parameters of a function stand among all variables.
     pub fn signature(&self, function: usize) -> Option<Signature>
         ensures { result ≡ slice_get self.now.signatures.items function }
@@ -281,14 +274,6 @@ impl Names {
         ensures { (entry : ArrayKey) → slice_get self.now.variables variable ≡ Some entry → result.now ≡ entry.key }
     {
         self.variables.word(variable)
-    }
-
-    /// The name of a function.
-    pub fn function_name(&self, function: usize) -> &[u8]
-        requires { function < length self.now.functions }
-        ensures { (entry : ArrayKey) → slice_get self.now.functions function ≡ Some entry → result.now ≡ entry.key }
-    {
-        self.functions.word(function)
     }
 
     /// Whether a variable is an array.

@@ -9,7 +9,5 @@ pub mod Layout
 pub mod Stores
 pub mod Groups
 pub mod GroupBack
-pub mod Keeping
 pub mod Saving
-pub mod Flat
 pub mod Growth

@@ -109,28 +109,6 @@ impl Current {
         self.present.field(number)
     }
 
-    /// Becomes a text with its fields; `newline` says whether a newline separates too. It fails where memory is refused.
-    pub fn refill(
-        &mut self,
-        alloc: Global,
-        text: &[u8],
-        separator: Separator<'_>,
-        newline: bool,
-    ) -> Result<(), AllocError>
-        ensures did { OnOk result (self.new.now ≡ split_record separator.entry newline text.now) }
-        ensures start { self.new.start ≡ self.old.start }
-    {
-        fill(
-            alloc,
-            &mut self.present,
-            &mut self.other,
-            &mut self.changed,
-            text,
-            separator,
-            newline,
-        )
-    }
-
     /// Becomes a text with its fields by a field separator; `newline` says whether a newline separates too.
     ///
     /// A separator of several bytes that is no extended regular expression is refused, and then nothing has changed: `BadEre`. Where memory is refused the answer is

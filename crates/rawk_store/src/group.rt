@@ -2,6 +2,7 @@
 
 ghost use Rattle.std.specs.Prelude.{◌≡◌};
 ghost use Rattle.std.specs.Option.{option_copied};
+ghost use Rattle.rawk_store.specs.Saving.{saved_elements, saved_in};
 
 use crate::others::Others;
 use crate::registers::Registers;
@@ -42,5 +43,27 @@ impl Group {
         ensures { option_copied result ≡ self.now.current }
     {
         self.current.as_ref()
+    }
+
+    /// How many old values of globals, of elements and of the record it holds: one for each of them that was written, also where an element was not there. It
+    /// takes no memory.
+    pub fn saved(&self) -> usize
+        ensures { result ≡ saved_in self.now }
+    {
+        let places = self.globals.entries.len() + saved_elements(&self.others);
+        match &self.current {
+            None => places,
+            Some(_) => places + 1,
+        }
+    }
+}
+
+/// How many old values of elements are held, also where an element was not there.
+fn saved_elements(others: &Option<Others>) -> usize
+    ensures { result ≡ saved_elements others.now }
+{
+    match others {
+        None => 0,
+        Some(group) => group.arrays.slots.entries.len(),
     }
 }

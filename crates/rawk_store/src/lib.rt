@@ -2,22 +2,16 @@
 #![tactic(auto)]
 
 pub mod current;
-pub mod full;
 pub mod group;
-pub mod keeper;
 pub mod numbering;
 pub mod others;
 pub mod output;
 pub mod registers;
-pub mod ring;
-pub mod saving;
 pub mod store;
 pub mod target;
 
 pub use current::Current;
-pub use full::Full;
 pub use group::Group;
-pub use keeper::{Keeper, Off, StepRef};
 pub use numbering::field_number;
 pub use others::{OperandsGroup, Others};
 pub use output::Output;
@@ -30,7 +24,5 @@ pub use rawk_record::{
 };
 pub use rawk_slots::{Reversible, Saved, SlotGroup, Slots, Stack, StackGroup, led_to};
 pub use registers::{Bank, Ending, Phase, Registers};
-pub use ring::Ring;
-pub use saving::saved_in_groups;
 pub use store::{Cells, Operands, Store};
 pub use target::Target;

@@ -72,7 +72,7 @@ impl Store {
 
     /// Ends the step in the parts that few steps change, and gives what it changed there, if it changed anything. It takes no memory.
     #[inline]
-    pub(crate) fn finish_others(&mut self, alloc: Global) -> Option<Others>
+    pub fn finish_others(&mut self, alloc: Global) -> Option<Others>
         ensures now { now_of self.new ≡ now_of self.old }
         ensures start { start_of self.new ≡ others_rested (now_of self.old) (start_of self.old) }
         ensures back { OthersLead result (now_of self.old) (start_of self.old) }
@@ -112,7 +112,7 @@ impl Store {
 
     /// What is so of the parts that few steps change. It does nothing.
     #[inline]
-    pub(crate) fn known(&self)
+    pub fn known(&self)
         ensures { IsSound (now_of self.now) }
     {
         self.arrays.known();
@@ -198,7 +198,7 @@ impl Store {
     }
 
     /// Puts back what a step that ended changed in the parts that few steps change, and leaves the newer values there. It takes no memory and always succeeds.
-    pub(crate) fn undo_others(&mut self, others: &mut Option<Others>)
+    pub fn undo_others(&mut self, others: &mut Option<Others>)
         requires { FitsOthers others.old (now_of self.old) }
         ensures now { now_of self.new ≡ others_put (now_of self.old) others.old }
         ensures start { start_of self.new ≡ others_rested (now_of self.new) (start_of self.old) }

@@ -9,7 +9,7 @@ use Rattle.rawk_value.specs.declared.fault.Fault.TheVariants.{ReadFailed}
 use Rattle.rawk_tape.specs.Records.{Found, found, is_newline, ends_here, to_break, next_paragraph}
 use Rattle.rawk_tape.specs.Paragraphs.{IsParagraph}
 use Rattle.rawk_tape.specs.declared.found.Found.{Found as Place}
-use Rattle.rawk_tape.proofs.Lines.{not_true}
+use Rattle.rawk_tape.proofs.OneByte.{not_true}
 
 or_true : (b : Bool) → (b || true) ≡ true
 or_true true = refl

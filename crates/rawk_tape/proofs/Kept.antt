@@ -1,10 +1,12 @@
 -- The bytes of a buffer after a read behind them, and after the first of them were let go.
-use Rattle.std.proofs.Common.{◌≡◌, ◌≤◌, ◌<◌, ◌+◌, ◌-◌, ℕ, zero, suc, List, None, Result, Ok, Err, length, ◌++◌, take, drop, arith, sym, ◌∙◌, ap}
+use Rattle.std.proofs.Common.{◌≡◌, ◌≤◌, ◌<◌, ◌+◌, ◌-◌, ℕ, zero, suc, Bool, true, false, List, None, Some, Result, Ok, Err, length, ◌++◌, take, drop, arith, refl, sym, ◌∙◌, ap, if◌then◌else◌}
 use Rattle.std.proofs.lemmas.List.{length-drop, length-take-le, take-append-le, drop-take}
 use Rattle.std.proofs.lemmas.List.Edits.{take-paste}
 use Rattle.std.proofs.Math.Seq.{take-append-add, paste}
 use Rattle.rawk_tape.specs.declared.source.DeviceFault.{DeviceFault}
+use Rattle.rawk_tape.specs.declared.source.Ending.TheVariants.{Ended, Failed}
 use Rattle.rawk_tape.specs.Inputs.{size_taken, ending_of}
+use Rattle.rawk_tape.specs.Lines.{failures_by}
 
 -- bytes put behind the first of a list
 pub put_behind : (xs ys more : List ℕ) (end size : ℕ) → end ≤ length xs → size ≤ length ys → take (end + size) (take end xs ++ (ys ++ more)) ≡ take end xs ++ take size ys
@@ -26,3 +28,13 @@ pub some_taken : (read : Result ℕ DeviceFault) → ending_of read ≡ None →
 some_taken (Ok zero) e = cc
 some_taken (Ok (suc n)) e = omega arith
 some_taken (Err fault) e = cc
+
+none_failed : (b : Bool) → failures_by (if b then Some Ended else None) ≡ 0
+none_failed true = refl
+none_failed false = refl
+
+-- a failed read took none
+pub none_taken : (read : Result ℕ DeviceFault) → ending_of read ≡ Some Failed → size_taken read ≡ 0
+none_taken (Ok zero) e = refl
+none_taken (Ok (suc n)) e = let h : 0 ≡ 1 = sym (none_failed _) ∙ ap failures_by e in absurd (omega (arith, h))
+none_taken (Err fault) e = refl

@@ -2,7 +2,9 @@ pub mod Handed
 pub mod Kept
 pub mod Scan
 pub mod Ahead
-pub mod Lines
+pub mod OneByte
+pub mod Newlines
+pub mod Due
 pub mod Breaks
 pub mod Paragraphs
 pub mod Separators

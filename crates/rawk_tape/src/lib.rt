@@ -1,4 +1,4 @@
-//! Sources and sinks of bytes, and the records of an input.
+//! Sources and sinks of bytes, and the records and the lines of an input.
 #![tactic(auto)]
 
 mod at_end;
@@ -7,7 +7,9 @@ mod bytes_sink;
 mod bytes_source;
 mod consumption;
 mod found;
+mod lines;
 mod matches;
+mod room;
 mod search;
 mod sink;
 mod source;
@@ -19,6 +21,7 @@ pub use bytes_sink::BytesSink;
 pub use bytes_source::BytesSource;
 pub use consumption::Consumption;
 pub use found::Found;
+pub use lines::{Line, Lines, NoLine};
 pub use sink::{Sink, write_all};
 pub use source::{DeviceFault, Ending, Source};
 pub use std_sink::StdSink;

@@ -54,6 +54,14 @@ impl<R: Source + Drop> Tape<R> {
         }
     }
 
+    /// The source, as it was left. The bytes that are kept are let go.
+    pub fn into_source(self) -> R
+        ensures { result ≡ self.source }
+    {
+        let Tape { source, .. } = self;
+        source
+    }
+
     /// The bytes that are kept.
     fn kept(&self) -> &[u8]
         ensures { result.now ≡ self.now.bytes }

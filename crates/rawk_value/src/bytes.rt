@@ -1,6 +1,6 @@
 //! Texts.
 
-ghost use Rattle.std.specs.Prelude.{◌≡◌, ◌↔◌, IfOk, IsTrue};
+ghost use Rattle.std.specs.Prelude.{◌≡◌, IfOk};
 
 use std::alloc::{AllocError, Global};
 use std::marker::Model;
@@ -36,25 +36,10 @@ impl Bytes {
         Bytes { items }
     }
 
-    /// The bytes, moved out. It takes no memory.
-    pub fn into_vec(self) -> Vec<u8>
-        ensures { result.items ≡ self }
-    {
-        let Bytes { items } = self;
-        items
-    }
-
     /// The bytes.
     pub fn as_slice(&self) -> &[u8]
         ensures { result.now ≡ self.now }
     {
         self.items.as_slice()
-    }
-
-    /// Whether the bytes are these.
-    pub fn is(&self, bytes: &[u8]) -> bool
-        ensures { IsTrue result ↔ (self.now ≡ bytes.now) }
-    {
-        self.as_slice() == bytes
     }
 }

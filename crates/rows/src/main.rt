@@ -1,5 +1,5 @@
-//! Cases of whole runs and sessions, of single parts, and of the texts of programs, each beside the answer that is wanted. The standard input has them in
-//! sections, with a form feed on a line of its own between, each behind a line with its name: `runs`, `parts`, `texts`.
+//! Cases of whole runs and sessions, of single parts, of what is asked for, and of the texts of programs, each beside the answer that is wanted. The standard input
+//! has them in sections, with a form feed on a line of its own between, each behind a line with its name: `runs`, `parts`, `asked`, `texts`.
 //!
 //! With the word `read` the standard input is one program's text, which is read once.
 #![tactic(auto)]
@@ -28,6 +28,7 @@ fn judge_section<R: Print + AllocGlobal>(rt: &R, section: &str, above: usize) ->
     match name {
         "# runs" => judge(rt, &cases, rows_run::outcome),
         "# parts" => judge(rt, &cases, rows_parts::outcome),
+        "# asked" => judge(rt, &cases, rows_asked::outcome),
         "# texts" => {
             judge(rt, &cases, rows_grammar::outcome)?;
             rows_grammar::cut_texts(rt, &cases)

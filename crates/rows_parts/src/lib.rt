@@ -2,7 +2,6 @@
 #![tactic(auto)]
 
 mod arrays;
-mod asked;
 mod calls;
 mod expressions;
 mod fields;
@@ -31,14 +30,10 @@ enum Part {
     Arrays,
     Packed,
     Store,
-    Command,
-    Words,
-    Help,
-    Shows,
 }
 
 /// The first words of cases.
-const PARTS: [(&str, Part); 17] = [
+const PARTS: [(&str, Part); 13] = [
     ("value", Part::Value),
     ("printf", Part::Printf),
     ("expression", Part::Expression),
@@ -52,10 +47,6 @@ const PARTS: [(&str, Part); 17] = [
     ("arrays", Part::Arrays),
     ("packed", Part::Packed),
     ("store", Part::Store),
-    ("command", Part::Command),
-    ("words", Part::Words),
-    ("help", Part::Help),
-    ("shows", Part::Shows),
 ];
 
 /// The part that a word names.
@@ -90,10 +81,6 @@ pub fn outcome(alloc: Global, parts: &[&[u8]]) -> Result<Vec<u8>, AllocError> {
         Part::Arrays => arrays::changed(alloc, parts),
         Part::Packed => arrays::packed(alloc, parts),
         Part::Store => store::changed(alloc, parts),
-        Part::Command => asked::command_of(alloc, parts),
-        Part::Words => asked::words_of(alloc, parts),
-        Part::Help => asked::help_of(alloc, parts),
-        Part::Shows => asked::shown(alloc, parts),
     }
 }
 

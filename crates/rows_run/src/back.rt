@@ -2,8 +2,8 @@
 //! forward again, shows at each point what it showed there before, and the source was not asked again.
 
 use crate::kept::STEPS;
-use rawk_machine::{Machine, Step};
-use rawk_store::{FieldRef, Full, Local};
+use rawk_machine::{Full, Machine, Step};
+use rawk_store::{FieldRef, Local};
 use rawk_tape::BytesSource;
 use rawk_value::push_number;
 use rows_cases::push_value;

@@ -6,8 +6,7 @@ ghost use Rattle.std.specs.Prelude.{◌≡◌, None};
 use crate::back::compare;
 use rawk_code::{Code, Settings};
 use rawk_compiler::compile;
-use rawk_machine::{Machine, Step};
-use rawk_store::Full;
+use rawk_machine::{Full, Machine, Step};
 use rawk_syntax::parse;
 use rawk_tape::BytesSource;
 use std::alloc::{AllocError, Global};
@@ -54,7 +53,10 @@ fn there_and_back(
     let settings = Settings::new(alloc);
     let machine = Machine::new(alloc, code, &settings, source, Full::new(alloc), STEPS);
     drop(settings);
-    let mut machine = machine?;
+    let mut machine = match machine {
+        Ok(machine) => machine,
+        Err((refused, _)) => return Err(refused),
+    };
     let mut text = String::new(alloc);
     let walked = match told {
         Told::OldValues => walk(alloc, &mut machine, &mut text),

@@ -9,7 +9,7 @@ returns-in-None-clause-held g c =
     subst (λ (o : Option ℕ). IfOk c.session_over.result (IsHeld (g.R.Source.may_give c.args.source) (WasRead g.C.Source.may_give g.C.Source.handed c.args.commands.now c.session_over.new.commands) g.W.Sink.may_hold (first_stand c.args.prepared.program c.args.settings.now c.args.steps o) c.args.sink.now c.session_over.new.sink))
     (sym c.in-None.is) c.session_over.ensures.held
 
-pub returns-in_ok-ring-in-Some-clause-held : goal.returns-in_ok-ring-in-Some-clause-held
-returns-in_ok-ring-in-Some-clause-held g c =
-    subst (λ (o : Option ℕ). IfOk c.session_over-in-Some.result (IsHeld (g.R.Source.may_give c.args.source) (WasRead g.C.Source.may_give g.C.Source.handed c.args.commands.now c.session_over-in-Some.new.commands) g.W.Sink.may_hold (first_stand c.args.prepared.program c.args.settings.now c.args.steps o) c.args.sink.now c.session_over-in-Some.new.sink))
-    (ap (λ (n : ℕ). Some n) c.in_ok-ring-in-Some.ensures.1 ∙ sym c.in-Some.is) c.session_over-in-Some.ensures.held
+pub returns-in-Ok-clause-held : goal.returns-in-Ok-clause-held
+returns-in-Ok-clause-held g c =
+    subst (λ (o : Option ℕ). IfOk c.session_over-in-Ok.result (IsHeld (g.R.Source.may_give c.args.source) (WasRead g.C.Source.may_give g.C.Source.handed c.args.commands.now c.session_over-in-Ok.new.commands) g.W.Sink.may_hold (first_stand c.args.prepared.program c.args.settings.now c.args.steps o) c.args.sink.now c.session_over-in-Ok.new.sink))
+    (ap (λ (n : ℕ). Some n) c.in-Ok.ensures.1 ∙ sym c.in-Some.is) c.session_over-in-Ok.ensures.held

@@ -3,11 +3,12 @@ use Rattle.rawk_debug.specs.declared.session.Session.{Session}
 use Rattle.rawk_value.specs.Values.{Bytes}
 use Rattle.rawk_debug.specs.Transcript.{reply_text}
 use Rattle.rawk_debug.specs.Sessions.{stand, machine_of}
-use Rattle.rawk.specs.Reads.{LinesState}
+use Rattle.rawk_tape.specs.Lines.{LinesState, failures_at}
+use Rattle.rawk.specs.declared.dialog.Over.{Over}
 use Rattle.rawk.specs.Reports.{read_failures, write_failures}
-use Rattle.rawk.specs.Dialogs.{Speaks, report_over}
+use Rattle.rawk.specs.Dialogs.{Speaks, over_by, report_over}
 use Rattle.rawk.proofs.SoFar.{none_counted, counted}
-use Rattle.rawk.proofs.DialogSoFar.{begun, not_failed, unread_is, quitted, stopped, answered}
+use Rattle.rawk.proofs.DialogSoFar.{begun, not_failed, reads_reported, writes_reported, unread_is, quitted, stopped, answered}
 use Rattle.rawk.proofs.dialog.hold.Goals as goal
 
 pub lines-init : goal.lines-init
@@ -23,16 +24,20 @@ lines-init g c = record {
 pub returns-in-Err-clause-speaks : goal.returns-in-Err-clause-speaks
 returns-in-Err-clause-speaks g c =
     let f = c.in-Err.ensures.none in
-    subst (λ (s : Session g.row.M.Denot). Speaks g.M.Stepper.may_be g.C.Source.may_give g.C.Source.handed g.W.Sink.may_hold (stand g.M.Stepper.position c.args.session.now) (stand g.M.Stepper.position s) (machine_of s) c.args.commands.now c.take_turn.new.commands c.args.sink.now c.lines.sink c.in-Err.over) (sym c.in-Err.ensures.same)
-    (unread_is g.M.Stepper.may_be g.C.Source.may_give g.C.Source.handed g.W.Sink.may_hold (stand g.M.Stepper.position c.args.session.now) (stand g.M.Stepper.position c.lines.session) (machine_of c.args.session.now) (machine_of c.lines.session) c.args.commands.now c.lines.commands c.take_turn.new.commands c.lines.lines c.args.sink.now c.lines.sink c.lines.invariant.so f.all f.reads c.in-Err.over f.none f.many)
+    let over : Over = over_by c.in-Err.why in
+    let speaks = unread_is g.M.Stepper.may_be g.C.Source.may_give g.C.Source.handed g.W.Sink.may_hold (stand g.M.Stepper.position c.args.session.now) (stand g.M.Stepper.position c.lines.session) (machine_of c.args.session.now) (machine_of c.lines.session) c.args.commands.now c.lines.commands c.take_turn.new.commands c.lines.lines c.args.sink.now c.lines.sink c.lines.invariant.so f.all f.reads c.in-Err.why f.none f.many in
+    let told = subst (λ (s : Session g.row.M.Denot). Speaks g.M.Stepper.may_be g.C.Source.may_give g.C.Source.handed g.W.Sink.may_hold (stand g.M.Stepper.position c.args.session.now) (stand g.M.Stepper.position s) (machine_of s) c.args.commands.now c.take_turn.new.commands c.args.sink.now c.lines.sink over) (sym c.in-Err.ensures.same) speaks in
+    subst (λ (o : Over). Speaks g.M.Stepper.may_be g.C.Source.may_give g.C.Source.handed g.W.Sink.may_hold (stand g.M.Stepper.position c.args.session.now) (stand g.M.Stepper.position c.take_turn.new.session) (machine_of c.take_turn.new.session) c.args.commands.now c.take_turn.new.commands c.args.sink.now c.lines.sink o) (sym c.from.ensures) told
 
 pub returns-in-Err-clause-failures : goal.returns-in-Err-clause-failures
 returns-in-Err-clause-failures g c =
-    counted (g.W.Sink.failures c.args.sink.now) (g.W.Sink.failures c.args.sink.now) (g.W.Sink.failures c.lines.sink) 0 (write_failures (report_over c.in-Err.over).cause) (none_counted (g.W.Sink.failures c.args.sink.now)) c.lines.invariant.failures (sym c.in-Err.ensures.unwritten)
+    counted (g.W.Sink.failures c.args.sink.now) (g.W.Sink.failures c.args.sink.now) (g.W.Sink.failures c.lines.sink) 0 (write_failures (report_over c.from.result).cause) (none_counted (g.W.Sink.failures c.args.sink.now)) c.lines.invariant.failures
+    (writes_reported c.in-Err.why ∙ ap (λ (o : Over). write_failures (report_over o).cause) (sym c.from.ensures))
 
 pub returns-in-Err-clause-unread : goal.returns-in-Err-clause-unread
 returns-in-Err-clause-unread g c =
-    counted (g.C.Source.failures c.args.commands.now) (g.C.Source.failures c.lines.commands) (g.C.Source.failures c.take_turn.new.commands) (read_failures (report_over c.in-Err.over).cause) (read_failures (report_over c.in-Err.over).cause) c.lines.invariant.unread c.in-Err.ensures.failures refl
+    counted (g.C.Source.failures c.args.commands.now) (g.C.Source.failures c.lines.commands) (g.C.Source.failures c.take_turn.new.commands) (failures_at c.in-Err.why) (read_failures (report_over c.from.result).cause) c.lines.invariant.unread c.in-Err.ensures.failures
+    (reads_reported c.in-Err.why ∙ ap (λ (o : Over). read_failures (report_over o).cause) (sym c.from.ensures))
 
 -- the line is `quit`
 pub returns-then-quits-clause-speaks : goal.returns-then-quits-clause-speaks

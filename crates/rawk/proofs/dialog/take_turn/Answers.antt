@@ -2,8 +2,8 @@ use Rattle.std.proofs.Common.{◌+◌, take, ap, refl, ◌∙◌, subst, Option}
 use Rattle.rawk_value.specs.Values.{Bytes}
 use Rattle.rawk_debug.specs.Sessions.{stand, machine_of}
 use Rattle.rawk_debug.specs.Transcript.{Heard, Passed, Carries}
-use Rattle.rawk.specs.declared.lines.Line.{Line}
-use Rattle.rawk.specs.Turns.{Finds, Hears, PassesOver}
+use Rattle.rawk_tape.specs.declared.lines.Line.{Line}
+use Rattle.rawk_tape.specs.Lines.{Finds, Hears, PassesOver}
 use Rattle.rawk.proofs.dialog.take_turn.Goals as goal
 
 -- the line is heard

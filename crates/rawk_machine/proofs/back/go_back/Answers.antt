@@ -1,7 +1,8 @@
 use Rattle.std.proofs.Common.{◌≡◌, ◌∙◌, ap, sym, subst, List}
 use Rattle.rawk_value.specs.declared.value.Value.{Value}
 use Rattle.rawk_record.specs.Shown.{Shown}
-use Rattle.rawk_store.specs.Groups.{Group, Kept}
+use Rattle.rawk_store.specs.Groups.{Group}
+use Rattle.rawk_history.specs.Steps.{Kept}
 use Rattle.rawk_store.specs.GroupBack.{FitsIn, put_back}
 use Rattle.rawk_store.specs.Layout.{Layout}
 use Rattle.rawk_store.specs.Stores.{now_of}

@@ -1,5 +1,5 @@
 use Rattle.std.proofs.Common.{◌≡◌, true}
-use Rattle.rawk_store.specs.Keeping.{keeps_any}
+use Rattle.rawk_history.specs.Keeping.{keeps_any}
 use Rattle.rawk_store.specs.Stores.{now_of, start_of}
 use Rattle.rawk_machine.proofs.Journals.{closes_by}
 use Rattle.rawk_machine.proofs.journal.close.Goals as goal

@@ -1,5 +1,5 @@
 use Rattle.std.proofs.Common.{sym, subst}
-use Rattle.rawk_store.specs.Keeping.{keeps_any}
+use Rattle.rawk_history.specs.Keeping.{keeps_any}
 use Rattle.rawk_store.specs.Layout.{Layout}
 use Rattle.rawk_store.specs.Stores.{start_of}
 use Rattle.rawk_machine.specs.Closing.{Closes}

@@ -1,7 +1,8 @@
 use Rattle.std.proofs.Common.{◌≡◌, ℕ, ◌+◌, ◌++◌, List, [], length, reverse, refl, sym, ap, ◌∙◌, subst, arith, Option, None}
 use Rattle.rawk_value.specs.declared.value.Value.{Value}
 use Rattle.rawk_record.specs.Shown.{Shown}
-use Rattle.rawk_store.specs.Groups.{Group, Kept}
+use Rattle.rawk_store.specs.Groups.{Group}
+use Rattle.rawk_history.specs.Steps.{Kept}
 use Rattle.rawk_store.specs.declared.registers.Registers.{Registers}
 use Rattle.rawk_store.specs.Stores.{now_of}
 use Rattle.rawk_machine.specs.Last.{Last, On, last_of}

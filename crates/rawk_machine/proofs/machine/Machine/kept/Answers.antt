@@ -1,5 +1,5 @@
 use Rattle.std.proofs.Common.{◌≡◌, ◌∙◌, ◌+◌, ap, sym, arith, reverse}
-use Rattle.rawk_store.specs.Saving.{saved_by_all, saved_in_groups, saved_in_groups-reverse}
+use Rattle.rawk_history.specs.Saving.{saved_by_all, saved_in_groups, saved_in_groups-reverse}
 use Rattle.rawk_store.specs.Stores.{now_of}
 use Rattle.rawk_machine.specs.Standing.{Standing, old_values, saved_before}
 use Rattle.rawk_machine.specs.Kept.{pasts}

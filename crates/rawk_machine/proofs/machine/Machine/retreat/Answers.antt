@@ -1,6 +1,7 @@
 use Rattle.std.proofs.Common.{◌≡◌, ℕ, ◌-◌, List, ◌∷◌, length, reverse, sym, ap, ◌∙◌, subst, arith, Option, None}
 use Rattle.rawk_tape.specs.Tapes.{TapeState}
-use Rattle.rawk_store.specs.Groups.{Forth, Group, Kept}
+use Rattle.rawk_store.specs.Groups.{Group}
+use Rattle.rawk_history.specs.Steps.{Forth, Kept}
 use Rattle.rawk_store.specs.Layout.{Layout}
 use Rattle.rawk_store.specs.Stores.{now_of}
 use Rattle.rawk_code.specs.Actions.{SetAt}

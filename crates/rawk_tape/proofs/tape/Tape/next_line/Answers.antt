@@ -2,7 +2,7 @@ use Rattle.std.proofs.Common.{[], ◌∷◌, ◌≡◌, ◌+◌, length, None, a
 use Rattle.std.proofs.lemmas.List.{length-append}
 use Rattle.memchr.specs.Find.{Nowhere, Passes, is_byte}
 use Rattle.rawk_tape.proofs.Ahead.{ahead_more, last_read}
-use Rattle.rawk_tape.proofs.Lines.{found_line, line_open, no_line, none_longer}
+use Rattle.rawk_tape.proofs.OneByte.{found_line, line_open, no_line, none_longer}
 use Rattle.rawk_tape.proofs.tape.Tape.next_line.Goals as goal
 
 pub returns-in-Some-clause-next : goal.returns-in-Some-clause-next

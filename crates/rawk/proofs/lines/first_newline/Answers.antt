@@ -1,9 +1,0 @@
-use Rattle.std.proofs.Common.{sym}
-use Rattle.rawk.proofs.Room.{first_at, first_nowhere}
-use Rattle.rawk.proofs.lines.first_newline.Goals as goal
-
-pub returns-in-Some : goal.returns-in-Some
-returns-in-Some c = sym (first_at c.args.bytes.now c.in-Some.at c.in-Some.ensures)
-
-pub returns-in-None : goal.returns-in-None
-returns-in-None c = sym (first_nowhere c.args.bytes.now c.in-None.ensures)

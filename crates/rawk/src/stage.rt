@@ -1,0 +1,227 @@
+//! A machine with its program.
+
+ghost use Rattle.std.specs.Prelude.{◌≡◌, option_copied, option_map, unwrap_or};
+ghost use Rattle.rawk_value.specs.declared.value.Value.TheVariants.{Uninitialized};
+ghost use Rattle.rawk_record.specs.FieldRefs.{ref_value};
+ghost use Rattle.rawk_debug.specs.Watching.{same_value};
+ghost use Rattle.rawk.specs.Staged.{IsStage};
+
+use rawk_debug::{Call, Stepper, Watched};
+use rawk_frames::Local;
+use rawk_history::Keeper;
+use rawk_machine::Machine;
+use rawk_store::{Ending, FieldRef, Target};
+use rawk_tape::Source;
+use rawk_tree::Program;
+use rawk_value::{Fault, Value};
+use std::alloc::{AllocError, Global};
+use std::marker::Model;
+
+/// A machine that runs a program's code under a keeper that keeps, and the program.
+#[derive(Drop)]
+pub struct Stage<R: Source + Drop, K: Keeper> {
+    program: Program,
+    machine: Machine<R, K>,
+}
+
+impl<R: Source + Drop, K: Keeper> Model for Stage<R, K> {
+    ghost use Rattle.rawk.specs.Staged.{Staged};
+
+    ghost Value = { Staged R };
+
+    ghost use Rattle.std.specs.Coded.{codes};
+    ghost use Rattle.rawk_value.specs.contracts.value.Value as value;
+    ghost use Rattle.rawk_machine.specs.Elements.{elements_code};
+    ghost use Rattle.rawk_tree.specs.contracts.tree.Expr as expr;
+    ghost use Rattle.rawk_tree.specs.contracts.tree.Stmt as stmt;
+
+    ghost coded = { Prim.hlevel (codes, expr.the_row.coded, stmt.the_row.coded, elements_code value.the_row.coded, R.code) };
+
+    ghost view = { λ s. record { program = s.program; machine = s.machine } };
+
+    ghost use Rattle.rawk.specs.Staged.{IsStage};
+
+    ghost invariant = { λ s. IsStage R.may_give s.program s.machine };
+}
+
+impl<R: Source + Drop, K: Keeper> Stage<R, K> {
+    /// The program's machine. It takes no memory.
+    pub fn new(program: Program, machine: Machine<R, K>) -> Self
+        requires { IsStage R.may_give program machine }
+        ensures { result ≡ record { program = program; machine = machine } }
+    {
+        Stage { program, machine }
+    }
+}
+
+impl<R: Source + Drop, K: Keeper> Stepper for Stage<R, K> {
+    ghost use Rattle.std.specs.Prelude.{[], is_some};
+    ghost use Rattle.rawk_machine.specs.Standing.{MayCome};
+    ghost use Rattle.rawk.specs.Staged.{position_of, held_of, seen_or};
+
+    ghost position = { λ s. position_of s.program s.machine };
+
+    ghost may_be = { λ s input. MayCome R.may_give s.machine [] input };
+
+    ghost held = { λ s. held_of s.machine };
+
+    ghost before = { λ s. seen_or s.machine.before };
+
+    ghost fresh = { λ s. is_some s.machine.before };
+
+    fn known(&self) {
+        self.machine.known();
+    }
+
+    fn program(&self) -> &Program {
+        &self.program
+    }
+
+    fn point(&self) -> u64 {
+        self.machine.point()
+    }
+
+    fn is_over(&self) -> bool {
+        self.machine.ending().is_some()
+    }
+
+    fn ending(&self) -> Option<Ending> {
+        self.machine.ending()
+    }
+
+    fn site(&self) -> Option<usize> {
+        self.machine.site()
+    }
+
+    fn depth(&self) -> usize {
+        self.machine.depth()
+    }
+
+    fn frame(&self, number: usize) -> Option<Call> {
+        match self.machine.frame(number) {
+            Some(activation) => Some(Call {
+                function: activation.function,
+                site: activation.site,
+            }),
+            None => None,
+        }
+    }
+
+    fn local(&self, number: usize) -> Option<&Local> {
+        self.machine.local(number)
+    }
+
+    fn status(&self) -> u8 {
+        self.machine.status()
+    }
+
+    fn output(&self) -> &[u8] {
+        self.machine.output()
+    }
+
+    fn global(&self, number: usize) -> Option<&Value> {
+        self.machine.global(number)
+    }
+
+    fn text(&self) -> &[u8] {
+        self.machine.text()
+    }
+
+    fn field_count(&self) -> usize {
+        self.machine.field_count()
+    }
+
+    fn field(&self, number: usize) -> Option<FieldRef<'_>> {
+        self.machine.field(number)
+    }
+
+    fn changed(&self, place: Watched) -> bool {
+        match place {
+            Watched::Global(number) => {
+                !same_global(
+                    self.machine.earlier_global(number),
+                    self.machine.global(number),
+                )
+            }
+            Watched::FieldCount => self.machine.earlier_field_count() != self.machine.field_count(),
+            Watched::Field(number) => {
+                if number == 0 {
+                    return self.machine.earlier_text() != self.machine.text();
+                }
+                !same_field(
+                    self.machine.earlier_field(number),
+                    self.machine.field(number),
+                )
+            }
+        }
+    }
+
+    fn advance(&mut self, alloc: Global) -> Result<(), AllocError> {
+        self.machine.known();
+        match self.machine.advance(alloc) {
+            Ok(_) => Ok(()),
+            Err(refused) => Err(refused),
+        }
+    }
+
+    fn retreat(&mut self) -> bool {
+        self.machine.known();
+        self.machine.retreat()
+    }
+
+    fn set(
+        &mut self,
+        alloc: Global,
+        target: Target,
+        value: Value,
+    ) -> Result<Option<Fault>, AllocError> {
+        self.machine.set(alloc, target, value)
+    }
+
+    fn take_back(&mut self) -> bool {
+        self.machine.known();
+        self.machine.take_back()
+    }
+}
+
+/// Whether two values are the same, in kind and content.
+fn same_value(left: &Value, right: &Value) -> bool
+    ensures { result ≡ same_value left.now right.now }
+{
+    match (left, right) {
+        (Value::Uninitialized, Value::Uninitialized) => true,
+        (Value::Number(m), Value::Number(n)) => *m == *n,
+        (Value::String(s), Value::String(t)) => s.as_slice() == t.as_slice(),
+        (Value::Input(s), Value::Input(t)) => s.as_slice() == t.as_slice(),
+        _ => false,
+    }
+}
+
+/// Whether a global has the same value twice; one that is not there is uninitialised.
+fn same_global(left: Option<&Value>, right: Option<&Value>) -> bool
+    ensures { result ≡ same_value (unwrap_or (option_copied left.entry) Uninitialized) (unwrap_or (option_copied right.entry) Uninitialized) }
+{
+    match (left, right) {
+        (Some(left), Some(right)) => same_value(left, right),
+        (Some(Value::Uninitialized), None) => true,
+        (None, Some(Value::Uninitialized)) => true,
+        (None, None) => true,
+        _ => false,
+    }
+}
+
+/// Whether a field has the same value twice; one past the last is uninitialised.
+fn same_field(left: Option<FieldRef<'_>>, right: Option<FieldRef<'_>>) -> bool
+    ensures { result ≡ same_value (unwrap_or (option_map ref_value left.entry) Uninitialized) (unwrap_or (option_map ref_value right.entry) Uninitialized) }
+{
+    match (left, right) {
+        (Some(FieldRef::Piece(s)), Some(FieldRef::Piece(t))) => s == t,
+        (Some(FieldRef::Piece(s)), Some(FieldRef::Kept(Value::Input(t)))) => s == t.as_slice(),
+        (Some(FieldRef::Kept(Value::Input(s))), Some(FieldRef::Piece(t))) => s.as_slice() == t,
+        (Some(FieldRef::Kept(left)), Some(FieldRef::Kept(right))) => same_value(left, right),
+        (Some(FieldRef::Kept(Value::Uninitialized)), None) => true,
+        (None, Some(FieldRef::Kept(Value::Uninitialized))) => true,
+        (None, None) => true,
+        _ => false,
+    }
+}

@@ -1,7 +1,0 @@
-use Rattle.std.proofs.Common.{◌∙◌, ap, take, ◌-◌, List, ℕ}
-use Rattle.rawk_tape.proofs.Kept.{moved_to_front}
-use Rattle.rawk_tape.proofs.buffer.move_to_front.Goals as goal
-
-pub returns-clause-kept : goal.returns-clause-kept
-returns-clause-kept c =
-    ap (λ (x : List ℕ). take (c.args.end - c.args.size) x) c.copy_within.ensures.items ∙ moved_to_front c.args.items.now.items c.args.size c.args.end c.requires.low c.requires.high
