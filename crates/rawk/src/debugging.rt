@@ -16,9 +16,9 @@ ghost use Rattle.rawk.specs.Debugs.{Debugs, asks_all, first_position, first_stan
 use crate::dialog::{Over, hold};
 use crate::preparing::{Prepared, prepare};
 use crate::report::{Cause, Report, stopped};
+use crate::stage::Stage;
 use rawk_code::Settings;
 use rawk_debug::{Session, Stepper};
-use crate::stage::Stage;
 use rawk_history::{Full, Keeper, Ring};
 use rawk_machine::Machine;
 use rawk_tape::{BytesSource, Lines, Sink, Source};
