@@ -83,7 +83,11 @@ fn stage_of<R: Source + Drop, K: Keeper>(
     let Prepared { program, code } = prepared;
     let machine = match Machine::new(alloc, code, settings, source, keeper, steps) {
         Ok(machine) => machine,
-        Err((refused, _)) => return Err(refused),
+        Err((refused, source)) => {
+            drop(program);
+            drop(source);
+            return Err(refused);
+        }
     };
     Ok(Stage::new(program, machine))
 }

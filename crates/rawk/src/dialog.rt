@@ -16,7 +16,7 @@ use rawk_tape::{DeviceFault, Lines, NoLine, Sink, Source, write_all};
 use std::alloc::Global;
 
 /// How a dialog is over.
-#[derive(Clone, Copy, Debug, PartialEq, Eq)]
+#[derive(Clone, Copy, PartialEq, Eq)]
 pub enum Over {
     /// the commands are at their end, or one of them was `quit`
     Ended,

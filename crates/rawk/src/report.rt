@@ -8,7 +8,7 @@ use rawk_value::Fault;
 use std::fmt;
 
 /// Why a run or a session is over.
-#[derive(Clone, Copy, Debug, PartialEq, Eq)]
+#[derive(Clone, Copy, PartialEq, Eq)]
 pub enum Cause {
     /// it came to its end, by `exit` or by itself; a session by `quit` or with its commands
     Ended,
@@ -21,7 +21,7 @@ pub enum Cause {
 }
 
 /// What is reported of a run or a session.
-#[derive(Clone, Copy, Debug, PartialEq, Eq)]
+#[derive(Clone, Copy, PartialEq, Eq)]
 pub struct Report {
     /// the status of the process
     pub status: u8,

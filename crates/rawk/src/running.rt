@@ -161,6 +161,7 @@ fn run_prepared<R: Source + Drop, W: Sink>(
     let mut machine = match Machine::new(alloc, code, settings, source, Off, steps) {
         Ok(machine) => machine,
         Err((_, source)) => {
+            drop(program);
             return Finished {
                 report: stopped(Cause::Faulted(Fault::OutOfMemory), 0),
                 source,

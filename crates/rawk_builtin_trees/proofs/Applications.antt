@@ -19,10 +19,9 @@ bare_applies f u s t found whole number = spec.of_none u s t (sym found) whole n
 pub one_applies : (f : Function) (u : Unary) (e : Expr) (s : Box Expr) → Some u ≡ unary_of f → s.value ≡ e → Applies f (e ∷ []) (tree.Unary u s)
 one_applies f u e s found held = subst (λ (x : Expr). Applies f (x ∷ []) (tree.Unary u s)) held (spec.of_one u s (sym found))
 
-pub two_applies : (f : Function) (j : Joiner) (e t : Expr) (s : Box Expr) (zs : List Link) (links : Vec Link)
-    → Some j ≡ binary_of f → s.value ≡ e → zs ≡ [] → links.items ≡ zs ++ tree_link.Combine j t ∷ [] → Applies f (e ∷ t ∷ []) (tree.Chain s links)
-two_applies f j e t s zs links found held none one =
-    subst (λ (x : Expr). Applies f (x ∷ t ∷ []) (tree.Chain s links)) held (spec.of_two j s t links (sym found) (one ∙ ap (λ l. l ++ tree_link.Combine j t ∷ []) none))
+pub two_applies : (f : Function) (j : Joiner) (e g : Expr) (s : Box Expr) (u : Expr) (links : Vec Link)
+    → Some j ≡ binary_of f → s.value ≡ e → u ≡ g → links.items ≡ tree_link.Combine j u ∷ [] → Applies f (e ∷ g ∷ []) (tree.Chain s links)
+two_applies f j e g s u links found held same one = rw (sym held, sym same) (spec.of_two j s u links (sym found) one)
 
 pub part_applies : (e g h : Expr) (s t u : Box Expr) → s.value ≡ e → t.value ≡ g → u.value ≡ h → Applies fun.Substr (e ∷ g ∷ h ∷ []) (tree.Part s t u)
 part_applies e g h s t u one two three = rw (sym one, sym two, sym three) (spec.substr s t u)

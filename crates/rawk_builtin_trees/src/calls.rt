@@ -1,7 +1,9 @@
 //! Calls of built-in functions (POSIX awk, Arithmetic Functions, String Functions), by the number of their arguments.
 
-ghost use Rattle.std.specs.Prelude.{◌≡◌, ◌≢◌, ◌+◌, [], ◌∷◌, ◌++◌, IfOk, IfSome, MatchOption, is_some, length};
+ghost use Rattle.std.specs.Prelude.{◌≡◌, ◌≢◌, ◌+◌, [], ◌∷◌, ◌++◌, IfOk, IfSome, MatchOption, Some, is_some, length};
 ghost use Rattle.rawk_parsing.specs.declared.tree.Function.TheVariants.{Sprintf, Substr};
+ghost use Rattle.rawk_tree.specs.declared.tree.Expr.{Expr};
+ghost use Rattle.rawk_tree.specs.declared.tree.Link.TheVariants.{Combine};
 ghost use Rattle.rawk_builtin_trees.specs.Calls.{Applies, bare_of, binary_of, has_builtin, unary_of};
 
 use rawk_parsing::tree::Function;
@@ -63,11 +65,46 @@ fn apply_one(alloc: Global, function: Function, argument: Expr) -> Result<Option
     ensures applies { IfOk result (λ o. IfSome o (λ s. Applies function (argument ∷ []) s)) }
     ensures has { IfOk result (λ o. is_some o ≡ is_some (unary_of function)) }
 {
-    let Some(unary) = unary_of(function) else {
-        return Ok(None);
-    };
     let operand = Box::new(alloc, argument)?;
-    Ok(Some(Expr::Unary(unary, operand)))
+    match unary_of(function) {
+        None => Ok(None),
+        Some(unary) => Ok(Some(Expr::Unary(unary, operand))),
+    }
+}
+
+/// The first on the heap, and the second. Where memory is refused both are gone.
+fn first_boxed<T: Drop>(alloc: Global, first: T, second: T) -> Result<(Box<T>, T), AllocError>
+    ensures first { IfOk result (λ pair. pair.0.value ≡ first) }
+    ensures second { IfOk result (λ pair. pair.1 ≡ second) }
+{
+    let first = Box::new(alloc, first)?;
+    Ok((first, second))
+}
+
+/// Three values on the heap. Where memory is refused all are gone.
+fn three_boxed<T: Drop>(
+    alloc: Global,
+    first: T,
+    second: T,
+    third: T,
+) -> Result<(Box<T>, Box<T>, Box<T>), AllocError>
+    ensures first { IfOk result (λ three. three.0.value ≡ first) }
+    ensures second { IfOk result (λ three. three.1.value ≡ second) }
+    ensures third { IfOk result (λ three. three.2.value ≡ third) }
+{
+    let first = Box::new(alloc, first)?;
+    let second = Box::new(alloc, second)?;
+    let third = Box::new(alloc, third)?;
+    Ok((first, second, third))
+}
+
+/// A link with this operand.
+fn link_of(alloc: Global, joiner: Joiner, operand: Expr) -> Result<Vec<Link>, AllocError>
+    ensures { IfOk result (λ links. links.items ≡ Combine joiner operand ∷ []) }
+{
+    let mut links = Vec::new(alloc);
+    links.push(Link::Combine(joiner, operand))?;
+    Ok(links)
 }
 
 fn apply_two(
@@ -79,23 +116,30 @@ fn apply_two(
     ensures applies { IfOk result (λ o. IfSome o (λ s. Applies function (first ∷ second ∷ []) s)) }
     ensures has { IfOk result (λ o. is_some o ≡ is_some (binary_of function)) }
 {
-    let Some(joiner) = binary_of(function) else {
-        return Ok(None);
-    };
-    let operand = Box::new(alloc, first)?;
-    let mut links = Vec::new(alloc);
-    links.push(Link::Combine(joiner, second))?;
-    Ok(Some(Expr::Chain(operand, links)))
+    let (operand, right) = first_boxed(alloc, first, second)?;
+    match binary_of(function) {
+        None => {
+            drop(right);
+            Ok(None)
+        }
+        Some(joiner) => {
+            let links = link_of(alloc, joiner, right)?;
+            Ok(Some(Expr::Chain(operand, links)))
+        }
+    }
 }
 
 /// `substr` with a count.
-fn apply_three(alloc: Global, text: Expr, place: Expr, count: Expr) -> Result<Expr, AllocError>
-    ensures { IfOk result (λ s. Applies Substr (text ∷ place ∷ count ∷ []) s) }
+fn apply_three(
+    alloc: Global,
+    text: Expr,
+    place: Expr,
+    count: Expr,
+) -> Result<Option<Expr>, AllocError>
+    ensures { IfOk result (λ o. (s : Expr) × (o ≡ Some s) × Applies Substr (text ∷ place ∷ count ∷ []) s) }
 {
-    let text = Box::new(alloc, text)?;
-    let place = Box::new(alloc, place)?;
-    let count = Box::new(alloc, count)?;
-    Ok(Expr::Part(text, place, count))
+    let (text, place, count) = three_boxed(alloc, text, place, count)?;
+    Ok(Some(Expr::Part(text, place, count)))
 }
 
 /// A function of three arguments or more, of which the last two are these.
@@ -111,13 +155,16 @@ fn apply_more(
     ensures has { IfOk result (λ o. is_some o ≡ has_builtin function (length arguments.items + 2)) }
 {
     let mut rest = arguments;
-    match rest.pop() {
-        None => apply_two(alloc, function, second, last),
-        Some(first) if function == Function::Substr && rest.is_empty() => {
-            Ok(Some(apply_three(alloc, first, second, last)?))
-        }
-        Some(_) => Ok(None),
+    let Some(first) = rest.pop() else {
+        return apply_two(alloc, function, second, last);
+    };
+    if function == Function::Substr && rest.is_empty() {
+        return apply_three(alloc, first, second, last);
     }
+    drop(first);
+    drop(second);
+    drop(last);
+    Ok(None)
 }
 
 /// A function of one argument or more, of which the last is this.

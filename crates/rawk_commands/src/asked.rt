@@ -10,14 +10,14 @@ use rawk_value::{Bytes, push_number};
 use std::alloc::{AllocError, Global};
 
 /// A constant; of a string, what stands between its quotes.
-#[derive(Clone, Copy, Debug)]
+#[derive(Clone, Copy)]
 pub enum Literal<'a> {
     Number(i64),
     Quoted(&'a [u8]),
 }
 
 /// A place.
-#[derive(Clone, Copy, Debug)]
+#[derive(Clone, Copy)]
 pub enum PlaceName<'a> {
     Name(&'a [u8]),
     Element(&'a [u8], Literal<'a>),
@@ -25,7 +25,7 @@ pub enum PlaceName<'a> {
 }
 
 /// A command.
-#[derive(Debug, Drop)]
+#[derive(Drop)]
 pub enum Asked<'a> {
     /// One that keeps nothing of the line.
     Ready(Command),

@@ -7,7 +7,7 @@ use rawk_value::Bytes;
 use std::alloc::AllocError;
 
 /// Where a breakpoint is to stand.
-#[derive(Debug, Drop)]
+#[derive(Drop)]
 pub enum Spot {
     /// The first site on a line of the program.
     Line(u64),
@@ -16,7 +16,7 @@ pub enum Spot {
 }
 
 /// A place that holds a value, as it is named.
-#[derive(Debug, Drop)]
+#[derive(Drop)]
 pub enum Place {
     /// `NAME`.
     Name(Bytes),
@@ -27,7 +27,7 @@ pub enum Place {
 }
 
 /// A value that is written down.
-#[derive(Debug, Drop)]
+#[derive(Drop)]
 pub enum Constant {
     /// A whole number.
     Number(i64),
@@ -56,7 +56,7 @@ pub enum Goal {
 }
 
 /// What a line asks of a session.
-#[derive(Debug, Drop)]
+#[derive(Drop)]
 pub enum Command {
     /// `break LINE`, `break FUNCTION`.
     Break(Spot),
@@ -83,7 +83,7 @@ pub enum Command {
 }
 
 /// Why a command is not carried out, or, of `AnswerLost`, why its answer is not told. Each has a number and a text.
-#[derive(Clone, Copy, Debug, PartialEq, Eq)]
+#[derive(Clone, Copy, PartialEq, Eq)]
 pub enum C {
     /// C1: a word that is no command.
     UnknownCommand,

@@ -6,7 +6,7 @@ ghost use Rattle.rawk_commands.specs.Words as spec;
 use crate::command::{Goal, Way};
 
 /// What a word asks for.
-#[derive(Clone, Copy, Debug)]
+#[derive(Clone, Copy)]
 pub enum Verb {
     Break,
     Watch,

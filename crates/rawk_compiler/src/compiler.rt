@@ -5,7 +5,8 @@ ghost use Rattle.rawk_compiler.specs.Code.{operand_of, unless_ready, expr_code, 
 ghost use Rattle.rawk_code.specs.Correct.{CodeOf};
 ghost use Rattle.rawk_code.specs.Trace.{reads};
 
-use crate::emit::{emit_block, emit_operand, emit_stmt, patch, put};
+use crate::emit::{emit_block, emit_condition, emit_operand, emit_skip, emit_stmt};
+use crate::instructions::{pass_rest, patch, put, put_go_to, put_point, put_range};
 use crate::loops::Around;
 use rawk_code::{Code, Entry, Instr, Operand, Simple};
 use rawk_tree::{Expr, Function, Guard, Program, Rule, Stmt};
@@ -97,14 +98,22 @@ fn emit_records(alloc: Global, code: &mut Vec<Instr>, rules: &[Rule]) -> Result<
     ensures { OnOk result (code.new.items ≡ code.old.items ++ records_code rules.now (length code.old.items)) }
 {
     let start = code.len();
+    let read = put_reading(code)?;
+    emit_rules(alloc, code, rules)?;
+    put_go_to(code, start)?;
+    pass_rest(code, read);
+    Ok(())
+}
+
+// The reading of a record, whose jump at the end of the input is left open, and the place of that jump.
+fn put_reading(code: &mut Vec<Instr>) -> Result<usize, AllocError>
+    ensures items { IfOk result (λ read. code.new.items ≡ code.old.items ++ Instr.Point None ∷ (Instr.ReadRecord 0 ∷ [])) }
+    ensures place { IfOk result (λ read. read ≡ length code.old.items + 1) }
+{
     put(code, Instr::Point(None))?;
     let read = code.len();
     put(code, Instr::ReadRecord(0))?;
-    emit_rules(alloc, code, rules)?;
-    put(code, Instr::GoTo(start))?;
-    let last = code.len();
-    patch(code, read, Instr::ReadRecord(last - read - 1));
-    Ok(())
+    Ok(read)
 }
 
 // The main rules, one after another.
@@ -145,13 +154,9 @@ fn emit_when(
 ) -> Result<(), AllocError>
     ensures { OnOk result (code.new.items ≡ code.old.items ++ guard_code (Guard.When test.now) site (stmt_code action.now) nowhere (length code.old.items)) }
 {
-    put(code, Instr::Point(Some(site)))?;
-    let from = emit_operand(alloc, code, test)?;
-    let skip = code.len();
-    put(code, Instr::GoOn(0))?;
+    let test_end = emit_condition(alloc, code, site, test)?;
     emit_stmt(alloc, code, NOWHERE, action)?;
-    let last = code.len();
-    patch(code, skip, Instr::SkipIfFalse(last - skip - 1, from));
+    pass_rest(code, test_end);
     Ok(())
 }
 
@@ -167,11 +172,11 @@ fn emit_between(
 ) -> Result<(), AllocError>
     ensures { OnOk result (code.new.items ≡ code.old.items ++ guard_code (Guard.Between range first.now last.now) site (stmt_code action.now) nowhere (length code.old.items)) }
 {
-    put(code, Instr::Point(Some(site)))?;
+    put_point(code, site)?;
     let skip = code.len();
-    put(code, Instr::GoOn(0))?;
+    put(code, Instr::SkipIfOn(range, 0))?;
     let behind = emit_range(alloc, code, range, first, last, action)?;
-    patch(code, skip, Instr::SkipIfOn(range, behind - skip - 1));
+    patch(code, skip, behind - skip - 1);
     Ok(())
 }
 
@@ -187,15 +192,12 @@ fn emit_range(
     ensures items { IfOk result (λ behind. code.new.items ≡ code.old.items ++ when_code (unless_ready (operand_of first.now) (expr_code first.now)) (operand_of first.now) (opened_code range last.now (stmt_code action.now)) nowhere (length code.old.items)) }
     ensures behind { IfOk result (λ behind. behind ≡ length code.old.items + length (unless_ready (operand_of first.now) (expr_code first.now)) + 2) }
 {
-    let from = emit_operand(alloc, code, first)?;
-    let skip = code.len();
-    put(code, Instr::GoOn(0))?;
-    put(code, Instr::SetRange(range, true))?;
+    let skip = emit_skip(alloc, code, first)?;
+    put_range(code, range, true)?;
     let behind = code.len();
     emit_closing(alloc, code, range, last)?;
     emit_stmt(alloc, code, NOWHERE, action)?;
-    let end = code.len();
-    patch(code, skip, Instr::SkipIfFalse(end - skip - 1, from));
+    pass_rest(code, skip);
     Ok(behind)
 }
 
@@ -210,8 +212,7 @@ fn emit_closing(
 {
     let from = emit_operand(alloc, code, last)?;
     put(code, Instr::SkipIfFalse(1, from))?;
-    put(code, Instr::SetRange(range, false))?;
-    Ok(())
+    put_range(code, range, false)
 }
 
 // The functions, and where each begins.
@@ -241,10 +242,9 @@ fn emit_function(
 ) -> Result<(), AllocError>
     ensures { OnOk result (code.new.items ≡ code.old.items ++ function_code function.now nowhere (length code.old.items)) }
 {
-    put(code, Instr::Point(Some(function.site)))?;
+    put_point(code, function.site)?;
     emit_stmt(alloc, code, NOWHERE, &function.body)?;
-    put(code, Instr::Return(Operand::Given(Simple::Uninitialized)))?;
-    Ok(())
+    put(code, Instr::Return(Operand::Given(Simple::Uninitialized)))
 }
 
 // END, and the place of its first instruction.

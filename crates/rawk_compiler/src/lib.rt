@@ -3,6 +3,7 @@
 
 pub mod compiler;
 mod emit;
+mod instructions;
 pub mod laws;
 mod loops;
 mod operands;

@@ -4,8 +4,9 @@ ghost use Rattle.std.specs.Prelude.{◌≡◌, [], ◌∷◌, ◌++◌, ◌+◌,
 ghost use Rattle.rawk_compiler.specs.Code.{operand_of, test_code, jump_code, step_around, body_around};
 ghost use Rattle.rawk_compiler.specs.Written.{loop_written};
 
-use crate::emit::{emit_operand, patch, put};
-use rawk_code::{Instr, Operand};
+use crate::emit::emit_condition;
+use crate::instructions::{patch, put, put_go_to, put_open};
+use rawk_code::Instr;
 use rawk_tree::Expr;
 use std::alloc::{AllocError, Global};
 
@@ -17,12 +18,11 @@ pub struct Around {
     pub held: usize,
 }
 
-// A loop whose jumps forward are still open: the place of its first instruction, that of the jump behind its test, and where the value of the test is.
-#[derive(Drop)]
+// A loop whose jumps forward are still open: the place of its first instruction, and that of the jump behind its test.
+#[derive(Clone, Copy)]
 pub(crate) struct Opened {
     pub(crate) start: usize,
     pub(crate) test_end: usize,
-    pub(crate) from: Operand,
 }
 
 // A loop as far as the jump behind its test.
@@ -32,25 +32,17 @@ pub(crate) fn begin_loop(
     site: usize,
     e: &Expr,
 ) -> Result<Opened, AllocError>
-    ensures items { IfOk result (λ loop. code.new.items ≡ code.old.items ++ Instr.GoOn 0 ∷ (Instr.GoOn 0 ∷ (Instr.GoOn 0 ∷ (test_code site e.now ++ Instr.GoOn 0 ∷ [])))) }
+    ensures items { IfOk result (λ loop. code.new.items ≡ code.old.items ++ Instr.GoOn 0 ∷ (Instr.GoOn 0 ∷ (Instr.GoOn 0 ∷ (test_code site e.now ++ Instr.SkipIfFalse 0 (operand_of e.now) ∷ [])))) }
     ensures start { IfOk result (λ loop. loop.start ≡ length code.old.items) }
     ensures test { IfOk result (λ loop. loop.test_end ≡ length code.old.items + 3 + length (test_code site e.now)) }
-    ensures from { IfOk result (λ loop. loop.from ≡ operand_of e.now) }
     ensures room { IfOk result (λ loop. loop.start + 3 < 2 ^ 63) }
 {
     let start = code.len();
-    put(code, Instr::GoOn(0))?;
-    put(code, Instr::GoOn(0))?;
-    put(code, Instr::GoOn(0))?;
-    put(code, Instr::Point(Some(site)))?;
-    let from = emit_operand(alloc, code, e)?;
-    let test_end = code.len();
-    put(code, Instr::GoOn(0))?;
-    Ok(Opened {
-        start,
-        test_end,
-        from,
-    })
+    put_open(code)?;
+    put_open(code)?;
+    put_open(code)?;
+    let test_end = emit_condition(alloc, code, site, e)?;
+    Ok(Opened { start, test_end })
 }
 
 // A loop's last instruction, and its jumps forward.
@@ -63,24 +55,15 @@ pub(crate) fn end_loop(
     requires first { opened.start + 3 < opened.test_end }
     requires second { opened.test_end < body_end }
     requires third { body_end ≤ length code.now.items }
-    ensures { OnOk result (code.new.items ≡ loop_written body_first opened.start opened.test_end body_end opened.from code.old.items) }
+    ensures { OnOk result (code.new.items ≡ loop_written body_first opened.start opened.test_end body_end code.old.items) }
 {
-    let Opened {
-        start,
-        test_end,
-        from,
-    } = opened;
-    put(code, Instr::GoTo(start + 3))?;
+    let Opened { start, test_end } = opened;
+    put_go_to(code, start + 3)?;
     let last = code.len();
-    let entry = entry_of(body_first, test_end - start);
-    patch(code, start, Instr::GoOn(entry));
-    patch(code, start + 1, Instr::GoOn(last - start - 2));
-    patch(code, start + 2, Instr::GoOn(body_end - start - 3));
-    patch(
-        code,
-        test_end,
-        Instr::SkipIfFalse(last - test_end - 1, from),
-    );
+    patch(code, start, entry_of(body_first, test_end - start));
+    patch(code, start + 1, last - start - 2);
+    patch(code, start + 2, body_end - start - 3);
+    patch(code, test_end, last - test_end - 1);
     Ok(())
 }
 
@@ -120,7 +103,7 @@ pub(crate) fn emit_jump(code: &mut Vec<Instr>, target: Option<usize>) -> Result<
     ensures { OnOk result (code.new.items ≡ code.old.items ++ jump_code target) }
 {
     match target {
-        Some(place) => put(code, Instr::GoTo(place)),
+        Some(place) => put_go_to(code, place),
         None => put(code, Instr::Quit),
     }
 }

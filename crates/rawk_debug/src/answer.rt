@@ -17,7 +17,7 @@ use rawk_commands::{C, push_text};
 use std::alloc::{AllocError, Global};
 
 /// What a command is answered, as plain data: its text is made of it and of the session, before the next command.
-#[derive(Clone, Copy, Debug)]
+#[derive(Clone, Copy)]
 pub enum Answer {
     /// A forward move came to its end; the length of the output before it.
     Went(usize),

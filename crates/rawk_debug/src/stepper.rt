@@ -18,7 +18,7 @@ use rawk_value::{Fault, Value};
 use std::alloc::{AllocError, Global};
 
 /// A call that goes on: its function, by its number from 0, and the site of its calling point.
-#[derive(Clone, Copy, Debug)]
+#[derive(Clone, Copy)]
 pub struct Call {
     pub function: usize,
     pub site: Option<usize>,

@@ -1,7 +1,7 @@
 //! Where a session stops.
 
 /// What can be watched.
-#[derive(Clone, Copy, Debug)]
+#[derive(Clone, Copy)]
 pub enum Watched {
     /// A global, by its number: the special variables come first.
     Global(usize),
@@ -12,7 +12,7 @@ pub enum Watched {
 }
 
 /// What can be shown and set.
-#[derive(Clone, Copy, Debug)]
+#[derive(Clone, Copy)]
 pub enum Lvalue {
     /// A local of the innermost activation, by its number from 0.
     Local(usize),
@@ -21,7 +21,7 @@ pub enum Lvalue {
 }
 
 /// What stops a search.
-#[derive(Clone, Copy, Debug)]
+#[derive(Clone, Copy)]
 pub enum Stop {
     /// A breakpoint at a site.
     Break(usize),
@@ -30,7 +30,7 @@ pub enum Stop {
 }
 
 /// A breakpoint or a watch, with its number.
-#[derive(Clone, Copy, Debug)]
+#[derive(Clone, Copy)]
 pub struct Entry {
     pub number: u64,
     pub stop: Stop,

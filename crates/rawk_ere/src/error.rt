@@ -3,7 +3,7 @@
 use std::alloc::AllocError;
 
 /// Why a pattern is refused.
-#[derive(Clone, Copy, Debug, PartialEq, Eq)]
+#[derive(Clone, Copy, PartialEq, Eq)]
 pub enum EreError {
     /// It is no extended regular expression.
     Syntax,

@@ -12,7 +12,7 @@ use std::alloc::{AllocError, Global};
 use std::marker::Model;
 
 /// One instruction. A state of the automaton is the place of an instruction, or the end of the code.
-#[derive(Clone, Copy, Debug)]
+#[derive(Clone, Copy)]
 pub enum Instruction {
     /// Reads one byte of the set, and goes on to the next instruction.
     Bytes(ByteSet),
@@ -31,7 +31,7 @@ pub enum Instruction {
 }
 
 /// The same in 8 bytes, as it is kept.
-#[derive(Clone, Copy, Debug)]
+#[derive(Clone, Copy)]
 pub enum Kept {
     /// Reads this byte.
     Byte(u8),

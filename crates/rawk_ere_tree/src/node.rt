@@ -3,7 +3,7 @@
 use crate::byte_set::ByteSet;
 
 /// How many times a part may stand, one after the other (POSIX XBD 9.4.6).
-#[derive(Clone, Copy, Debug, PartialEq, Eq)]
+#[derive(Clone, Copy, PartialEq, Eq)]
 pub enum Count {
     /// `*`
     Star,

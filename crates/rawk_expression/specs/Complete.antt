@@ -91,7 +91,7 @@ ere_read w i j s =
     let some : (ere_len i == 0) ≡ false = false_from_ne_true (ere_len i == 0) (λ e. s.ends (eq_from (ere_len i) 0 e)) in
     ap (λ b. cond b (unended i) (done (unquoted (ere_spelling i)) (past_ere i))) some ∙ ap (λ v. done v (past_ere i)) s.is_word ∙ ap (λ m. done w m) s.is_next
 
-ere_is : (d : ℕ) (w : List ℕ) (i j : Input) → SpellsEre w i j → x.ere_constant d (x.expression d) i ≡ Ok (tree.Ere (left i) w, j)
+ere_is : (d : ℕ) (w : List ℕ) (i j : Input) → SpellsEre w i j → x.ere_constant i ≡ Ok (tree.Ere (left i) w, j)
 unfolding x.ere_constant
 ere_is d w i j s = then_ok (parser.ere i) (λ v. pure (tree.Ere (left i) v)) w j (ere_read w i j s)
 
@@ -148,7 +148,7 @@ group_reads d e v w i j l m s h t =
         head = Some (tree.Group e);
         at = m;
         opens = by_kind (x.opening_by (suc d) (x.expression (suc d))) k.LeftParen i s.is_kind
-            ∙ then_ok (x.enclosed (suc d) (x.expression (suc d)) i) (x.opened (suc d) (x.expression (suc d))) (inside.One e) m (enclosed_one d e v w i j l m s h t);
+            ∙ then_ok (x.enclosed (suc d) (x.expression (suc d)) i) x.opened (inside.One e) m (enclosed_one d e v w i j l m s h t);
         goes = refl;
       };
     }
@@ -189,42 +189,42 @@ place_primary d k.Name h = refl
 place_primary d k.Dollar h = refl
 place_primary d _ h = cc
 
-place_postfix : (d : ℕ) (c : Kind) → table.begins_place c ≡ true → x.postfix_by d (x.expression d) c ≡ (x.place d (x.expression d) >>= x.changed d (x.expression d))
+place_postfix : (d : ℕ) (c : Kind) → table.begins_place c ≡ true → x.postfix_by d (x.expression d) c ≡ (x.place d (x.expression d) >>= x.changed)
 place_postfix d k.Name h = refl
 place_postfix d k.Dollar h = refl
 place_postfix d _ h = cc
 
-place_opening : (d : ℕ) (c : Kind) → table.begins_place c ≡ true → x.opening_by d (x.expression d) c ≡ (x.place d (x.expression d) >>= x.settable d (x.expression d))
+place_opening : (d : ℕ) (c : Kind) → table.begins_place c ≡ true → x.opening_by d (x.expression d) c ≡ (x.place d (x.expression d) >>= x.settable)
 place_opening d k.Name h = refl
 place_opening d k.Dollar h = refl
 place_opening d _ h = cc
 
-changed_none : (d : ℕ) (y : Place) (j : Input) → table.change (kind j) ≡ None → x.changed d (x.expression d) y j ≡ Ok (tree.Of y, j)
+changed_none : (d : ℕ) (y : Place) (j : Input) → table.change (kind j) ≡ None → x.changed y j ≡ Ok (tree.Of y, j)
 unfolding x.changed
-changed_none d y j h = ap (λ o. x.changed_by d (x.expression d) y o j) h
+changed_none d y j h = ap (λ o. x.changed_by y o j) h
 
-changed_some : (d : ℕ) (y : Place) (c : Kind) (how : Change) (w : List ℕ) (j l : Input) → Spells c w j l → table.change c ≡ Some how → x.changed d (x.expression d) y j ≡ Ok (tree.After how y, l)
+changed_some : (d : ℕ) (y : Place) (c : Kind) (how : Change) (w : List ℕ) (j l : Input) → Spells c w j l → table.change c ≡ Some how → x.changed y j ≡ Ok (tree.After how y, l)
 unfolding x.changed
-changed_some d y c how w j l s h = ap (λ o. x.changed_by d (x.expression d) y o j) (ap table.change s.is_kind ∙ h) ∙ ap (λ m. done (tree.After how y) m) s.is_next
+changed_some d y c how w j l s h = ap (λ o. x.changed_by y o j) (ap table.change s.is_kind ∙ h) ∙ ap (λ m. done (tree.After how y) m) s.is_next
 
-settable_none : (d : ℕ) (y : Place) (e : Expr) (j l : Input) → table.assignment (kind j) ≡ None → x.changed d (x.expression d) y j ≡ Ok (e, l) → x.settable d (x.expression d) y j ≡ Ok (start.Base e, l)
+settable_none : (d : ℕ) (y : Place) (e : Expr) (j l : Input) → table.assignment (kind j) ≡ None → x.changed y j ≡ Ok (e, l) → x.settable y j ≡ Ok (start.Base e, l)
 unfolding x.settable
-settable_none d y e j l h g = ap (λ o. x.settable_by d (x.expression d) y o j) h ∙ then_ok (x.changed d (x.expression d) y j) (λ z. pure (start.Base z)) e l g
+settable_none d y e j l h g = ap (λ o. x.settable_by y o j) h ∙ then_ok (x.changed y j) (λ z. pure (start.Base z)) e l g
 
-settable_some : (d : ℕ) (y : Place) (c : Kind) (how : Assignment) (w : List ℕ) (j l : Input) → Spells c w j l → table.assignment c ≡ Some how → x.settable d (x.expression d) y j ≡ Ok (start.Assigns how y, l)
+settable_some : (d : ℕ) (y : Place) (c : Kind) (how : Assignment) (w : List ℕ) (j l : Input) → Spells c w j l → table.assignment c ≡ Some how → x.settable y j ≡ Ok (start.Assigns how y, l)
 unfolding x.settable
-settable_some d y c how w j l s h = ap (λ o. x.settable_by d (x.expression d) y o j) (ap table.assignment s.is_kind ∙ h) ∙ ap (λ m. done (start.Assigns how y) m) s.is_next
+settable_some d y c how w j l s h = ap (λ o. x.settable_by y o j) (ap table.assignment s.is_kind ∙ h) ∙ ap (λ m. done (start.Assigns how y) m) s.is_next
 
-place_opens : (d : ℕ) (y : Place) (s : Start) (i j l : Input) → table.begins_place (kind i) ≡ true → x.place d (x.expression d) i ≡ Ok (y, j) → x.settable d (x.expression d) y j ≡ Ok (s, l) → x.opening d (x.expression d) i ≡ Ok (s, l)
+place_opens : (d : ℕ) (y : Place) (s : Start) (i j l : Input) → table.begins_place (kind i) ≡ true → x.place d (x.expression d) i ≡ Ok (y, j) → x.settable y j ≡ Ok (s, l) → x.opening d (x.expression d) i ≡ Ok (s, l)
 unfolding x.opening
-place_opens d y s i j l b h g = ap (λ q. q i) (place_opening d (kind i) b) ∙ then_ok (x.place d (x.expression d) i) (x.settable d (x.expression d)) y j h ∙ g
+place_opens d y s i j l b h g = ap (λ q. q i) (place_opening d (kind i) b) ∙ then_ok (x.place d (x.expression d) i) x.settable y j h ∙ g
 
 place_reads : (d : ℕ) (y : Place) (i j : Input) → table.begins_place (kind i) ≡ true → (kind j ≢ k.LeftBracket → x.place d (x.expression d) i ≡ Ok (y, j)) → Reads d (tree.Of y) i j
 unfolding x.primary x.postfix
 place_reads d y i j b h = record {
   begins_so = place_starts (kind i) b;
   as_primary = λ ne. ap (λ q. q i) (place_primary d (kind i) b) ∙ then_ok (x.place d (x.expression d) i) (λ q. pure (tree.Of q)) y j (h ne);
-  as_postfix = λ ne no. ap (λ q. q i) (place_postfix d (kind i) b) ∙ then_ok (x.place d (x.expression d) i) (x.changed d (x.expression d)) y j (h ne) ∙ changed_none d y j no;
+  as_postfix = λ ne no. ap (λ q. q i) (place_postfix d (kind i) b) ∙ then_ok (x.place d (x.expression d) i) x.changed y j (h ne) ∙ changed_none d y j no;
   as_first = λ calm. record {
     head = Some (tree.Of y);
     at = j;
@@ -267,7 +267,7 @@ arguments_given d _ es i j at h = h
 builtin_is : (d : ℕ) (f : Function) (es : List Expr) (w : List ℕ) (c : Kind) (i j l : Input) → Spells c w i j → kind j ≡ k.LeftParen → x.arguments d (x.expression d) j ≡ Ok (es, l) → table.fits f es ≡ true → x.builtin d (x.expression d) f i ≡ Ok (tree.Builtin f es, l)
 unfolding x.builtin
 builtin_is d f es w c i j l s at h t =
-    then_ok (x.arguments_of d (x.expression d) f (next i)) (x.fitting d (x.expression d) (left i) f) es l (ap (x.arguments_of d (x.expression d) f) s.is_next ∙ arguments_given d f es j l at h)
+    then_ok (x.arguments_of d (x.expression d) f (next i)) (x.fitting (left i) f) es l (ap (x.arguments_of d (x.expression d) f) s.is_next ∙ arguments_given d f es j l at h)
     ∙ ap (λ b. cond b (pure (tree.Builtin f es)) (λ i'. Err (Here refused.Syntax (left i))) l) t
 
 builtin_starts : (c : Kind) (f : Function) → table.function c ≡ Some f → starts c ≡ true
@@ -527,7 +527,7 @@ contains_is d p e v w i j l m r s t en =
     let o = r.as_first (stops_calm j st) in
     let la = atom_level d (x.expression d) p o.head 5 e o.at j o.goes (apart stops (kind j) k.Caret st refl) (λ q _ _. stops_silent p (kind j) st q) in
     let all : x.operand d (x.expression d) p (start_of o.head) o.at ≡ Ok (x.closed (tree.In e (name_at l ∷ [])), m) =
-    operand_start d (x.expression d) p o.head o.at ∙ then_ok (x.level d (x.expression d) p o.head 5 o.at) (x.member d (x.expression d)) e j la ∙ member_one d (x.expression d) e v w j l m s t (apart ends (kind m) k.In en refl) in
+    operand_start d (x.expression d) p o.head o.at ∙ then_ok (x.level d (x.expression d) p o.head 5 o.at) x.member e j la ∙ member_one d (x.expression d) e v w j l m s t (apart ends (kind m) k.In en refl) in
     whole_from d p (start_of o.head) (tree.In e (name_at l ∷ [])) i o.at m o.opens (finished_operand d (x.expression d) p (start_of o.head) (x.closed (tree.In e (name_at l ∷ []))) o.at m all en)
 
 listed_in_is : (d : ℕ) (p : Bool) (es : List Expr) (v w y : List ℕ) (i q r s : Input) → kind i ≡ k.LeftParen → x.enclosed d (x.expression d) i ≡ Ok (inside.Several es, q) → Spells k.In v q r → Spells k.Name w r s → ends (kind s) ≡ true
@@ -536,7 +536,7 @@ unfolding x.opening
 listed_in_is d p es v w y i q r s at h t u en =
     let begun : x.opening d (x.expression d) i ≡ Ok (start.Member (tree.ListIn es (name_at r)), s) =
     by_kind (x.opening_by d (x.expression d)) k.LeftParen i at
-    ∙ then_ok (x.enclosed d (x.expression d) i) (x.opened d (x.expression d)) (inside.Several es) q h
+    ∙ then_ok (x.enclosed d (x.expression d) i) x.opened (inside.Several es) q h
     ∙ then_ok (expect k.In q) (λ _. bare_name >>= (λ a. pure (start.Member (tree.ListIn es a)))) tt r (expect_is k.In v q r t)
     ∙ then_ok (bare_name r) (λ a. pure (start.Member (tree.ListIn es a))) (name_at r) s (bare_name_is w r s u) in
     whole_from d p (start.Member (tree.ListIn es (name_at r))) (tree.ListIn es (name_at r)) i s s begun
@@ -601,7 +601,7 @@ bare_length_is : (d : ℕ) (w : List ℕ) (i j : Input) → Spells k.Length w i 
 unfolding x.primary x.builtin table.fits
 bare_length_is d w i j s ne =
     by_kind (x.primary_by d (x.expression d)) k.Length i s.is_kind
-    ∙ then_ok (x.arguments_of d (x.expression d) fun.Length (next i)) (x.fitting d (x.expression d) (left i) fun.Length) [] j
+    ∙ then_ok (x.arguments_of d (x.expression d) fun.Length (next i)) (x.fitting (left i) fun.Length) [] j
     (ap (x.arguments_of d (x.expression d) fun.Length) s.is_next ∙ ap (λ b. cond b (x.arguments d (x.expression d) j) (done [] j)) (not_seen k.LeftParen j ne))
 
 getline_ends : (d : ℕ) (c : Kind) → ends c ≡ true → x.getline_by d (x.expression d) c ≡ pure tree.Getline
@@ -620,7 +620,7 @@ getline_place d k.Name h = refl
 getline_place d k.Dollar h = refl
 getline_place d _ h = cc
 
-behind_ends : (d : ℕ) (c : Kind) → ends c ≡ true → x.behind_getline_by d (x.expression d) c ≡ pure tt
+behind_ends : (d : ℕ) (c : Kind) → ends c ≡ true → x.behind_getline_by c ≡ pure tt
 behind_ends d k.EndOfText h = refl
 behind_ends d _ h = cc
 
@@ -630,7 +630,7 @@ getline_to_is d y w i j l s b h en =
     by_kind (x.primary_by d (x.expression d)) k.Getline i s.is_kind
     ∙ ap (λ m. x.getline_by d (x.expression d) (kind m) m) s.is_next
     ∙ ap (λ q. q j) (getline_place d (kind j) b)
-    ∙ then_ok (x.place d (x.expression d) j) (λ z. (peek >>= x.behind_getline_by d (x.expression d)) >> pure (tree.GetlineTo z)) y l h
+    ∙ then_ok (x.place d (x.expression d) j) (λ z. (peek >>= x.behind_getline_by) >> pure (tree.GetlineTo z)) y l h
     ∙ ap (λ q. and_then (q l) (λ _. pure (tree.GetlineTo y))) (behind_ends d (kind l) en)
 
 -- ---- lists
@@ -671,19 +671,19 @@ plain_print d _ h g = refl
 kind_not : (c : Kind) (i : Input) → sees c i ≡ false → kind i ≢ c
 kind_not c i h e = let s : sees c i ≡ true = seen c i e in cc
 
-print_opened : (d : ℕ) (e : Expr) (j : Input) (en : Enclosed) (m : Input) → and_then (x.opened d (x.expression d) en m) (x.finished d (x.expression d) true) ≡ Ok (e, j)
+print_opened : (d : ℕ) (e : Expr) (j : Input) (en : Enclosed) (m : Input) → and_then (x.opened en m) (x.finished d (x.expression d) true) ≡ Ok (e, j)
     → x.printed_opened d (x.expression d) en m ≡ x.printed_rest d (x.expression d) e j
 unfolding x.printed_from x.printed_several
 print_opened d e j (inside.One y) m h = then_ok (x.finished d (x.expression d) true (start.Base (tree.Group y)) m) (x.printed_rest d (x.expression d)) e j h
 print_opened d e j (inside.Several es) m h =
-    let a = and_then_ok (x.opened d (x.expression d) (inside.Several es) m) (x.finished d (x.expression d) true) (e, j) h in
+    let a = and_then_ok (x.opened (inside.Several es) m) (x.finished d (x.expression d) true) (e, j) h in
     let b = and_then_ok (expect k.In m) _ a.0 a.1 in
     let at = (expect_ok k.In m b.0 b.1).is_kind in
-    ap (λ t. cond t (and_then (x.opened d (x.expression d) (inside.Several es) m) (x.printed_from d (x.expression d))) (and_then (not_redirected true m) (λ _. pure es))) (seen k.In m at)
-    ∙ sym (bind_assoc (x.opened d (x.expression d) (inside.Several es) m) (x.finished d (x.expression d) true) (x.printed_rest d (x.expression d)))
-    ∙ then_ok (and_then (x.opened d (x.expression d) (inside.Several es) m) (x.finished d (x.expression d) true)) (x.printed_rest d (x.expression d)) e j h
+    ap (λ t. cond t (and_then (x.opened (inside.Several es) m) (x.printed_from d (x.expression d))) (and_then (not_redirected true m) (λ _. pure es))) (seen k.In m at)
+    ∙ sym (bind_assoc (x.opened (inside.Several es) m) (x.finished d (x.expression d) true) (x.printed_rest d (x.expression d)))
+    ∙ then_ok (and_then (x.opened (inside.Several es) m) (x.finished d (x.expression d) true)) (x.printed_rest d (x.expression d)) e j h
 
-print_paren : (d : ℕ) (e : Expr) (j : Input) (o : Outcome Enclosed) → and_then (and_then o (x.opened d (x.expression d))) (x.finished d (x.expression d) true) ≡ Ok (e, j)
+print_paren : (d : ℕ) (e : Expr) (j : Input) (o : Outcome Enclosed) → and_then (and_then o x.opened) (x.finished d (x.expression d) true) ≡ Ok (e, j)
     → and_then o (x.printed_opened d (x.expression d)) ≡ x.printed_rest d (x.expression d) e j
 print_paren d e j (Ok p) h = print_opened d e j p.0 p.1 h
 print_paren d e j (Err r) h = cc
@@ -720,7 +720,7 @@ unfolding x.print_list x.printed_several
 print_group_is d es i q at h en =
     by_kind (x.print_list_by d (x.expression d)) k.LeftParen i at
     ∙ then_ok (x.enclosed d (x.expression d) i) (x.printed_opened d (x.expression d)) (inside.Several es) q h
-    ∙ ap (λ t. cond t (and_then (x.opened d (x.expression d) (inside.Several es) q) (x.printed_from d (x.expression d))) (and_then (not_redirected true q) (λ _. pure es))) (not_seen k.In q (apart ends (kind q) k.In en refl))
+    ∙ ap (λ t. cond t (and_then (x.opened (inside.Several es) q) (x.printed_from d (x.expression d))) (and_then (not_redirected true q) (λ _. pure es))) (not_seen k.In q (apart ends (kind q) k.In en refl))
     ∙ then_ok (not_redirected true q) (λ _. pure es) tt q (redirected_none d (x.expression d) true q (apart ends (kind q) k.Greater en refl))
 
 -- ---- all rules together

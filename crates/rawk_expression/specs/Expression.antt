@@ -112,6 +112,55 @@ further level operand first = λ i. further_from level operand (left i) (first �
 unfoldable pub joined : ℕ → Parser Operand → Operand → Parser Operand
 joined level operand first = λ i. if first.is_open || not (sees (mark level) i) then Ok (first, i) else further level operand first.tree i
 
+-- ---- rules that open no construct
+
+abbrev pub fitting : ℕ → Function → List Expr → Parser Expr
+fitting place f es = if fits f es then pure (tree.Builtin f es) else (λ i. Err (Here refused.Syntax place))
+
+-- what may not stand behind the place of `getline`
+abbrev pub behind_getline_by : Kind → Parser (Unit {0})
+behind_getline_by k.Less = left_out
+behind_getline_by k.Increment = refuse
+behind_getline_by k.Decrement = refuse
+behind_getline_by _ = pure tt
+
+abbrev pub behind_getline : Parser (Unit {0})
+behind_getline = peek >>= behind_getline_by
+
+abbrev pub number_constant : Parser Expr
+number_constant = do n ← number; pure (tree.Number n)
+
+abbrev pub text_constant : Parser Expr
+text_constant = do bytes ← text; pure (tree.Text bytes)
+
+unfoldable pub ere_constant : Parser Expr
+ere_constant = λ i. and_then (ere i) (λ word. pure (tree.Ere (left i) word))
+
+-- a place with the `++` or `--` directly behind it
+abbrev pub changed_by : Place → Option Change → Parser Expr
+changed_by p None = pure (tree.Of p)
+changed_by p (Some c) = take_token >> pure (tree.After c p)
+
+unfoldable pub changed : Place → Parser Expr
+changed p = λ i. changed_by p (change (kind i)) i
+
+-- the begin of an operand, behind `(` and what stands in it
+abbrev pub opened : Enclosed → Parser Start
+opened (inside.One e) = pure (start.Base (tree.Group e))
+opened (inside.Several es) = expect k.In >> (do array ← bare_name; pure (start.Member (tree.ListIn es array)))
+
+-- the begin of an operand, behind a place
+abbrev pub settable_by : Place → Option Assignment → Parser Start
+settable_by p None = do e ← changed p; pure (start.Base e)
+settable_by p (Some how) = take_token >> pure (start.Assigns how p)
+
+unfoldable pub settable : Place → Parser Start
+settable p = λ i. settable_by p (assignment (kind i)) i
+
+-- an operand with the arrays behind `in`
+unfoldable pub member : Expr → Parser Operand
+member e = do ns ← arrays; pure (closed (contained e ns))
+
 -- ---- rules; `room` is how many constructs may still be opened, and `deeper` parses what stands in one
 
 module _ (room : ℕ) (deeper : Wanted → Parser Expr) where
@@ -150,21 +199,11 @@ module _ (room : ℕ) (deeper : Wanted → Parser Expr) where
   arguments_of fun.Length = λ i. if sees k.LeftParen i then arguments i else Ok ([], i)
   arguments_of _ = arguments
 
-  abbrev pub fitting : ℕ → Function → List Expr → Parser Expr
-  fitting place f es = if fits f es then pure (tree.Builtin f es) else (λ i. Err (Here refused.Syntax place))
-
   unfoldable pub builtin : Function → Parser Expr
   builtin f = λ i. and_then (arguments_of f (next i)) (fitting (left i) f)
 
-  -- what may not stand behind the place of `getline`
-  abbrev pub behind_getline_by : Kind → Parser (Unit {0})
-  behind_getline_by k.Less = left_out
-  behind_getline_by k.Increment = refuse
-  behind_getline_by k.Decrement = refuse
-  behind_getline_by _ = pure tt
-
   unfoldable pub getline_to : Parser Expr
-  getline_to = do p ← place; (peek >>= behind_getline_by); pure (tree.GetlineTo p)
+  getline_to = do p ← place; behind_getline; pure (tree.GetlineTo p)
 
   abbrev pub getline_by : Kind → Parser Expr
   getline_by k.Name = getline_to
@@ -175,9 +214,6 @@ module _ (room : ℕ) (deeper : Wanted → Parser Expr) where
   unfoldable pub getline : Parser Expr
   getline = take_token >> (peek >>= getline_by)
 
-  unfoldable pub ere_constant : Parser Expr
-  ere_constant = λ i. and_then (ere i) (λ word. pure (tree.Ere (left i) word))
-
   abbrev pub builtin_or_place : Option Function → Parser Expr
   builtin_or_place None = do p ← place; pure (tree.Of p)
   builtin_or_place (Some f) = builtin f
@@ -186,8 +222,8 @@ module _ (room : ℕ) (deeper : Wanted → Parser Expr) where
   group = take_token >> (do inner ← deeper want.Whole; expect k.RightParen; pure (tree.Group inner))
 
   abbrev pub primary_by : Kind → Parser Expr
-  primary_by k.Number = do n ← number; pure (tree.Number n)
-  primary_by k.Text = do bytes ← text; pure (tree.Text bytes)
+  primary_by k.Number = number_constant
+  primary_by k.Text = text_constant
   primary_by k.Slash = ere_constant
   primary_by k.SlashAssign = ere_constant
   primary_by k.LeftParen = group
@@ -211,14 +247,6 @@ module _ (room : ℕ) (deeper : Wanted → Parser Expr) where
 
   unfoldable pub dollar : Parser Expr
   dollar = peek >>= dollar_by
-
-  -- a place with the `++` or `--` directly behind it
-  abbrev pub changed_by : Place → Option Change → Parser Expr
-  changed_by p None = pure (tree.Of p)
-  changed_by p (Some c) = take_token >> pure (tree.After c p)
-
-  unfoldable pub changed : Place → Parser Expr
-  changed p = λ i. changed_by p (change (kind i)) i
 
   abbrev pub postfix_by : Kind → Parser Expr
   postfix_by k.Increment = changed_before changes.Increment
@@ -269,17 +297,6 @@ module _ (room : ℕ) (deeper : Wanted → Parser Expr) where
   unfoldable pub enclosed : Parser Enclosed
   enclosed = take_token >> (do first ← deeper want.Whole; more ← eat k.Comma; enclosed_by first more)
 
-  abbrev pub opened : Enclosed → Parser Start
-  opened (inside.One e) = pure (start.Base (tree.Group e))
-  opened (inside.Several es) = expect k.In >> (do array ← bare_name; pure (start.Member (tree.ListIn es array)))
-
-  abbrev pub settable_by : Place → Option Assignment → Parser Start
-  settable_by p None = do e ← changed p; pure (start.Base e)
-  settable_by p (Some how) = take_token >> pure (start.Assigns how p)
-
-  unfoldable pub settable : Place → Parser Start
-  settable p = λ i. settable_by p (assignment (kind i)) i
-
   abbrev pub opening_by : Kind → Parser Start
   opening_by k.LeftParen = enclosed >>= opened
   opening_by k.Name = place >>= settable
@@ -292,10 +309,6 @@ module _ (room : ℕ) (deeper : Wanted → Parser Expr) where
   -- from the begin on
   abbrev pub begun : {A : Type 0} → (Start → Parser A) → Parser A
   begun rest = opening >>= rest
-
-  -- an operand with the arrays behind `in`
-  unfoldable pub member : Expr → Parser Operand
-  member e = do ns ← arrays; pure (closed (contained e ns))
 
   abbrev pub operand : Bool → Start → Parser Operand
   operand prints start.Nothing = level prints None 5 >>= member

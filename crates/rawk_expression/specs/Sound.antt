@@ -156,7 +156,7 @@ module _ (d : ℕ) (deeper : Wanted → Parser Expr) (sound : IsSound d deeper) 
       (λ w. not_ok _ r w.1)
       (cond_ok (table.fits f a.0.0) (pure (tree.Builtin f a.0.0)) _ a.0.1 (Ok r) a.2)
 
-  behind_getline : (c : Kind) (i : Input) (r : Unit {0} × Input) → kind i ≡ c → x.behind_getline_by d deeper c i ≡ Ok r → (table.change (kind i) ≡ None) × (kind i ≢ k.Less) × (i ≡ r.1)
+  behind_getline : (c : Kind) (i : Input) (r : Unit {0} × Input) → kind i ≡ c → x.behind_getline_by c i ≡ Ok r → (table.change (kind i) ≡ None) × (kind i ≢ k.Less) × (i ≡ r.1)
   behind_getline k.Less i r e h = not_ok _ r h
   behind_getline k.Increment i r e h = not_ok _ r h
   behind_getline k.Decrement i r e h = not_ok _ r h
@@ -166,7 +166,7 @@ module _ (d : ℕ) (deeper : Wanted → Parser Expr) (sound : IsSound d deeper) 
   unfolding x.getline_to
   getline_to_sound i j r s h =
       let a = and_then_ok (x.place d deeper j) _ r h in
-      let b = and_then_ok (x.behind_getline_by d deeper (kind a.0.1) a.0.1) _ r a.2 in
+      let b = and_then_ok (x.behind_getline_by (kind a.0.1) a.0.1) _ r a.2 in
       let g = behind_getline (kind a.0.1) a.0.1 b.0 refl b.1 in
       at_ok (λ y m. Derives d (Primary y) i m) _ _ r (subst (λ m. Derives d (Primary (tree.GetlineTo a.0.0)) i m) g.2 (getline_to s (place_sound j a.0 a.1) g.0 g.1)) b.2
 
@@ -181,7 +181,7 @@ module _ (d : ℕ) (deeper : Wanted → Parser Expr) (sound : IsSound d deeper) 
   unfolding x.getline
   getline_sound i r at h = getline_by_sound i r (kind (next i)) at refl h
 
-  ere_sound : (i : Input) (r : Expr × Input) → (kind i ≡ k.Slash) ⊎ (kind i ≡ k.SlashAssign) → x.ere_constant d deeper i ≡ Ok r → Derives d (Primary r.0) i r.1
+  ere_sound : (i : Input) (r : Expr × Input) → (kind i ≡ k.Slash) ⊎ (kind i ≡ k.SlashAssign) → x.ere_constant i ≡ Ok r → Derives d (Primary r.0) i r.1
   unfolding x.ere_constant
   ere_sound i r at h =
       let a = and_then_ok (parser.ere i) _ r h in
@@ -232,11 +232,11 @@ module _ (d : ℕ) (deeper : Wanted → Parser Expr) (sound : IsSound d deeper) 
   unfolding x.dollar
   dollar_sound i r h = dollar_by_sound i r (kind i) refl h
 
-  changed_sound : (y : Place) (i j : Input) (r : Expr × Input) → Derives d (APlace y) i j → x.changed d deeper y j ≡ Ok r → Derives d (Postfix r.0) i r.1
+  changed_sound : (y : Place) (i j : Input) (r : Expr × Input) → Derives d (APlace y) i j → x.changed y j ≡ Ok r → Derives d (Postfix r.0) i r.1
   unfolding x.changed
   changed_sound y i j r g h = go (table.change (kind j)) refl h
     where
-      go : (o : Option Change) → table.change (kind j) ≡ o → x.changed_by d deeper y o j ≡ Ok r → Derives d (Postfix r.0) i r.1
+      go : (o : Option Change) → table.change (kind j) ≡ o → x.changed_by y o j ≡ Ok r → Derives d (Postfix r.0) i r.1
       go None e h = at_ok (λ z m. Derives d (Postfix z) i m) _ _ r (bare g e) h
       go (Some c) e h = at_ok (λ z m. Derives d (Postfix z) i m) _ _ r (changed_after g (spells (kind j) j refl) e) h
 
@@ -329,7 +329,7 @@ module _ (d : ℕ) (deeper : Wanted → Parser Expr) (sound : IsSound d deeper) 
           let t = kept (λ m. Spells k.RightParen (spelling (after k.Comma j)) m b.0.1) k.Comma j s (expect_ok k.RightParen (after k.Comma j) b.0 b.1) in
           at_ok (λ y m. Inside d y i m) (inside.One e) b.0.1 r (group_under d e _ _ i _ j _ (spells k.LeftParen i at) g t) b.2
 
-  opened_sound : (en : Enclosed) (i j : Input) (r : Start × Input) → kind i ≡ k.LeftParen → Inside d en i j → x.opened d deeper en j ≡ Ok r → Begins d r.0 i r.1
+  opened_sound : (en : Enclosed) (i j : Input) (r : Start × Input) → kind i ≡ k.LeftParen → Inside d en i j → x.opened en j ≡ Ok r → Begins d r.0 i r.1
   opened_sound (inside.One e) i j r at g h = at_ok (λ y m. Begins d y i m) (start.Base (tree.Group e)) j r (unchanged (ap table.begins_place at) g) h
   opened_sound (inside.Several es) i j r at g h =
       let a = and_then_ok (expect k.In j) _ r h in
@@ -341,13 +341,13 @@ module _ (d : ℕ) (deeper : Wanted → Parser Expr) (sound : IsSound d deeper) 
       subst (λ y. Derives d (Member p (tree.ListIn es y)) i b.0.1) (sym n.0) m) in
       at_ok (λ y m. Begins d y i m) (start.Member (tree.ListIn es b.0.0)) b.0.1 r here b.2
 
-  settable_sound : (y : Place) (i j : Input) (r : Start × Input) → Derives d (APlace y) i j → x.settable d deeper y j ≡ Ok r → Begins d r.0 i r.1
+  settable_sound : (y : Place) (i j : Input) (r : Start × Input) → Derives d (APlace y) i j → x.settable y j ≡ Ok r → Begins d r.0 i r.1
   unfolding x.settable
   settable_sound y i j r g h = go (table.assignment (kind j)) refl h
     where
-      go : (o : Option Assignment) → table.assignment (kind j) ≡ o → x.settable_by d deeper y o j ≡ Ok r → Begins d r.0 i r.1
+      go : (o : Option Assignment) → table.assignment (kind j) ≡ o → x.settable_by y o j ≡ Ok r → Begins d r.0 i r.1
       go None e h =
-          let a = and_then_ok (x.changed d deeper y j) _ r h in
+          let a = and_then_ok (x.changed y j) _ r h in
           at_ok (λ z m. Begins d z i m) (start.Base a.0.0) a.0.1 r (changed_sound y i j a.0 g a.1) a.2
       go (Some how) e h = at_ok (λ z m. Begins d z i m) (start.Assigns how y) (next j) r (j, kind j, spelling j, g, spells (kind j) j refl, e) h
 
@@ -365,7 +365,7 @@ module _ (d : ℕ) (deeper : Wanted → Parser Expr) (sound : IsSound d deeper) 
 
   -- ---- from `in` up
 
-  member_sound : (p : Bool) (e : Expr) (i j : Input) (r : Operand × Input) → Derives d (Member p e) i j → x.member d deeper e j ≡ Ok r → Derives d (Test p r.0.is_open 0 r.0.tree) i r.1
+  member_sound : (p : Bool) (e : Expr) (i j : Input) (r : Operand × Input) → Derives d (Member p e) i j → x.member e j ≡ Ok r → Derives d (Test p r.0.is_open 0 r.0.tree) i r.1
   unfolding x.member
   member_sound p e i j r g h =
       let a = and_then_ok (x.arrays j) _ r h in
@@ -535,14 +535,14 @@ module _ (d : ℕ) (deeper : Wanted → Parser Expr) (sound : IsSound d deeper) 
   printed_several_sound es i j r at g h =
       ⊎_elim
       (λ w.
-      let a = and_then_ok (x.opened d deeper (inside.Several es) j) _ r w.1 in
+      let a = and_then_ok (x.opened (inside.Several es) j) _ r w.1 in
       printed_from_sound a.0.0 i a.0.1 r (opened_sound (inside.Several es) i j a.0 at g a.1) a.2)
       (λ w.
       let a = and_then_ok (not_redirected true j) _ r w.1 in
       let here : Derives d (PrintList (g.first ∷ g.second ∷ g.others)) i j = print_group_under d g.first g.second g.others _ _ i _ _ j g.opens g.list g.closes in
       let listed : Derives d (PrintList es) i j = subst (λ y. Derives d (PrintList y) i j) (sym g.are) here in
       at_ok (λ y m. Derives d (PrintList y) i m) es a.0.1 r (subst (λ m. Derives d (PrintList es) i m) (not_redirected_ok true j a.0 a.1) listed) a.2)
-      (cond_is (sees k.In j) (and_then (x.opened d deeper (inside.Several es) j) (x.printed_from d deeper)) (and_then (not_redirected true j) (λ _. pure es)) (Ok r) h)
+      (cond_is (sees k.In j) (and_then (x.opened (inside.Several es) j) (x.printed_from d deeper)) (and_then (not_redirected true j) (λ _. pure es)) (Ok r) h)
 
   print_list_by_sound : (i : Input) (r : List Expr × Input) (c : Kind) → kind i ≡ c → x.print_list_by d deeper c i ≡ Ok r → Derives d (PrintList r.0) i r.1
   print_list_by_sound i r k.LeftParen e h =

@@ -87,7 +87,7 @@ module _ (room : ℕ) (deeper : Wanted → Parser Expr) where
   no_arrays_from zero found j ne = refl
   no_arrays_from (suc n) found j ne = leaves k.In j _ (pure found) ne
 
-  pub member_none : (e : Expr) (j : Input) → kind j ≢ k.In → x.member room deeper e j ≡ Ok (x.closed e, j)
+  pub member_none : (e : Expr) (j : Input) → kind j ≢ k.In → x.member e j ≡ Ok (x.closed e, j)
   unfolding x.member x.arrays x.contained
   member_none e j ne = then_ok (x.arrays j) (λ ns. pure (x.closed (x.contained e ns))) [] j (no_arrays_from (left j) [] j ne)
 
@@ -99,20 +99,20 @@ module _ (room : ℕ) (deeper : Wanted → Parser Expr) where
       ∙ then_ok (bare_name l) (λ a. x.arrays_from n ([] ++ a ∷ [])) (name_at l) m (bare_name_is w l m t)
       ∙ no_arrays_from n (name_at l ∷ []) m ne
 
-  pub member_one : (e : Expr) (v w : List ℕ) (j l m : Input) → Spells k.In v j l → Spells k.Name w l m → kind m ≢ k.In → x.member room deeper e j ≡ Ok (x.closed (tree.In e (name_at l ∷ [])), m)
+  pub member_one : (e : Expr) (v w : List ℕ) (j l m : Input) → Spells k.In v j l → Spells k.Name w l m → kind m ≢ k.In → x.member e j ≡ Ok (x.closed (tree.In e (name_at l ∷ [])), m)
   unfolding x.member x.arrays x.contained
   member_one e v w j l m s t ne =
       then_ok (x.arrays j) (λ ns. pure (x.closed (x.contained e ns))) (name_at l ∷ []) m
       (one_array_from w v j l m (left j) (some_left j (λ q. (let no : k.In ≡ k.EndOfText = sym s.is_kind ∙ q in cc))) s t ne)
 
-  pub operand_start : (p : Bool) (head : Option Expr) (m : Input) → x.operand room deeper p (start_of head) m ≡ and_then (x.level room deeper p head 5 m) (x.member room deeper)
+  pub operand_start : (p : Bool) (head : Option Expr) (m : Input) → x.operand room deeper p (start_of head) m ≡ and_then (x.level room deeper p head 5 m) x.member
   operand_start p None m = refl
   operand_start p (Some e) m = refl
 
   -- an operand of `&&`, with no `in`
   pub operand_level : (p : Bool) (head : Option Expr) (e : Expr) (m j : Input) → x.level room deeper p head 5 m ≡ Ok (e, j) → kind j ≢ k.In → x.operand room deeper p (start_of head) m ≡ Ok (x.closed e, j)
   operand_level p head e m j h ne =
-      operand_start p head m ∙ then_ok (x.level room deeper p head 5 m) (x.member room deeper) e j h ∙ member_none e j ne
+      operand_start p head m ∙ then_ok (x.level room deeper p head 5 m) x.member e j h ∙ member_none e j ne
 
   pub junction_up : (p : Bool) (n : ℕ) (s : Start) (o : Operand) (m j : Input) → x.junction room deeper p n s m ≡ Ok (o, j) → kind j ≢ table.mark (suc n) → x.junction room deeper p (suc n) s m ≡ Ok (o, j)
   unfolding x.junction x.joined

@@ -1,18 +1,19 @@
 //! The rules that hold expressions take the parser of those as a parameter, so that each is proved by itself.
 
-ghost use Rattle.std.specs.Prelude.{◌≡◌};
+ghost use Rattle.std.specs.Prelude.{◌≡◌, [], ◌∷◌, IfOk, IfErr};
+ghost use Rattle.rawk_parsing.specs.declared.parse_error.ParseError.TheVariants.{OutOfMemory};
 ghost use Rattle.rawk_parsing.specs.Parser.{Parses};
 ghost use Rattle.rawk_expression.specs.Expression as spec;
 ghost use Rattle.rawk_expression.specs.Nests.{Nests};
 
-use rawk_items::Boxed;
+use rawk_items::{Boxed, Items};
 use rawk_lexer::Cursor;
 use rawk_parsing::tree::{Change, Expr};
 use rawk_parsing::{ParseError, RefusalKind};
 use std::alloc::Global;
 
 /// What is to be read.
-#[derive(Clone, Copy, Debug, PartialEq, Eq)]
+#[derive(Clone, Copy, PartialEq, Eq)]
 pub enum Wanted {
     /// a whole expression
     Whole,
@@ -37,7 +38,25 @@ pub fn whole_of(prints: bool) -> Wanted
     }
 }
 
-#[derive(Clone, Copy)]
+/// A tree on the heap.
+pub fn boxed(alloc: Global, tree: Expr) -> Result<Boxed<Expr>, ParseError>
+    ensures made { IfOk result (λ e. e ≡ tree) }
+    ensures refused { IfErr result (λ e. e ≡ OutOfMemory) }
+{
+    Ok(Boxed::new(alloc, tree)?)
+}
+
+/// The list of one expression.
+pub fn alone(alloc: Global, first: Boxed<Expr>) -> Result<Items<Boxed<Expr>>, ParseError>
+    ensures made { IfOk result (λ e. e ≡ first ∷ []) }
+    ensures refused { IfErr result (λ e. e ≡ OutOfMemory) }
+{
+    let mut found = Items::new(alloc);
+    found.push(first)?;
+    Ok(found)
+}
+
+#[derive(Drop)]
 pub struct Grammar<F> {
     pub alloc: Global,
     /// how many constructs may still be opened

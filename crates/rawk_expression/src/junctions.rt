@@ -1,21 +1,23 @@
 //! From assignments and `in` up to `?:`.
 
-ghost use Rattle.std.specs.Prelude.{◌≡◌, ◌<◌, ◌-◌, Option, None, IfOk};
+ghost use Rattle.std.specs.Prelude.{◌≡◌, ◌<◌, ◌-◌, Option, None, IfOk, IfErr};
+ghost use Rattle.rawk_parsing.specs.declared.parse_error.ParseError.TheVariants.{OutOfMemory};
 ghost use Rattle.rawk_parsing.specs.declared.tree.Expr.TheVariants as tree;
 ghost use Rattle.rawk_parsing.specs.Tables as tables;
-ghost use Rattle.rawk_parsing.specs.Parser.{Parses};
+ghost use Rattle.rawk_parsing.specs.Parser.{Parses, newlines};
 ghost use Rattle.rawk_expression.specs.Expression as spec;
 ghost use Rattle.rawk_expression.specs.Nests.{Nests};
+ghost use Rattle.rawk_expression.specs.declared.operands.Start.TheVariants.{Assigns};
 
-use crate::grammar::{Grammar, Wanted, whole_of};
+use crate::grammar::{Grammar, Wanted, alone, boxed, whole_of};
 use crate::operands::{Start, arrays, contained};
 use rawk_items::{Boxed, Items};
 use rawk_lexer::{Cursor, Kind};
 use rawk_parsing::ParseError;
 use rawk_parsing::tables::{logic, mark};
 use rawk_parsing::tokens::{eat, expect, not_redirected, sees, skip_newlines};
-use rawk_parsing::tree::Expr;
-use std::alloc::{AllocError, Global};
+use rawk_parsing::tree::{Assignment, Expr, Place};
+use std::alloc::Global;
 
 /// An operand of `&&` or `||`.
 #[derive(Drop)]
@@ -25,17 +27,50 @@ pub struct Operand {
     pub is_open: bool,
 }
 
+/// An operand with the arrays behind `in`.
+#[tactic(auto, unfolding(crate::specs::Expression::member))]
+fn member(alloc: Global, tokens: &mut Cursor<'_>, e: Boxed<Expr>) -> Result<Operand, ParseError>
+    ensures { Parses (spec.member e tokens.old) result tokens.new }
+{
+    let arrays = arrays(alloc, tokens)?;
+    let tree = contained(alloc, e, arrays)?;
+    Ok(Operand {
+        tree,
+        is_open: false,
+    })
+}
+
+/// The operands of a level of tests, two or more.
+fn joined(
+    alloc: Global,
+    level: u8,
+    operands: Items<Boxed<Expr>>,
+    is_open: bool,
+) -> Result<Operand, ParseError>
+    ensures made { IfOk result (λ o. (o.tree ≡ tree.Logic (tables.logic level) operands) × (o.is_open ≡ is_open)) }
+    ensures refused { IfErr result (λ e. e ≡ OutOfMemory) }
+{
+    let tree = boxed(alloc, Expr::Logic(logic(level), operands))?;
+    Ok(Operand { tree, is_open })
+}
+
 impl<F: Fn(Global, &mut Cursor<'_>, usize, Wanted) -> Result<Boxed<Expr>, ParseError>> Grammar<F> {
-    /// An operand with the arrays behind `in`.
-    #[tactic(auto, unfolding(crate::specs::Expression::member))]
-    fn member(&self, tokens: &mut Cursor<'_>, e: Boxed<Expr>) -> Result<Operand, ParseError>
-        ensures { Parses (spec.member self.now.depth (spec.expression self.now.depth) e tokens.old) result tokens.new }
+    /// The value of an assignment.
+    fn assigned(
+        &self,
+        tokens: &mut Cursor<'_>,
+        prints: bool,
+        assignment: Assignment,
+        place: Place,
+    ) -> Result<Operand, ParseError>
+        requires { Nests self.now.depth (F.pre self.now.expression) (F.post self.now.expression) }
+        ensures { Parses (spec.operand self.now.depth (spec.expression self.now.depth) prints (Assigns assignment place) tokens.old) result tokens.new }
     {
-        let arrays = arrays(self.alloc, tokens)?;
-        let tree = contained(self.alloc, e, arrays)?;
+        let value = self.deeper(tokens, whole_of(prints))?;
+        let tree = boxed(self.alloc, Expr::Assign(assignment, place, value))?;
         Ok(Operand {
             tree,
-            is_open: false,
+            is_open: true,
         })
     }
 
@@ -48,25 +83,16 @@ impl<F: Fn(Global, &mut Cursor<'_>, usize, Wanted) -> Result<Boxed<Expr>, ParseE
         requires { Nests self.now.depth (F.pre self.now.expression) (F.post self.now.expression) }
         ensures { Parses (spec.operand self.now.depth (spec.expression self.now.depth) prints start tokens.old) result tokens.new }
     {
-        match start {
-            Start::Nothing => {
-                let e = self.level(tokens, prints, None, 5)?;
-                self.member(tokens, e)
-            }
-            Start::Base(head) => {
-                let e = self.level(tokens, prints, Some(head), 5)?;
-                self.member(tokens, e)
-            }
-            Start::Member(e) => self.member(tokens, e),
+        let head = match start {
+            Start::Nothing => None,
+            Start::Base(head) => Some(head),
+            Start::Member(e) => return member(self.alloc, tokens, e),
             Start::Assigns(assignment, place) => {
-                let value = self.deeper(tokens, whole_of(prints))?;
-                let tree = Boxed::new(self.alloc, Expr::Assign(assignment, place, value))?;
-                Ok(Operand {
-                    tree,
-                    is_open: true,
-                })
+                return self.assigned(tokens, prints, assignment, place);
             }
-        }
+        };
+        let e = self.level(tokens, prints, head, 5)?;
+        member(self.alloc, tokens, e)
     }
 
     /// Operands at level 0, joined by `&&` at level 1, by `||` at level 2.
@@ -103,33 +129,30 @@ impl<F: Fn(Global, &mut Cursor<'_>, usize, Wanted) -> Result<Boxed<Expr>, ParseE
         requires some { 0 < level }
         ensures { Parses (spec.further level (spec.begun self.now.depth (spec.expression self.now.depth) (spec.junction self.now.depth (spec.expression self.now.depth) prints (level - 1))) first tokens.old) result tokens.new }
     {
-        let mut operands = Items::new(self.alloc);
-        operands.push(first)?;
+        let mut operands = alone(self.alloc, first)?;
         for _turn in 0..tokens.left() {
             if !eat(tokens, mark(level)) {
-                return Ok(self.joined(level, operands, false)?);
+                return joined(self.alloc, level, operands, false);
             }
-            skip_newlines(tokens);
-            let start = self.opening(tokens)?;
-            let next = self.junction(tokens, prints, level - 1, start)?;
+            let next = self.next(tokens, prints, level)?;
             operands.push(next.tree)?;
             if next.is_open {
-                return Ok(self.joined(level, operands, true)?);
+                return joined(self.alloc, level, operands, true);
             }
         }
-        Ok(self.joined(level, operands, false)?)
+        joined(self.alloc, level, operands, false)
     }
 
-    fn joined(
-        &self,
-        level: u8,
-        operands: Items<Boxed<Expr>>,
-        is_open: bool,
-    ) -> Result<Operand, AllocError>
-        ensures { IfOk result (λ o. (o.tree ≡ tree.Logic (tables.logic level) operands) × (o.is_open ≡ is_open)) }
+    /// The operand behind `&&` or `||`.
+    #[cycle(junctions)]
+    fn next(&self, tokens: &mut Cursor<'_>, prints: bool, level: u8) -> Result<Operand, ParseError>
+        requires nests { Nests self.now.depth (F.pre self.now.expression) (F.post self.now.expression) }
+        requires some { 0 < level }
+        ensures { Parses (spec.begun self.now.depth (spec.expression self.now.depth) (spec.junction self.now.depth (spec.expression self.now.depth) prints (level - 1)) (newlines tokens.old)) result tokens.new }
     {
-        let tree = Boxed::new(self.alloc, Expr::Logic(logic(level), operands))?;
-        Ok(Operand { tree, is_open })
+        skip_newlines(tokens);
+        let start = self.opening(tokens)?;
+        self.junction(tokens, prints, level - 1, start)
     }
 
     #[tactic(auto, unfolding(crate::specs::Expression::choice))]
@@ -145,7 +168,7 @@ impl<F: Fn(Global, &mut Cursor<'_>, usize, Wanted) -> Result<Boxed<Expr>, ParseE
         let second = self.deeper(tokens, whole_of(prints))?;
         expect(tokens, Kind::Colon)?;
         let third = self.deeper(tokens, whole_of(prints))?;
-        Ok(Boxed::new(self.alloc, Expr::Choice(test, second, third))?)
+        boxed(self.alloc, Expr::Choice(test, second, third))
     }
 
     #[tactic(auto, unfolding(crate::specs::Expression::chosen))]
@@ -203,7 +226,7 @@ impl<F: Fn(Global, &mut Cursor<'_>, usize, Wanted) -> Result<Boxed<Expr>, ParseE
             Wanted::Dollar => self.dollar(tokens),
             Wanted::Before(change) => {
                 let place = self.place(tokens)?;
-                Ok(Boxed::new(self.alloc, Expr::Before(change, place))?)
+                boxed(self.alloc, Expr::Before(change, place))
             }
         }
     }

@@ -1,28 +1,30 @@
 //! From signs and `^` up to `~`: a number is the level of an operator, and one function serves all levels.
 
-ghost use Rattle.std.specs.Prelude.{◌≡◌, ◌<◌, ◌-◌, Option, None, IfOk};
+ghost use Rattle.std.specs.Prelude.{◌≡◌, ◌<◌, ◌-◌, Option, None, IfOk, IfErr};
+ghost use Rattle.rawk_parsing.specs.declared.parse_error.ParseError.TheVariants.{OutOfMemory};
 ghost use Rattle.rawk_parsing.specs.Parser.{Parses};
 ghost use Rattle.rawk_expression.specs.Expression as spec;
 ghost use Rattle.rawk_expression.specs.Nests.{Nests};
 
-use crate::grammar::{Grammar, Wanted};
+use crate::grammar::{Grammar, Wanted, boxed};
 use rawk_items::{Boxed, Items};
 use rawk_lexer::{Cursor, Kind};
 use rawk_parsing::ParseError;
 use rawk_parsing::tables::{is_alone, is_concat, joins, sign};
 use rawk_parsing::tokens::eat;
 use rawk_parsing::tree::{Expr, Link, Sign};
-use std::alloc::{AllocError, Global};
+use std::alloc::Global;
 
 /// An operand, and what is joined to it.
 #[tactic(auto, unfolding(crate::specs::Expression::chained))]
-fn chained(alloc: Global, first: Boxed<Expr>, links: Items<Link>) -> Result<Boxed<Expr>, AllocError>
-    ensures { IfOk result (λ e. e ≡ spec.chained first links) }
+fn chained(alloc: Global, first: Boxed<Expr>, links: Items<Link>) -> Result<Boxed<Expr>, ParseError>
+    ensures made { IfOk result (λ e. e ≡ spec.chained first links) }
+    ensures refused { IfErr result (λ e. e ≡ OutOfMemory) }
 {
     if links.len() == 0 {
         return Ok(first);
     }
-    Boxed::new(alloc, Expr::Chain(first, links))
+    boxed(alloc, Expr::Chain(first, links))
 }
 
 impl<F: Fn(Global, &mut Cursor<'_>, usize, Wanted) -> Result<Boxed<Expr>, ParseError>> Grammar<F> {
@@ -36,7 +38,7 @@ impl<F: Fn(Global, &mut Cursor<'_>, usize, Wanted) -> Result<Boxed<Expr>, ParseE
             return Ok(base);
         }
         let exponent = self.deeper(tokens, Wanted::Unary)?;
-        Ok(Boxed::new(self.alloc, Expr::Power(base, exponent))?)
+        boxed(self.alloc, Expr::Power(base, exponent))
     }
 
     fn signed(&self, tokens: &mut Cursor<'_>, sign: Sign) -> Result<Boxed<Expr>, ParseError>
@@ -45,24 +47,7 @@ impl<F: Fn(Global, &mut Cursor<'_>, usize, Wanted) -> Result<Boxed<Expr>, ParseE
     {
         tokens.take();
         let operand = self.deeper(tokens, Wanted::Unary)?;
-        Ok(Boxed::new(self.alloc, Expr::Signed(sign, operand))?)
-    }
-
-    fn unary_by(
-        &self,
-        tokens: &mut Cursor<'_>,
-        sign: Option<Sign>,
-    ) -> Result<Boxed<Expr>, ParseError>
-        requires { Nests self.now.depth (F.pre self.now.expression) (F.post self.now.expression) }
-        ensures { Parses (spec.unary_by self.now.depth (spec.expression self.now.depth) sign tokens.old) result tokens.new }
-    {
-        match sign {
-            None => {
-                let base = self.postfix(tokens)?;
-                self.raised(tokens, base)
-            }
-            Some(sign) => self.signed(tokens, sign),
-        }
+        boxed(self.alloc, Expr::Signed(sign, operand))
     }
 
     /// The operators with one operand, and `^`. The operand may have been read.
@@ -74,10 +59,14 @@ impl<F: Fn(Global, &mut Cursor<'_>, usize, Wanted) -> Result<Boxed<Expr>, ParseE
         requires { Nests self.now.depth (F.pre self.now.expression) (F.post self.now.expression) }
         ensures { Parses (spec.unary self.now.depth (spec.expression self.now.depth) head tokens.old) result tokens.new }
     {
-        match head {
-            None => self.unary_by(tokens, sign(tokens.peek())),
-            Some(head) => self.raised(tokens, head),
-        }
+        let base = match head {
+            Some(head) => head,
+            None => match sign(tokens.peek()) {
+                Some(sign) => return self.signed(tokens, sign),
+                None => self.postfix(tokens)?,
+            },
+        };
+        self.raised(tokens, base)
     }
 
     /// Operators of this level and those that bind tighter.
@@ -97,7 +86,7 @@ impl<F: Fn(Global, &mut Cursor<'_>, usize, Wanted) -> Result<Boxed<Expr>, ParseE
         }
         let first = self.level(tokens, prints, head, level - 1)?;
         let links = self.links(tokens, prints, level)?;
-        Ok(chained(self.alloc, first, links)?)
+        chained(self.alloc, first, links)
     }
 
     #[cycle(levels)]

@@ -4,10 +4,9 @@ ghost use Rattle.std.specs.Prelude.{◌≡◌, true};
 ghost use Rattle.rawk_parsing.specs.Parser.{Parses};
 ghost use Rattle.rawk_expression.specs.Expression as spec;
 ghost use Rattle.rawk_expression.specs.Nests.{Nests};
-ghost use Rattle.rawk_expression.specs.declared.operands.Enclosed.TheVariants.{Several};
 
-use crate::grammar::{Grammar, Wanted, expression};
-use crate::operands::{Enclosed, Start};
+use crate::grammar::{Grammar, Wanted, alone, boxed, expression};
+use crate::operands::{Enclosed, Start, subscripts};
 use rawk_items::{Boxed, Items};
 use rawk_lexer::{Cursor, Kind};
 use rawk_parsing::tokens::{eat, not_redirected, refuse, sees, skip_newlines};
@@ -35,26 +34,8 @@ impl<F: Fn(Global, &mut Cursor<'_>, usize, Wanted) -> Result<Boxed<Expr>, ParseE
         Err(refuse(tokens))
     }
 
-    #[tactic(auto, unfolding(crate::specs::Expression::printed_rest))]
-    fn printed_rest(
-        &self,
-        tokens: &mut Cursor<'_>,
-        first: Boxed<Expr>,
-    ) -> Result<Items<Boxed<Expr>>, ParseError>
-        requires { Nests self.now.depth (F.pre self.now.expression) (F.post self.now.expression) }
-        ensures { Parses (spec.printed_rest self.now.depth (spec.expression self.now.depth) first tokens.old) result tokens.new }
-    {
-        let mut found = Items::new(self.alloc);
-        found.push(first)?;
-        if !eat(tokens, Kind::Comma) {
-            return Ok(found);
-        }
-        skip_newlines(tokens);
-        self.printed_list(tokens, found)
-    }
-
     /// A list whose first expression has begun.
-    #[tactic(auto, unfolding(crate::specs::Expression::printed_from))]
+    #[tactic(auto, unfolding(crate::specs::Expression::printed_from, crate::specs::Expression::printed_rest))]
     fn printed_from(
         &self,
         tokens: &mut Cursor<'_>,
@@ -64,7 +45,12 @@ impl<F: Fn(Global, &mut Cursor<'_>, usize, Wanted) -> Result<Boxed<Expr>, ParseE
         ensures { Parses (spec.printed_from self.now.depth (spec.expression self.now.depth) start tokens.old) result tokens.new }
     {
         let first = self.finished(tokens, true, start)?;
-        self.printed_rest(tokens, first)
+        let found = alone(self.alloc, first)?;
+        if !eat(tokens, Kind::Comma) {
+            return Ok(found);
+        }
+        skip_newlines(tokens);
+        self.printed_list(tokens, found)
     }
 
     /// Two expressions or more in parentheses are the list, or subscripts before `in`.
@@ -78,7 +64,7 @@ impl<F: Fn(Global, &mut Cursor<'_>, usize, Wanted) -> Result<Boxed<Expr>, ParseE
         ensures { Parses (spec.printed_several self.now.depth (spec.expression self.now.depth) values tokens.old) result tokens.new }
     {
         if sees(tokens, Kind::In) {
-            let start = self.opened(tokens, Enclosed::Several(values))?;
+            let start = subscripts(self.alloc, tokens, values)?;
             return self.printed_from(tokens, start);
         }
         not_redirected(tokens, true)?;
@@ -95,7 +81,7 @@ impl<F: Fn(Global, &mut Cursor<'_>, usize, Wanted) -> Result<Boxed<Expr>, ParseE
     {
         match enclosed {
             Enclosed::One(e) => {
-                let group = Boxed::new(self.alloc, Expr::Group(e))?;
+                let group = boxed(self.alloc, Expr::Group(e))?;
                 self.printed_from(tokens, Start::Base(group))
             }
             Enclosed::Several(values) => self.printed_several(tokens, values),

@@ -5,7 +5,7 @@ ghost use Rattle.rawk_parsing.specs.Parser.{Parses};
 ghost use Rattle.rawk_expression.specs.Expression as spec;
 ghost use Rattle.rawk_expression.specs.Nests.{Nests};
 
-use crate::grammar::{Grammar, Wanted};
+use crate::grammar::{Grammar, Wanted, boxed};
 use rawk_items::{Boxed, Items};
 use rawk_lexer::{Cursor, Kind};
 use rawk_parsing::tables::{change, fits, function};
@@ -13,6 +13,58 @@ use rawk_parsing::tokens::{ere, expect, name, number, refuse, sees, text};
 use rawk_parsing::tree::{Change, Expr, Function, Place};
 use rawk_parsing::{ParseError, RefusalKind};
 use std::alloc::Global;
+
+fn number_constant(alloc: Global, tokens: &mut Cursor<'_>) -> Result<Boxed<Expr>, ParseError>
+    ensures { Parses (spec.number_constant tokens.old) result tokens.new }
+{
+    let value = number(tokens)?;
+    boxed(alloc, Expr::Number(value))
+}
+
+fn text_constant(alloc: Global, tokens: &mut Cursor<'_>) -> Result<Boxed<Expr>, ParseError>
+    ensures { Parses (spec.text_constant tokens.old) result tokens.new }
+{
+    let bytes = text(alloc, tokens)?;
+    boxed(alloc, Expr::Text(bytes))
+}
+
+#[tactic(auto, unfolding(crate::specs::Expression::ere_constant))]
+fn ere_constant(alloc: Global, tokens: &mut Cursor<'_>) -> Result<Boxed<Expr>, ParseError>
+    ensures { Parses (spec.ere_constant tokens.old) result tokens.new }
+{
+    let place = tokens.left();
+    let word = ere(alloc, tokens)?;
+    boxed(alloc, Expr::Ere(place, word))
+}
+
+/// Nothing is read: what may not stand behind the place of `getline` is refused.
+fn behind_getline(tokens: &Cursor<'_>) -> Result<(), ParseError>
+    ensures { Parses (spec.behind_getline tokens.now) result tokens.now }
+{
+    match tokens.peek() {
+        Kind::Less => Err(ParseError::Here(RefusalKind::LeftOut, tokens.left())),
+        Kind::Increment | Kind::Decrement => Err(refuse(tokens)),
+        _ => Ok(()),
+    }
+}
+
+/// The place with the `++` or `--` directly behind it.
+#[tactic(auto, unfolding(crate::specs::Expression::changed))]
+pub fn changed(
+    alloc: Global,
+    tokens: &mut Cursor<'_>,
+    place: Place,
+) -> Result<Boxed<Expr>, ParseError>
+    ensures { Parses (spec.changed place tokens.old) result tokens.new }
+{
+    match change(tokens.peek()) {
+        None => boxed(alloc, Expr::Of(place)),
+        Some(change) => {
+            tokens.take();
+            boxed(alloc, Expr::After(change, place))
+        }
+    }
+}
 
 impl<F: Fn(Global, &mut Cursor<'_>, usize, Wanted) -> Result<Boxed<Expr>, ParseError>> Grammar<F> {
     #[tactic(auto, unfolding(crate::specs::Expression::called))]
@@ -22,7 +74,7 @@ impl<F: Fn(Global, &mut Cursor<'_>, usize, Wanted) -> Result<Boxed<Expr>, ParseE
     {
         let word = name(self.alloc, tokens)?;
         let arguments = self.arguments(tokens)?;
-        Ok(Boxed::new(self.alloc, Expr::Call(word, arguments))?)
+        boxed(self.alloc, Expr::Call(word, arguments))
     }
 
     fn arguments_of(
@@ -60,7 +112,7 @@ impl<F: Fn(Global, &mut Cursor<'_>, usize, Wanted) -> Result<Boxed<Expr>, ParseE
         if !fits(function, arguments.as_slice()) {
             return Err(ParseError::Here(RefusalKind::Syntax, place));
         }
-        Ok(Boxed::new(self.alloc, Expr::Builtin(function, arguments))?)
+        boxed(self.alloc, Expr::Builtin(function, arguments))
     }
 
     #[tactic(auto, unfolding(crate::specs::Expression::getline_to))]
@@ -69,11 +121,8 @@ impl<F: Fn(Global, &mut Cursor<'_>, usize, Wanted) -> Result<Boxed<Expr>, ParseE
         ensures { Parses (spec.getline_to self.now.depth (spec.expression self.now.depth) tokens.old) result tokens.new }
     {
         let place = self.place(tokens)?;
-        match tokens.peek() {
-            Kind::Less => Err(ParseError::Here(RefusalKind::LeftOut, tokens.left())),
-            Kind::Increment | Kind::Decrement => Err(refuse(tokens)),
-            _ => Ok(Boxed::new(self.alloc, Expr::GetlineTo(place))?),
-        }
+        behind_getline(tokens)?;
+        boxed(self.alloc, Expr::GetlineTo(place))
     }
 
     #[tactic(auto, unfolding(crate::specs::Expression::getline))]
@@ -85,17 +134,8 @@ impl<F: Fn(Global, &mut Cursor<'_>, usize, Wanted) -> Result<Boxed<Expr>, ParseE
         match tokens.peek() {
             Kind::Name | Kind::Dollar => self.getline_to(tokens),
             Kind::Less => Err(ParseError::Here(RefusalKind::LeftOut, tokens.left())),
-            _ => Ok(Boxed::new(self.alloc, Expr::Getline)?),
+            _ => boxed(self.alloc, Expr::Getline),
         }
-    }
-
-    #[tactic(auto, unfolding(crate::specs::Expression::ere_constant))]
-    fn ere_constant(&self, tokens: &mut Cursor<'_>) -> Result<Boxed<Expr>, ParseError>
-        ensures { Parses (spec.ere_constant self.now.depth (spec.expression self.now.depth) tokens.old) result tokens.new }
-    {
-        let place = tokens.left();
-        let word = ere(self.alloc, tokens)?;
-        Ok(Boxed::new(self.alloc, Expr::Ere(place, word))?)
     }
 
     #[tactic(auto, unfolding(crate::specs::Expression::group))]
@@ -106,7 +146,7 @@ impl<F: Fn(Global, &mut Cursor<'_>, usize, Wanted) -> Result<Boxed<Expr>, ParseE
         tokens.take();
         let inner = self.deeper(tokens, Wanted::Whole)?;
         expect(tokens, Kind::RightParen)?;
-        Ok(Boxed::new(self.alloc, Expr::Group(inner))?)
+        boxed(self.alloc, Expr::Group(inner))
     }
 
     fn builtin_or_place(
@@ -120,7 +160,7 @@ impl<F: Fn(Global, &mut Cursor<'_>, usize, Wanted) -> Result<Boxed<Expr>, ParseE
         match function {
             None => {
                 let place = self.place(tokens)?;
-                Ok(Boxed::new(self.alloc, Expr::Of(place))?)
+                boxed(self.alloc, Expr::Of(place))
             }
             Some(function) => self.builtin(tokens, function),
         }
@@ -132,9 +172,9 @@ impl<F: Fn(Global, &mut Cursor<'_>, usize, Wanted) -> Result<Boxed<Expr>, ParseE
         ensures { Parses (spec.primary self.now.depth (spec.expression self.now.depth) tokens.old) result tokens.new }
     {
         match tokens.peek() {
-            Kind::Number => Ok(Boxed::new(self.alloc, Expr::Number(number(tokens)?))?),
-            Kind::Text => Ok(Boxed::new(self.alloc, Expr::Text(text(self.alloc, tokens)?))?),
-            Kind::Slash | Kind::SlashAssign => self.ere_constant(tokens),
+            Kind::Number => number_constant(self.alloc, tokens),
+            Kind::Text => text_constant(self.alloc, tokens),
+            Kind::Slash | Kind::SlashAssign => ere_constant(self.alloc, tokens),
             Kind::LeftParen => self.group(tokens),
             Kind::FunctionName => self.called(tokens),
             Kind::Getline => self.getline(tokens),
@@ -169,20 +209,6 @@ impl<F: Fn(Global, &mut Cursor<'_>, usize, Wanted) -> Result<Boxed<Expr>, ParseE
         }
     }
 
-    /// The place with the `++` or `--` directly behind it.
-    #[tactic(auto, unfolding(crate::specs::Expression::changed))]
-    pub fn changed(&self, tokens: &mut Cursor<'_>, place: Place) -> Result<Boxed<Expr>, ParseError>
-        ensures { Parses (spec.changed self.now.depth (spec.expression self.now.depth) place tokens.old) result tokens.new }
-    {
-        match change(tokens.peek()) {
-            None => Ok(Boxed::new(self.alloc, Expr::Of(place))?),
-            Some(change) => {
-                tokens.take();
-                Ok(Boxed::new(self.alloc, Expr::After(change, place))?)
-            }
-        }
-    }
-
     #[tactic(auto, unfolding(crate::specs::Expression::postfix))]
     pub fn postfix(&self, tokens: &mut Cursor<'_>) -> Result<Boxed<Expr>, ParseError>
         requires { Nests self.now.depth (F.pre self.now.expression) (F.post self.now.expression) }
@@ -193,7 +219,7 @@ impl<F: Fn(Global, &mut Cursor<'_>, usize, Wanted) -> Result<Boxed<Expr>, ParseE
             Kind::Decrement => self.changed_before(tokens, Change::Decrement),
             Kind::Name | Kind::Dollar => {
                 let place = self.place(tokens)?;
-                self.changed(tokens, place)
+                changed(self.alloc, tokens, place)
             }
             _ => self.primary(tokens),
         }

@@ -24,7 +24,7 @@ pub enum Local {
 
 /// What is kept of an activation beside its locals: its function, where its locals begin, how many arrays there were before it,
 /// its calling point with its site, and the place of the code to which it returns.
-#[derive(Clone, Copy, Debug)]
+#[derive(Clone, Copy)]
 pub struct Activation {
     pub function: usize,
     pub base: usize,

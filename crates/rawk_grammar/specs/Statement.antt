@@ -117,16 +117,23 @@ optional_test d = λ i. if sees k.Semicolon i then Ok (None, i) else and_then (e
 unfoldable pub semicolon : Parser (Unit {0})
 semicolon = expect k.Semicolon >> (λ i. Ok (tt, newlines i))
 
+-- the last part of a head, and the parenthesis behind it
+abbrev pub head_end : ℕ → Option Stmt → ℕ → Option Expr → Parser Head
+head_end d first place test = do
+  last ← optional_simple k.RightParen d
+  expect k.RightParen
+  pure (head_of first place test last)
+
+-- a head behind its first part and the semicolon
+abbrev pub head_rest : ℕ → Option Stmt → Parser Head
+head_rest d first = λ i. and_then (optional_test d i) (λ test. semicolon >> head_end d first (left i) test)
+
 -- the head of a `for` that counts, behind its parenthesis
 unfoldable pub head : ℕ → Parser Head
 head d = do
   first ← optional_simple k.Semicolon d
   semicolon
-  (λ i. and_then (optional_test d i) (λ test. (do
-    semicolon
-    last ← optional_simple k.RightParen d
-    expect k.RightParen
-    pure (head_of first (left i) test last))))
+  head_rest d first
 
 -- a name, `in`, a name and a closing parenthesis come next
 unfoldable pub sees_member : Input → Bool
@@ -135,6 +142,10 @@ sees_member i = sees k.Name i && (sees k.In (next i) && (sees k.Name (next (next
 -- an `else` behind newlines or none, with the newlines behind it
 unfoldable pub other : Parser Bool
 other = λ i. if sees k.Else (newlines i) then Ok (true, newlines (next (newlines i))) else Ok (false, i)
+
+-- the condition of a `do`, behind its body and the newlines there
+abbrev pub do_end : ℕ → Stmt → Parser Stmt
+do_end d body = expect k.While >> (do test ← enclosed d; end; pure (tree.Do body test))
 
 -- ---- rules that open a construct; `deeper` parses the statements in it
 
@@ -153,13 +164,17 @@ module _ (d : ℕ) (deeper : Context → Parser Stmt) (c : Context) where
   unfoldable pub branch : Parser Branch
   branch = do test ← condition d; body ← deeper c; pure (branch_of test body)
 
+  -- the statement behind branches and the last `else`
+  abbrev pub chain_end : List Branch → Parser Stmt
+  chain_end found = do s ← deeper c; pure (tree.If found (Some s))
+
   -- branches, behind the first `if`; the number bounds the turns
   unfoldable pub chain_from : ℕ → List Branch → Parser Stmt
   chain_from zero found = refuse
   chain_from (suc n) found = do
     b ← branch
     has ← other
-    if has then (do again ← eat k.If; if again then chain_from n (found ++ b ∷ []) else (do s ← deeper c; pure (tree.If (found ++ b ∷ []) (Some s)))) else pure (tree.If (found ++ b ∷ []) None)
+    if has then (do again ← eat k.If; if again then chain_from n (found ++ b ∷ []) else chain_end (found ++ b ∷ [])) else pure (tree.If (found ++ b ∷ []) None)
 
   unfoldable pub chain : Parser Stmt
   chain = λ i. chain_from (left i) [] i
@@ -168,7 +183,7 @@ module _ (d : ℕ) (deeper : Context → Parser Stmt) (c : Context) where
   while_loop = do test ← condition d; body ← deeper (looped c); pure (tree.While test body)
 
   unfoldable pub do_loop : Parser Stmt
-  do_loop = λ i. and_then (deeper (looped c) (newlines i)) (λ body j. and_then (expect k.While (newlines j)) (λ _. (do test ← enclosed d; end; pure (tree.Do body test))))
+  do_loop = λ i. and_then (deeper (looped c) (newlines i)) (λ body j. do_end d body (newlines j))
 
   -- over an array, behind the parenthesis
   unfoldable pub member_loop : ℕ → Parser Stmt

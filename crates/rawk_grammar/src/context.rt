@@ -5,7 +5,7 @@ ghost use Rattle.std.specs.Prelude.{◌≡◌};
 use rawk_lexer::Kind;
 
 /// Whose body a statement stands in.
-#[derive(Clone, Copy, Debug, PartialEq, Eq)]
+#[derive(Clone, Copy, PartialEq, Eq)]
 pub enum Owner {
     /// a BEGIN or END action
     BeginOrEnd,
@@ -16,7 +16,7 @@ pub enum Owner {
 }
 
 /// What a statement stands in.
-#[derive(Clone, Copy, Debug, PartialEq, Eq)]
+#[derive(Clone, Copy, PartialEq, Eq)]
 pub struct Context {
     pub owner: Owner,
     /// whether a loop is open

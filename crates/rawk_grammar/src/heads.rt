@@ -4,7 +4,7 @@ ghost use Rattle.std.specs.Prelude.{◌≡◌, Ok};
 ghost use Rattle.rawk_parsing.specs.Parser.{Parses};
 ghost use Rattle.rawk_grammar.specs.Statement as spec;
 
-use crate::simple::simple;
+use crate::simple::{boxed, simple};
 use crate::tree::{Condition, Head, Stmt};
 use rawk_expression::{Wanted, expression};
 use rawk_items::Boxed;
@@ -57,7 +57,7 @@ fn optional_simple(
         return Ok(None);
     }
     let simple = simple(alloc, tokens, depth)?;
-    Ok(Some(Boxed::new(alloc, Stmt::Simple(simple))?))
+    Ok(Some(boxed(alloc, Stmt::Simple(simple))?))
 }
 
 #[tactic(auto, unfolding(crate::specs::Statement::optional_test))]
@@ -84,16 +84,18 @@ fn semicolon(tokens: &mut Cursor<'_>) -> Result<(), ParseError>
     Ok(())
 }
 
-/// The head of a `for` that counts, behind its parenthesis.
-#[tactic(auto, unfolding(crate::specs::Statement::head, crate::specs::Statement::head_of))]
-pub fn head(alloc: Global, tokens: &mut Cursor<'_>, depth: usize) -> Result<Boxed<Head>, ParseError>
-    ensures { Parses (spec.head depth tokens.old) result tokens.new }
+/// The last part of a head, and the parenthesis behind it.
+#[tactic(auto, unfolding(crate::specs::Statement::head_of))]
+fn head_end(
+    alloc: Global,
+    tokens: &mut Cursor<'_>,
+    depth: usize,
+    first: Option<Boxed<Stmt>>,
+    left: usize,
+    test: Option<Boxed<Expr>>,
+) -> Result<Boxed<Head>, ParseError>
+    ensures { Parses (spec.head_end depth first left test tokens.old) result tokens.new }
 {
-    let first = optional_simple(alloc, tokens, Kind::Semicolon, depth)?;
-    semicolon(tokens)?;
-    let left = tokens.left();
-    let test = optional_test(alloc, tokens, depth)?;
-    semicolon(tokens)?;
     let last = optional_simple(alloc, tokens, Kind::RightParen, depth)?;
     expect(tokens, Kind::RightParen)?;
     Ok(Boxed::new(
@@ -105,6 +107,31 @@ pub fn head(alloc: Global, tokens: &mut Cursor<'_>, depth: usize) -> Result<Boxe
             last,
         },
     )?)
+}
+
+/// A head behind its first part and the semicolon.
+fn head_rest(
+    alloc: Global,
+    tokens: &mut Cursor<'_>,
+    depth: usize,
+    first: Option<Boxed<Stmt>>,
+) -> Result<Boxed<Head>, ParseError>
+    ensures { Parses (spec.head_rest depth first tokens.old) result tokens.new }
+{
+    let left = tokens.left();
+    let test = optional_test(alloc, tokens, depth)?;
+    semicolon(tokens)?;
+    head_end(alloc, tokens, depth, first, left, test)
+}
+
+/// The head of a `for` that counts, behind its parenthesis.
+#[tactic(auto, unfolding(crate::specs::Statement::head))]
+pub fn head(alloc: Global, tokens: &mut Cursor<'_>, depth: usize) -> Result<Boxed<Head>, ParseError>
+    ensures { Parses (spec.head depth tokens.old) result tokens.new }
+{
+    let first = optional_simple(alloc, tokens, Kind::Semicolon, depth)?;
+    semicolon(tokens)?;
+    head_rest(alloc, tokens, depth, first)
 }
 
 /// Whether a name, `in`, a name and a closing parenthesis come next.

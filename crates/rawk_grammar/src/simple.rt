@@ -1,6 +1,7 @@
 //! Simple statements, jumps, and what stands in the parentheses of heads.
 
-ghost use Rattle.std.specs.Prelude.{◌≡◌};
+ghost use Rattle.std.specs.Prelude.{◌≡◌, IfOk, IfErr};
+ghost use Rattle.rawk_parsing.specs.declared.parse_error.ParseError.TheVariants.{OutOfMemory};
 ghost use Rattle.rawk_parsing.specs.Parser.{Parses};
 ghost use Rattle.rawk_lexer.specs.Lex.{kind as the_kind};
 ghost use Rattle.rawk_grammar.specs.Statement as spec;
@@ -14,6 +15,14 @@ use rawk_parsing::tokens::{refuse, sees};
 use rawk_parsing::tree::Expr;
 use rawk_parsing::{ParseError, RefusalKind};
 use std::alloc::Global;
+
+/// A statement on the heap.
+pub fn boxed(alloc: Global, stmt: Stmt) -> Result<Boxed<Stmt>, ParseError>
+    ensures made { IfOk result (λ s. s ≡ stmt) }
+    ensures refused { IfErr result (λ e. e ≡ OutOfMemory) }
+{
+    Ok(Boxed::new(alloc, stmt)?)
+}
 
 /// What may stand directly behind a statement.
 fn closes(kind: Kind) -> bool
@@ -117,7 +126,7 @@ pub fn ended(
 {
     let simple = simple(alloc, tokens, depth)?;
     end(tokens)?;
-    Ok(Boxed::new(alloc, Stmt::Simple(simple))?)
+    boxed(alloc, Stmt::Simple(simple))
 }
 
 #[tactic(auto, unfolding(crate::specs::Statement::optional_value))]
@@ -169,7 +178,7 @@ fn jump(alloc: Global, tokens: &mut Cursor<'_>, depth: usize) -> Result<Boxed<St
     let left = tokens.left();
     let jump = Boxed::new(alloc, jump_by(alloc, tokens, depth)?)?;
     end(tokens)?;
-    Ok(Boxed::new(alloc, Stmt::Jump(left, jump))?)
+    boxed(alloc, Stmt::Jump(left, jump))
 }
 
 /// A jump and its end; one that may not stand here is misplaced.

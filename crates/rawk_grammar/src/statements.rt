@@ -8,7 +8,7 @@ ghost use Rattle.rawk_grammar.specs.Nests.{Nests};
 use crate::context::Context;
 use crate::dangling::other_behind;
 use crate::heads::{condition, enclosed, head, sees_member};
-use crate::simple::{end, ended, placed_jump};
+use crate::simple::{boxed, end, ended, placed_jump};
 use crate::tree::{Branch, Stmt};
 use rawk_items::{Boxed, Items};
 use rawk_lexer::{Cursor, Kind};
@@ -16,8 +16,23 @@ use rawk_parsing::tokens::{eat, expect, name, refuse, sees, skip_newlines};
 use rawk_parsing::{ParseError, RefusalKind};
 use std::alloc::Global;
 
+/// The condition of a `do`, behind its body and the newlines there.
+fn do_end(
+    alloc: Global,
+    tokens: &mut Cursor<'_>,
+    depth: usize,
+    body: Boxed<Stmt>,
+) -> Result<Boxed<Stmt>, ParseError>
+    ensures { Parses (spec.do_end depth body tokens.old) result tokens.new }
+{
+    expect(tokens, Kind::While)?;
+    let condition = enclosed(alloc, tokens, depth)?;
+    end(tokens)?;
+    boxed(alloc, Stmt::Do(body, condition))
+}
+
 /// The rules that hold statements take the parser of those as a parameter, so that each is proved by itself.
-#[derive(Clone, Copy)]
+#[derive(Drop)]
 pub struct Rules<F> {
     alloc: Global,
     /// how many constructs may still be opened
@@ -63,6 +78,19 @@ impl<F: Fn(Global, &mut Cursor<'_>, usize, Context) -> Result<Boxed<Stmt>, Parse
         Ok(Boxed::new(self.alloc, Branch { condition, body })?)
     }
 
+    /// The statement behind branches and the last `else`.
+    fn chain_end(
+        &self,
+        tokens: &mut Cursor<'_>,
+        branches: Items<Boxed<Branch>>,
+    ) -> Result<Boxed<Stmt>, ParseError>
+        requires { Nests self.now.depth (F.pre self.now.statement) (F.post self.now.statement) }
+        ensures { Parses (spec.chain_end self.now.depth (spec.statement self.now.depth) self.now.context branches tokens.old) result tokens.new }
+    {
+        let last = self.deeper(tokens, self.context)?;
+        boxed(self.alloc, Stmt::If(branches, Some(last)))
+    }
+
     /// Branches that `else if` joins, behind the first `if`.
     fn chain(&self, tokens: &mut Cursor<'_>) -> Result<Boxed<Stmt>, ParseError>
         requires { Nests self.now.depth (F.pre self.now.statement) (F.post self.now.statement) }
@@ -74,11 +102,10 @@ impl<F: Fn(Global, &mut Cursor<'_>, usize, Context) -> Result<Boxed<Stmt>, Parse
             let goes_on = other_behind(branch.get(), tokens);
             branches.push(branch)?;
             if !goes_on {
-                return Ok(Boxed::new(self.alloc, Stmt::If(branches, None))?);
+                return boxed(self.alloc, Stmt::If(branches, None));
             }
             if !eat(tokens, Kind::If) {
-                let last = self.deeper(tokens, self.context)?;
-                return Ok(Boxed::new(self.alloc, Stmt::If(branches, Some(last)))?);
+                return self.chain_end(tokens, branches);
             }
         }
         Err(refuse(tokens))
@@ -91,7 +118,7 @@ impl<F: Fn(Global, &mut Cursor<'_>, usize, Context) -> Result<Boxed<Stmt>, Parse
     {
         let condition = condition(self.alloc, tokens, self.depth)?;
         let body = self.deeper(tokens, self.context.looped())?;
-        Ok(Boxed::new(self.alloc, Stmt::While(condition, body))?)
+        boxed(self.alloc, Stmt::While(condition, body))
     }
 
     #[tactic(auto, unfolding(crate::specs::Statement::do_loop))]
@@ -102,10 +129,7 @@ impl<F: Fn(Global, &mut Cursor<'_>, usize, Context) -> Result<Boxed<Stmt>, Parse
         skip_newlines(tokens);
         let body = self.deeper(tokens, self.context.looped())?;
         skip_newlines(tokens);
-        expect(tokens, Kind::While)?;
-        let condition = enclosed(self.alloc, tokens, self.depth)?;
-        end(tokens)?;
-        Ok(Boxed::new(self.alloc, Stmt::Do(body, condition))?)
+        do_end(self.alloc, tokens, self.depth, body)
     }
 
     /// A `for` over an array, behind its parenthesis.
@@ -120,7 +144,7 @@ impl<F: Fn(Global, &mut Cursor<'_>, usize, Context) -> Result<Boxed<Stmt>, Parse
         tokens.take();
         skip_newlines(tokens);
         let body = self.deeper(tokens, self.context.looped())?;
-        Ok(Boxed::new(self.alloc, Stmt::ForIn(place, variable, array, body))?)
+        boxed(self.alloc, Stmt::ForIn(place, variable, array, body))
     }
 
     /// A `for` that counts, behind its parenthesis.
@@ -132,7 +156,7 @@ impl<F: Fn(Global, &mut Cursor<'_>, usize, Context) -> Result<Boxed<Stmt>, Parse
         let head = head(self.alloc, tokens, self.depth)?;
         skip_newlines(tokens);
         let body = self.deeper(tokens, self.context.looped())?;
-        Ok(Boxed::new(self.alloc, Stmt::For(head, body))?)
+        boxed(self.alloc, Stmt::For(head, body))
     }
 
     #[tactic(auto, unfolding(crate::specs::Statement::for_loop))]
@@ -161,7 +185,7 @@ impl<F: Fn(Global, &mut Cursor<'_>, usize, Context) -> Result<Boxed<Stmt>, Parse
         match kind {
             Kind::LeftBrace => {
                 let statements = self.block(tokens)?;
-                Ok(Boxed::new(self.alloc, Stmt::Block(statements))?)
+                boxed(self.alloc, Stmt::Block(statements))
             }
             Kind::If => self.chain(tokens),
             Kind::While => self.while_loop(tokens),
@@ -193,7 +217,7 @@ impl<F: Fn(Global, &mut Cursor<'_>, usize, Context) -> Result<Boxed<Stmt>, Parse
         match tokens.peek() {
             Kind::Semicolon => {
                 tokens.take();
-                Ok(Boxed::new(self.alloc, Stmt::Empty)?)
+                boxed(self.alloc, Stmt::Empty)
             }
             Kind::LeftBrace | Kind::If | Kind::While | Kind::Do | Kind::For => self.compound(
                 tokens,

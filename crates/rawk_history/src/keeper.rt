@@ -83,7 +83,7 @@ pub trait Keeper: Drop {
 }
 
 /// Forgets each step.
-#[derive(Clone, Copy, Debug)]
+#[derive(Clone, Copy)]
 pub struct Off;
 
 impl Keeper for Off {

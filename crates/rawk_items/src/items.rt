@@ -5,7 +5,7 @@ use std::alloc::{AllocError, Global};
 use std::marker::Model;
 
 /// Values in a row, which contracts see as their list.
-#[derive(Debug, Drop)]
+#[derive(Drop)]
 pub struct Items<T> {
     held: Vec<T>,
 }

@@ -7,7 +7,7 @@ use crate::bytes::byte_at;
 use crate::ere;
 use crate::token::{Kind, WORDS};
 
-#[derive(Clone, Copy, Debug)]
+#[derive(Clone, Copy)]
 pub(crate) enum Class {
     Blank,
     Digit,

@@ -1,6 +1,6 @@
 //! The way back, over the parts.
 
-ghost use Rattle.std.specs.Prelude.{◌≡◌, ◌∷◌, ◌++◌, [], List, OnOk, OnErr, length, reverse};
+ghost use Rattle.std.specs.Prelude.{◌≡◌, ◌∷◌, ◌++◌, ◌<◌, [], List, OnOk, OnErr, length, reverse, vec_capacity, vec_len};
 ghost use Rattle.rawk_code.specs.Actions.{SetAt};
 ghost use Rattle.rawk_store.specs.Groups.{Group};
 ghost use Rattle.rawk_history.specs.Steps.{Kept};
@@ -53,7 +53,7 @@ fn assign(store: &mut Store, target: Target, value: Value) -> Result<(), AllocEr
 }
 
 /// Writes a place as a change of its own, whose group stands behind the others. It fails where memory is refused, and then nothing has changed.
-pub fn write(
+fn write(
     alloc: Global,
     store: &mut Store,
     here: &mut Vec<Group>,
@@ -73,4 +73,28 @@ pub fn write(
     let group = store.finish(alloc);
     here.push(group)?;
     Ok(())
+}
+
+/// Writes a copy of a value to a place, as `write` does, with room left for one more set.
+pub fn write_copy(
+    alloc: Global,
+    store: &mut Store,
+    here: &mut Vec<Group>,
+    sets: &mut Vec<SetAt>,
+    target: Target,
+    value: &Value,
+) -> Result<(), AllocError>
+    requires rest { start_of store.old ≡ now_of store.old }
+    ensures did { OnOk result (IsWritten target value.now (now_of store.old) (now_of store.new)) }
+    ensures back { OnOk result ((g : Group) × (here.new.items ≡ here.old.items ++ g ∷ []) × (put_back (now_of store.new) g ≡ now_of store.old) × FitsIn g (now_of store.new)) }
+    ensures sound { OnOk result (IsSound (now_of store.new)) }
+    ensures room { OnOk result (vec_len sets.new < vec_capacity sets.new) }
+    ensures sets { sets.new.items ≡ sets.old.items }
+    ensures err { OnErr result (now_of store.new ≡ now_of store.old) }
+    ensures stays { OnErr result (here.new.items ≡ here.old.items) }
+    ensures rest { start_of store.new ≡ now_of store.new }
+{
+    sets.reserve(1)?;
+    let copy = value.copy(alloc)?;
+    write(alloc, store, here, target, copy)
 }

@@ -1,7 +1,7 @@
 //! The last move of a machine.
 
 /// The last move, from which what was seen before it can be handed.
-#[derive(Clone, Copy, Debug)]
+#[derive(Clone, Copy)]
 pub enum LastMove {
     /// none, or something was set or taken back since
     Nothing,

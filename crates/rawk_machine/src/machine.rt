@@ -16,10 +16,10 @@ ghost use Rattle.rawk_travel.specs.Asking.{Draws};
 ghost use Rattle.rawk_travel.specs.Moving.{ending_of};
 
 use crate::arrival::{site_at, step};
-use crate::back::{go_back, keep_below, write};
+use crate::back::{go_back, keep_below, write_copy};
 use crate::journal::journaled;
 use crate::last_move::LastMove;
-use crate::start::{add_ranges, copy_settings, fill_globals};
+use crate::start::{copy_settings, fill_first};
 use crate::step::Step;
 use rawk_code::{Code, SetAt, Settings};
 use rawk_history::{Keeper, Off, saved_in_groups};
@@ -107,10 +107,16 @@ fn first_store(alloc: Global, code: &Code, settings: &Settings) -> Result<Store,
     ensures { IfOk result (λ s. IsFirst code.now settings.now s) }
 {
     let mut store = Store::new(alloc, settings.seed(), first_registers());
-    fill_globals(alloc, &mut store.globals, code.names(), settings.as_slice())?;
-    add_ranges(&mut store.ranges, code.ranges())?;
-    store.forget();
-    Ok(store)
+    match fill_first(alloc, &mut store.globals, &mut store.ranges, code, settings) {
+        Ok(()) => {
+            store.forget();
+            Ok(store)
+        }
+        Err(refused) => {
+            drop(store);
+            Err(refused)
+        }
+    }
 }
 
 /// A copy of the first values, and the parts before the first instruction. It fails where memory is refused.
@@ -156,11 +162,14 @@ impl<R: Source + Drop, K: Keeper> Machine<R, K> {
         ensures stood { IfOk result (λ m. (input : Input) → MayCome R.may_give m [] input → Stood m input) }
         ensures err { IfErr result (λ refused. Unstood R.may_give R.handed code settings.now source steps refused.1) }
     {
-        let (settings, store) = match first_parts(alloc, &code, settings) {
+        let (settings, mut store) = match first_parts(alloc, &code, settings) {
             Ok(parts) => parts,
-            Err(refused) => return Err((refused, source)),
+            Err(refused) => {
+                drop(code);
+                drop(keeper);
+                return Err((refused, source));
+            }
         };
-        let mut store = store;
         let mut tape = Tape::new(alloc, source);
         let mut executed = Count::new();
         let mut reach = Reach::Wide;
@@ -175,7 +184,13 @@ impl<R: Source + Drop, K: Keeper> Machine<R, K> {
             steps,
         ) {
             Ok(()) => {}
-            Err(refused) => return Err((refused, tape.into_source())),
+            Err(refused) => {
+                drop(code);
+                drop(settings);
+                drop(store);
+                drop(keeper);
+                return Err((refused, tape.into_source()));
+            }
         }
         store.forget();
         Ok(Machine {
@@ -294,13 +309,14 @@ impl<R: Source + Drop, K: Keeper> Machine<R, K> {
         ensures may { (gone : Bytes) (input : Input) → MayCome R.may_give self.new gone input ↔ MayCome R.may_give self.old gone input }
         ensures stood { (input : Input) → Stood self.old input → Stood self.new input }
     {
-        let Some(group) = self.here.pop() else {
+        let Some(mut group) = self.here.pop() else {
             return false;
         };
-        let mut group = group;
         self.store.undo(&mut group);
+        drop(group);
         self.tape.consume(self.store.registers.now.consumed);
-        let _last = self.sets.pop();
+        let last = self.sets.pop();
+        drop(last);
         self.last = LastMove::Nothing;
         true
     }
@@ -322,9 +338,20 @@ impl<R: Source + Drop, K: Keeper> Machine<R, K> {
         ensures stood { (input : Input) → Stood self.old input → Stood self.new input }
     {
         let _consumed = self.tape.consumed();
-        let kept = value.copy(alloc)?;
-        self.sets.reserve(1)?;
-        write(alloc, &mut self.store, &mut self.here, target, kept)?;
+        match write_copy(
+            alloc,
+            &mut self.store,
+            &mut self.here,
+            &mut self.sets,
+            target,
+            &value,
+        ) {
+            Ok(()) => {}
+            Err(refused) => {
+                drop(value);
+                return Err(refused);
+            }
+        }
         self.sets.push(SetAt {
             point: self.point,
             target,

@@ -5,7 +5,7 @@ ghost use Rattle.rawk_value.specs.declared.value.Value.{Value};
 ghost use Rattle.rawk_special.specs.Special.{first_specials};
 ghost use Rattle.rawk_code.specs.Trace.{with_first, settled};
 
-use rawk_code::{FirstValue, Settings};
+use rawk_code::{Code, FirstValue, Settings};
 use rawk_special::{COUNT, first_value, global_number};
 use rawk_store::{Cells, Ranges};
 use rawk_value::{Bytes, Value};
@@ -33,7 +33,7 @@ fn add_others(globals: &mut Cells, names: &[Bytes]) -> Result<(), AllocError>
 }
 
 /// The ranges, which are off. It fails where memory is refused.
-pub fn add_ranges(ranges: &mut Ranges, count: usize) -> Result<(), AllocError>
+fn add_ranges(ranges: &mut Ranges, count: usize) -> Result<(), AllocError>
     requires { ranges.old.now ≡ [] }
     ensures { OnOk result (ranges.new.now ≡ replicate count false) }
 {
@@ -77,7 +77,7 @@ fn settle_all(
 }
 
 /// The globals before the first instruction. It fails where memory is refused.
-pub fn fill_globals(
+fn fill_globals(
     alloc: Global,
     globals: &mut Cells,
     names: &[Bytes],
@@ -89,6 +89,23 @@ pub fn fill_globals(
     add_specials(alloc, globals)?;
     add_others(globals, names)?;
     settle_all(alloc, globals, names, settings)
+}
+
+/// The globals and the ranges before the first instruction. It fails where memory is refused.
+pub fn fill_first(
+    alloc: Global,
+    globals: &mut Cells,
+    ranges: &mut Ranges,
+    code: &Code,
+    settings: &Settings,
+) -> Result<(), AllocError>
+    requires globals { globals.old.now ≡ [] }
+    requires ranges { ranges.old.now ≡ [] }
+    ensures globals { OnOk result (globals.new.now ≡ settled code.now.names settings.now (first_specials ++ replicate (length code.now.names) Value.Uninitialized)) }
+    ensures ranges { OnOk result (ranges.new.now ≡ replicate code.now.ranges false) }
+{
+    fill_globals(alloc, globals, code.names(), settings.as_slice())?;
+    add_ranges(ranges, code.ranges())
 }
 
 /// A copy of first values. It fails where memory is refused.

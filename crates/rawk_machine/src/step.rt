@@ -3,7 +3,7 @@
 use rawk_value::Fault;
 
 /// Where an advance arrives.
-#[derive(Clone, Copy, Debug, PartialEq, Eq)]
+#[derive(Clone, Copy, PartialEq, Eq)]
 pub enum Step {
     /// at the next point
     At,

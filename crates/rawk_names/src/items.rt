@@ -1,6 +1,6 @@
 //! The names that the parts of a program define, and those that they mention.
 
-ghost use Rattle.std.specs.Prelude.{◌≡◌, IfOk, OnOk};
+ghost use Rattle.std.specs.Prelude.{◌≡◌, OnOk};
 ghost use Rattle.rawk_names.specs.Items as spec;
 ghost use Rattle.rawk_names.specs.Noted.{noted_all, shown};
 
@@ -14,23 +14,30 @@ use rawk_special::{COUNT, FIELD_COUNT, is_special, special_name};
 use std::alloc::{AllocError, Global};
 
 impl Register {
-    /// Only the special variables.
-    fn new(alloc: Global) -> Result<Register, AllocError>
-        ensures { IfOk result (λ r. shown r ≡ spec.start) }
+    /// No names.
+    pub fn empty(alloc: Global) -> Register
+        ensures { shown result ≡ spec.empty }
     {
-        let mut register = Register {
+        Register {
             scope: 0,
             functions: Table::new(alloc),
             signatures: Vec::new(alloc),
             variables: Table::new(alloc),
             patterns: Table::new(alloc),
             uses: Vec::new(alloc),
-        };
-        register.add_variable(alloc, 0, FIELD_COUNT)?;
-        for number in 0..COUNT {
-            register.add_variable(alloc, 0, special_name(number))?;
         }
-        Ok(register)
+    }
+
+    /// Only the special variables, where there are no names yet.
+    fn add_specials(&mut self, alloc: Global) -> Result<(), AllocError>
+        requires { shown self.old ≡ spec.empty }
+        ensures { OnOk result (shown self.new ≡ spec.start) }
+    {
+        self.add_variable(alloc, 0, FIELD_COUNT)?;
+        for number in 0..COUNT {
+            self.add_variable(alloc, 0, special_name(number))?;
+        }
+        Ok(())
     }
 
     fn add_variable(&mut self, alloc: Global, scope: usize, word: &[u8]) -> Result<(), AllocError>
@@ -211,14 +218,14 @@ impl Register {
         Ok(())
     }
 
-    /// What a program says of its names.
+    /// What a program says of its names, where there are none yet.
     #[tactic(auto, unfolding(crate::specs::Items::program))]
-    pub fn of(alloc: Global, items: &[Item]) -> Result<Register, AllocError>
-        ensures { IfOk result (λ r. shown r ≡ spec.program items.now) }
+    pub fn read(&mut self, alloc: Global, items: &[Item]) -> Result<(), AllocError>
+        requires { shown self.old ≡ spec.empty }
+        ensures { OnOk result (shown self.new ≡ spec.program items.now) }
     {
-        let mut register = Register::new(alloc)?;
-        register.define_items(alloc, items)?;
-        register.note_items(alloc, items)?;
-        Ok(register)
+        self.add_specials(alloc)?;
+        self.define_items(alloc, items)?;
+        self.note_items(alloc, items)
     }
 }

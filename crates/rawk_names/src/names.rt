@@ -3,7 +3,7 @@
 ghost use Rattle.std.specs.Prelude.{◌≡◌, ◌<◌, ◌+◌, ◌-◌, ℕ, Some, IfOk, IfErr, MatchBool, MatchOption, length, slice_get};
 ghost use Rattle.rawk_keys.specs.ArrayKey.{ArrayKey, array_key};
 ghost use Rattle.rawk_names.specs.Table.{place_of};
-ghost use Rattle.rawk_names.specs.Items.{program};
+ghost use Rattle.rawk_names.specs.Items.{empty, program};
 ghost use Rattle.rawk_names.specs.Marking.{is_marked};
 ghost use Rattle.rawk_names.specs.Noted.{shown};
 ghost use Rattle.rawk_names.specs.Named.{AreArrays, AreReadable, IsBad, IsBadPlace, IsFirst, IsFirstBad, IsNamed, IsReadable, IsRefused, NoMisuse, end_of_last, is_misuse, is_pattern, known, known_from, meaning_of, pattern_left, variable_of};
@@ -18,7 +18,7 @@ use rawk_grammar::tree::Item;
 use std::alloc::{AllocError, Global};
 
 /// Why the names of a program are refused. A place is the number of bytes from there to the end of the text.
-#[derive(Clone, Copy, Debug, PartialEq, Eq)]
+#[derive(Clone, Copy, PartialEq, Eq)]
 pub enum NameError {
     OutOfMemory,
     /// The place of a regular expression that is none, or too large: of the first such pattern, where it stands first.
@@ -40,7 +40,7 @@ impl From<AllocError> for NameError {
 }
 
 /// What a name is.
-#[derive(Clone, Copy, Debug, PartialEq, Eq)]
+#[derive(Clone, Copy, PartialEq, Eq)]
 pub enum Meaning {
     /// functions are numbered from 0 in the order of their definitions
     Function(usize),
@@ -49,7 +49,7 @@ pub enum Meaning {
 }
 
 /// What a variable is.
-#[derive(Clone, Copy, Debug, PartialEq, Eq)]
+#[derive(Clone, Copy, PartialEq, Eq)]
 pub enum Variable {
     /// NF
     FieldCount,
@@ -197,16 +197,33 @@ fn names_from(register: Register, arrays: Vec<bool>) -> Names
     }
 }
 
-/// The names, where each pattern is a regular expression.
-fn settled(alloc: Global, register: Register) -> Result<Names, NameError>
-    requires { AreReadable register.patterns (length register.patterns) }
-    ensures named { IfOk result (λ n. IsNamed (shown register) (known n)) }
-    ensures refused { IfErr result (IsRefused (shown register)) }
+/// The arrays among the names, where each pattern is a regular expression.
+fn settled(alloc: Global, register: &Register) -> Result<Vec<bool>, NameError>
+    requires { AreReadable register.now.patterns (length register.now.patterns) }
+    ensures named { IfOk result (λ arrays. IsNamed (shown register.now) (known_from register.now arrays.items)) }
+    ensures refused { IfErr result (IsRefused (shown register.now)) }
 {
-    let arrays = arrays_of(alloc, &register)?;
-    match misuse_of(&register, &arrays) {
+    let arrays = arrays_of(alloc, register)?;
+    match misuse_of(register, &arrays) {
         Some(left) => Err(NameError::Misused(left)),
-        None => Ok(names_from(register, arrays)),
+        None => Ok(arrays),
+    }
+}
+
+/// The arrays among the names of a program, which are registered.
+fn registered(
+    alloc: Global,
+    register: &mut Register,
+    items: &[Item],
+) -> Result<Vec<bool>, NameError>
+    requires { shown register.old ≡ empty }
+    ensures named { IfOk result (λ arrays. IsNamed (program items.now) (known_from register.new arrays.items)) }
+    ensures refused { IfErr result (IsRefused (program items.now)) }
+{
+    register.read(alloc, items)?;
+    match bad_of(alloc, register)? {
+        Some(left) => Err(NameError::BadEre(left)),
+        None => settled(alloc, register),
     }
 }
 
@@ -221,10 +238,13 @@ pub fn resolve(alloc: Global, items: &[Item]) -> Result<Names, NameError>
     ensures named { IfOk result (λ n. IsNamed (program items.now) (known n)) }
     ensures refused { IfErr result (IsRefused (program items.now)) }
 {
-    let register = Register::of(alloc, items)?;
-    match bad_of(alloc, &register)? {
-        Some(left) => Err(NameError::BadEre(left)),
-        None => settled(alloc, register),
+    let mut register = Register::empty(alloc);
+    match registered(alloc, &mut register, items) {
+        Ok(arrays) => Ok(names_from(register, arrays)),
+        Err(error) => {
+            drop(register);
+            Err(error)
+        }
     }
 }
 

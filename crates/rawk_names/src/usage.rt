@@ -6,7 +6,7 @@ use rawk_special::COUNT;
 pub const SPECIALS: usize = COUNT + 1;
 
 /// How a name is used. Variables and parameters are places among all variables of the program.
-#[derive(Clone, Copy, Debug, PartialEq, Eq)]
+#[derive(Clone, Copy, PartialEq, Eq)]
 pub enum Manner {
     Scalar,
     Array,
@@ -17,7 +17,7 @@ pub enum Manner {
 }
 
 /// What stands at a place of the text.
-#[derive(Clone, Copy, Debug, PartialEq, Eq)]
+#[derive(Clone, Copy, PartialEq, Eq)]
 pub enum What {
     /// a variable
     Named(Manner, usize),
@@ -30,14 +30,14 @@ pub enum What {
 }
 
 /// One use of a name, with its place: how many bytes there are from there to the end of the text.
-#[derive(Clone, Copy, Debug, PartialEq, Eq)]
+#[derive(Clone, Copy, PartialEq, Eq)]
 pub struct Usage {
     pub left: usize,
     pub what: What,
 }
 
 /// The parameters of a function: the place of the first among all variables, and the place behind the last.
-#[derive(Clone, Copy, Debug, PartialEq, Eq)]
+#[derive(Clone, Copy, PartialEq, Eq)]
 pub struct Signature {
     pub first: usize,
     pub end: usize,

@@ -47,7 +47,7 @@ impl From<AllocError> for S {
 }
 
 /// Where bytes come from.
-#[derive(Debug, PartialEq, Eq, Drop)]
+#[derive(PartialEq, Eq, Drop)]
 pub enum Text {
     Bytes(Vec<u8>),
     Path(String),

@@ -6,7 +6,7 @@ ghost use Rattle.rawk_options.specs.Words as spec;
 use std::alloc::{AllocError, Global};
 
 /// What the next word may be.
-#[derive(Clone, Copy, Debug)]
+#[derive(Clone, Copy)]
 pub(crate) enum Next {
     /// an option or an operand
     Word,

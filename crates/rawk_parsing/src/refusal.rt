@@ -18,7 +18,7 @@ pub enum RefusalKind {
 }
 
 /// A text's refusal.
-#[derive(Clone, Copy, Debug, PartialEq, Eq)]
+#[derive(Clone, Copy, PartialEq, Eq)]
 pub struct Refusal {
     pub kind: RefusalKind,
     /// from 1, or 0 where the whole text is meant

@@ -15,7 +15,7 @@ pub struct Name {
 }
 
 /// What joins two operands.
-#[derive(Clone, Copy, Debug, PartialEq, Eq)]
+#[derive(Clone, Copy, PartialEq, Eq)]
 pub enum Operator {
     Arithmetic(Arithmetic),
     Comparison(Comparison),
@@ -28,14 +28,14 @@ pub enum Operator {
 }
 
 /// What joins two tests.
-#[derive(Clone, Copy, Debug, PartialEq, Eq)]
+#[derive(Clone, Copy, PartialEq, Eq)]
 pub enum Logic {
     And,
     Or,
 }
 
 /// What stands before an operand.
-#[derive(Clone, Copy, Debug, PartialEq, Eq)]
+#[derive(Clone, Copy, PartialEq, Eq)]
 pub enum Sign {
     Plus,
     Minus,
@@ -43,14 +43,14 @@ pub enum Sign {
 }
 
 /// What `++` and `--` do.
-#[derive(Clone, Copy, Debug, PartialEq, Eq)]
+#[derive(Clone, Copy, PartialEq, Eq)]
 pub enum Change {
     Increment,
     Decrement,
 }
 
 /// What an assignment does with the old value.
-#[derive(Clone, Copy, Debug, PartialEq, Eq)]
+#[derive(Clone, Copy, PartialEq, Eq)]
 pub enum Assignment {
     /// `=`
     Plain,
@@ -59,7 +59,7 @@ pub enum Assignment {
 }
 
 /// The built-in functions.
-#[derive(Clone, Copy, Debug, PartialEq, Eq)]
+#[derive(Clone, Copy, PartialEq, Eq)]
 pub enum Function {
     Length,
     Index,

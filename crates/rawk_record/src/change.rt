@@ -13,7 +13,7 @@ use std::alloc::{AllocError, Global};
 use std::mem;
 
 /// What is done to a record.
-#[derive(Debug, Drop)]
+#[derive(Drop)]
 pub enum RecordChange {
     /// It becomes a text with its fields by a field separator; `newline` says whether a newline separates too. Several bytes that are no
     /// extended regular expression change nothing.

@@ -12,7 +12,7 @@ use std::alloc::{AllocError, Global};
 use std::mem;
 
 /// Parts in buffers of their own, or a short record in place.
-#[derive(Debug, Drop)]
+#[derive(Drop)]
 pub enum Held {
     Wide(Parts),
     InPlace(Short),

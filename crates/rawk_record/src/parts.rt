@@ -11,7 +11,7 @@ use rawk_value::Value;
 use std::alloc::Global;
 
 /// A text, the places of its fields, and the fields with values of their own. A record that was read has none of those.
-#[derive(Debug, Drop)]
+#[derive(Drop)]
 pub struct Parts {
     pub text: Vec<u8>,
     pub pieces: Vec<Piece>,

@@ -15,7 +15,7 @@ use rawk_value::Fault;
 use std::alloc::{AllocError, Global};
 
 /// Where a field stands in its text: from `start` up to `end`, in bytes.
-#[derive(Clone, Copy, Debug, PartialEq, Eq)]
+#[derive(Clone, Copy, PartialEq, Eq)]
 pub struct Piece {
     pub start: usize,
     pub end: usize,
@@ -247,7 +247,7 @@ pub(crate) fn cut(
 }
 
 /// The fields of a text, as places in it.
-#[derive(Debug, Drop)]
+#[derive(Drop)]
 pub struct Fields {
     pub pieces: Vec<Piece>,
 }

@@ -16,7 +16,7 @@ use std::alloc::{AllocError, Global};
 use std::marker::Model;
 
 /// A record and its fields.
-#[derive(Debug, Drop)]
+#[derive(Drop)]
 pub struct Record {
     held: Held,
 }

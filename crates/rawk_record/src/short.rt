@@ -12,14 +12,14 @@ use crate::pieces::Piece;
 use std::marker::Model;
 
 /// Where a field stands in a short text: from `start` up to `end`, in bytes.
-#[derive(Clone, Copy, Debug, PartialEq, Eq)]
+#[derive(Clone, Copy, PartialEq, Eq)]
 pub struct ShortPiece {
     pub start: u8,
     pub end: u8,
 }
 
 /// A text of at most 48 bytes with at most 8 fields, none of which has a value of its own. It has no buffers.
-#[derive(Debug, Drop)]
+#[derive(Drop)]
 pub struct Short {
     text: [u8; 48],
     pieces: [ShortPiece; 8],

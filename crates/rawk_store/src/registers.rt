@@ -7,7 +7,7 @@ use rawk_value::Fault;
 use std::mem;
 
 /// Which part of a program runs: BEGIN, the records, or END.
-#[derive(Clone, Copy, Debug, PartialEq, Eq)]
+#[derive(Clone, Copy, PartialEq, Eq)]
 pub enum Phase {
     InBegin,
     InMain,
@@ -15,7 +15,7 @@ pub enum Phase {
 }
 
 /// How a run ended: by itself, by a fault, or at the limit of steps, before the point with this site.
-#[derive(Clone, Copy, Debug, PartialEq, Eq)]
+#[derive(Clone, Copy, PartialEq, Eq)]
 pub enum Ending {
     Ended,
     Faulted(Fault),
@@ -24,7 +24,7 @@ pub enum Ending {
 
 /// The place in the code (from 0), the phase, the exit status, the number of the last point reached at the present depth,
 /// the site of that point, the bytes of the input consumed since bytes were last dropped, and how the run ended.
-#[derive(Clone, Copy, Debug, PartialEq, Eq)]
+#[derive(Clone, Copy, PartialEq, Eq)]
 pub struct Registers {
     pub place: usize,
     pub phase: Phase,
@@ -36,7 +36,7 @@ pub struct Registers {
 }
 
 /// The registers, beside what they were when the step began.
-#[derive(Clone, Copy, Debug)]
+#[derive(Clone, Copy)]
 pub struct Bank {
     pub now: Registers,
     pub start: Registers,

@@ -1,7 +1,7 @@
 //! Places that can be assigned.
 
 /// A place whose subscripts and field number are settled.
-#[derive(Clone, Copy, Debug, PartialEq, Eq)]
+#[derive(Clone, Copy, PartialEq, Eq)]
 pub enum Target {
     /// a global, by its number from 0
     Global(usize),

@@ -1,5 +1,6 @@
 -- What of the parser's tree is covered, from its parts.
-use Rattle.std.proofs.Common.{◌≡◌, ◌≢◌, ℕ, ℤ, ◌+◌, ◌<◌, ◌≤◌, suc, Bool, true, false, not, ◌&&◌, List, [], ◌∷◌, ◌++◌, length, take, drop, map, get_or, Option, Some, None, Result, Err, refl, sym, ap, subst, ◌∙◌, arith}
+use Rattle.std.proofs.Common.{◌≡◌, ◌≢◌, ℕ, ℤ, ◌+◌, ◌<◌, ◌≤◌, suc, Bool, true, false, not, ◌&&◌, List, [], ◌∷◌, ◌++◌, length, take, drop, map, get_or, Option, Some, None, Result, Ok, Err, refl, sym, ap, subst, ◌∙◌, arith}
+use Rattle.std.specs.Result.{result_err}
 use Rattle.std.proofs.lemmas.List.{take_more, take-append-drop, drop_all, length-map}
 use Rattle.std.proofs.Math.Seq.{drop-cons}
 use Rattle.rawk_parsing.specs.declared.parse_error.ParseError.{ParseError}
@@ -62,6 +63,24 @@ first_false a b h = ap (λ x. x && b) h
 pub second_false : (a b : Bool) → b ≡ false → (a && b) ≡ false
 second_false true b h = h
 second_false false b h = refl
+
+all_three : (a b c : Bool) → (a && (b && c)) ≡ ((a && b) && c)
+all_three true b c = refl
+all_three false b c = refl
+
+-- ---- answers that were made of others
+
+pub was_settled : {A : Type 0} (g : Option ParseError) (r : Result A ParseError) → result_err r ≡ None → Judges g r → g ≡ None
+was_settled g (Ok a) none h = h
+was_settled g (Err e) none h = cc
+
+pub was_refused : {A : Type 0} (g : Option ParseError) (r : Result A ParseError) (e : ParseError) → result_err r ≡ Some e → Judges g r → e ≢ OutOfMemory → g ≡ Some e
+was_refused g (Ok a) e some h ne = cc
+was_refused g (Err f) e some h ne = let same : f ≡ e = cc in h (λ z. ne (sym same ∙ z)) ∙ ap Some same
+
+pub judges_on : {A B : Type 0} (g : Option ParseError) (r : Result A ParseError) (q : Result B ParseError) → Judges g r → Judges (result_err r) q → Judges g q
+judges_on g r (Ok b) h made = was_settled g r made h
+judges_on g r (Err e) h made = λ ne. was_refused g r e (made ne) h ne
 
 -- ---- lists
 
@@ -132,27 +151,20 @@ group_covers m e x y is same = ap (covers m) (is ∙ sym (rolls-Group x)) ∙ co
 pub signed_covers : (m : Sense) (e x y : Expr) (s : Sign) → e ≡ tree.Signed s x → y ≡ x → covers m e ≡ covers m y
 signed_covers m e x y s is same = ap (covers m) (is ∙ sym (rolls-Signed s x)) ∙ covers_roll m (expr.Signed s x) ∙ ap (covers m) (sym same)
 
-pub power_covers : (m : Sense) (e x y v w : Expr) → e ≡ tree.Power x v → y ≡ x → w ≡ v → covers m e ≡ (covers m y && covers m w)
-power_covers m e x y v w is same other =
-    ap (covers m) (is ∙ sym (rolls-Power x v)) ∙ covers_roll m (expr.Power x v) ∙ ap (λ a. a && covers m v) (ap (covers m) (sym same)) ∙ ap (λ a. covers m y && a) (ap (covers m) (sym other))
+pub power_covers : (m : Sense) (x y : Expr) → covers m (tree.Power x y) ≡ (covers m x && covers m y)
+power_covers m x y = ap (covers m) (sym (rolls-Power x y)) ∙ covers_roll m (expr.Power x y)
 
-pub chain_covers : (m : Sense) (e x y : Expr) (xs ys : List Link) → e ≡ tree.Chain x xs → y ≡ x → ys ≡ xs → covers m e ≡ (covers m y && each (covers_link m) ys)
-chain_covers m e x y xs ys is same all =
-    ap (covers m) (is ∙ sym (rolls-Chain x xs)) ∙ covers_roll m (expr.Chain x xs) ∙ ap (λ a. covers m x && a) (each_mapped (λ b. b) (covers_link m) xs)
-    ∙ ap (λ a. a && each (covers_link m) xs) (ap (covers m) (sym same)) ∙ ap (λ a. covers m y && a) (ap (each (covers_link m)) (sym all))
+pub chain_covers : (m : Sense) (x : Expr) (xs : List Link) → covers m (tree.Chain x xs) ≡ (covers m x && each (covers_link m) xs)
+chain_covers m x xs = ap (covers m) (sym (rolls-Chain x xs)) ∙ covers_roll m (expr.Chain x xs) ∙ ap (λ a. covers m x && a) (each_mapped (λ b. b) (covers_link m) xs)
 
-pub assign_covers : (m : Sense) (e x y : Expr) (how : Assignment) (p : Place) → e ≡ tree.Assign how p x → y ≡ x → covers m e ≡ ((place_cover m p).sets && ((place_cover m p).reads && covers m y))
-assign_covers m e x y how p is same =
-    ap (covers m) (is ∙ sym (rolls-Assign how p x)) ∙ covers_roll m (expr.Assign how p x) ∙ ap (λ a. (place_cover m p).sets && ((place_cover m p).reads && a)) (ap (covers m) (sym same))
+pub assign_covers : (m : Sense) (how : Assignment) (p : Place) (x : Expr) → covers m (tree.Assign how p x) ≡ (can_change (place_cover m p) && covers m x)
+assign_covers m how p x = ap (covers m) (sym (rolls-Assign how p x)) ∙ covers_roll m (expr.Assign how p x) ∙ all_three (place_cover m p).sets (place_cover m p).reads (covers m x)
 
-pub logic_covers : (m : Sense) (e : Expr) (l : Logic) (xs ys : List Expr) → e ≡ tree.Logic l xs → ys ≡ xs → covers m e ≡ each (covers m) ys
-logic_covers m e l xs ys is all =
-    ap (covers m) (is ∙ sym (rolls-Logic l xs)) ∙ covers_roll m (expr.Logic l xs) ∙ each_mapped (λ b. b) (covers m) xs ∙ ap (each (covers m)) (sym all)
+pub logic_covers : (m : Sense) (l : Logic) (xs : List Expr) → covers m (tree.Logic l xs) ≡ each (covers m) xs
+logic_covers m l xs = ap (covers m) (sym (rolls-Logic l xs)) ∙ covers_roll m (expr.Logic l xs) ∙ each_mapped (λ b. b) (covers m) xs
 
-pub choice_covers : (m : Sense) (e x y v w a b : Expr) → e ≡ tree.Choice x v a → y ≡ x → w ≡ v → b ≡ a → covers m e ≡ (covers m y && (covers m w && covers m b))
-choice_covers m e x y v w a b is one two three =
-    ap (covers m) (is ∙ sym (rolls-Choice x v a)) ∙ covers_roll m (expr.Choice x v a) ∙ ap (λ z. covers m z && (covers m v && covers m a)) (sym one)
-    ∙ ap (λ z. covers m y && (covers m z && covers m a)) (sym two) ∙ ap (λ z. covers m y && (covers m w && covers m z)) (sym three)
+pub choice_covers : (m : Sense) (x y z : Expr) → covers m (tree.Choice x y z) ≡ (covers m x && (covers m y && covers m z))
+choice_covers m x y z = ap (covers m) (sym (rolls-Choice x y z)) ∙ covers_roll m (expr.Choice x y z)
 
 pub before_covers : (m : Sense) (e : Expr) (c : Change) (p : Place) → e ≡ tree.Before c p → covers m e ≡ can_change (place_cover m p)
 before_covers m e c p is = ap (covers m) (is ∙ sym (rolls-Before c p)) ∙ covers_roll m (expr.Before c p)
@@ -165,10 +177,10 @@ none_there None none = refl
 none_there (Some a) none = absurd (none a refl)
 
 -- a call of what the name stands for, or of nothing
-pub call_covers : (m : Sense) (e : Expr) (n : word.Name) (w : List ℕ) (o : Option ℕ) (xs ys : List Expr) → e ≡ tree.Call n xs → w ≡ n.word → o ≡ m.function w → ys ≡ xs → covers m e ≡ (is_there o && each (covers m) ys)
-call_covers m e n w o xs ys is same found all =
-    ap (covers m) (is ∙ sym (rolls-Call n xs)) ∙ covers_roll m (expr.Call n xs) ∙ ap (λ b. is_there (m.function n.word) && b) (each_mapped (λ b. b) (covers m) xs)
-    ∙ ap (λ v. is_there (m.function v) && each (covers m) xs) (sym same) ∙ ap (λ v. is_there v && each (covers m) xs) (sym found) ∙ ap (λ l. is_there o && each (covers m) l) (sym all)
+pub call_covers : (m : Sense) (n : word.Name) (w : List ℕ) (o : Option ℕ) (xs : List Expr) → w ≡ n.word → o ≡ m.function w → covers m (tree.Call n xs) ≡ (is_there o && each (covers m) xs)
+call_covers m n w o xs same found =
+    ap (covers m) (sym (rolls-Call n xs)) ∙ covers_roll m (expr.Call n xs) ∙ ap (λ b. is_there (m.function n.word) && b) (each_mapped (λ b. b) (covers m) xs)
+    ∙ ap (λ v. is_there (m.function v) && each (covers m) xs) (sym same) ∙ ap (λ v. is_there v && each (covers m) xs) (sym found)
 
 -- a call of a built-in function, by its number of arguments
 pub builtin_covers : (m : Sense) (e : Expr) (f : Function) (xs ys : List Expr) → e ≡ tree.Builtin f xs → ys ≡ xs → covers m e ≡ (has_builtin f (length ys) && each (covers m) ys)

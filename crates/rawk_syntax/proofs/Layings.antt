@@ -1,8 +1,10 @@
 -- The steps of settling statements and items, over plain variables.
-use Rattle.std.proofs.Common.{◌≡◌, ℕ, ◌+◌, ◌<◌, suc, List, [], ◌∷◌, ◌++◌, length, take, get_or, Option, None, Some, Result, Ok, Err, IfOk, refl, sym, ap, subst, ◌∙◌, pos, arith}
-use Rattle.std.proofs.lemmas.List.{take_more, map-append}
+use Rattle.std.proofs.Common.{◌≡◌, ℕ, ◌+◌, ◌<◌, suc, List, [], ◌∷◌, ◌++◌, length, take, get_or, Option, None, Some, Result, Ok, Err, IfOk, OnOk, refl, sym, ap, subst, ◌∙◌, pos, arith}
+use Rattle.std.proofs.lemmas.List.{take_more, map-append, length-append}
+use Rattle.std.proofs.lemmas.Result.{IfOk-at_ok}
 use Rattle.std.specs.Global.{Box, Vec}
-use Rattle.std.specs.Result.{result_map_both}
+use Rattle.std.specs.Result.{result_err, result_map_both}
+use Rattle.rawk_parsing.specs.declared.parse_error.ParseError.{ParseError}
 use Rattle.rawk_parsing.specs.declared.tree.Expr as parsed
 use Rattle.rawk_grammar.specs.declared.tree.Act.TheVariants as act
 use Rattle.rawk_grammar.specs.declared.tree.Simple.{Simple}
@@ -26,62 +28,86 @@ use Rattle.rawk_tree.specs.declared.tree.Stmt.TheVariants as tree
 use Rattle.rawk_tree.specs.declared.tree.Branch.{Branch}
 use Rattle.rawk_tree.specs.declared.tree.Expr.TheVariants as expr
 use Rattle.rawk_syntax.specs.declared.statements.LoopHead.{LoopHead}
+use Rattle.rawk_tree.specs.declared.tree.Guard.{Guard}
+use Rattle.rawk_tree.specs.declared.tree.Guard.TheVariants as tree_guard
 use Rattle.rawk_tree.specs.declared.tree.Rule.{Rule}
-use Rattle.rawk_tree.specs.declared.tree.Function.{Function}
 use Rattle.rawk_parsing.specs.declared.tree.Name.{Name}
 use Rattle.rawk_tree.specs.declared.tree.Program.{Program}
+use Rattle.rawk_syntax.specs.Covered.{Judges}
 use Rattle.rawk_syntax.specs.Meant.{Sense}
 use Rattle.rawk_syntax.specs.Settled.{Settles, AnExpr, SomeExprs, Prints}
 use Rattle.rawk_syntax.specs.Laid as spec
-use Rattle.rawk_syntax.specs.Laid.{sited, rule_of, range_of, ranges_of, words_of, Simply, Exits, Returns, Jumps, Tests, Lays, AStmt, SomeStmts, AnOther, SomeBranches, Heads, branch_with, head_with, for_with, Does, Rules, Defines, IsLaidWith}
+use Rattle.rawk_syntax.specs.Laid.{Adds, sited, rule_of, ranges_of, words_of, Simply, Exits, Returns, Jumps, Tests, Lays, AStmt, SomeStmts, AnOther, SomeBranches, Heads, branch_with, head_with, for_with, Does, Guards, Rules, Defines, IsLaidWith}
 
 simple_is : (x : Simple) → x ≡ simple_at x.left x.act
 unfolding simple_at
 simple_is x = refl
 
-pub evaluate_lays : (means : Sense) (text : List ℕ) (x : Simple) (e y : parsed.Expr) (s : Expr) (n : ℕ) (old new : List ℕ)
+evaluates : (means : Sense) (text : List ℕ) (x : Simple) (e y : parsed.Expr) (s : Expr) (n : ℕ) (old new : List ℕ)
     → x.act ≡ act.Evaluate e → y ≡ e → n ≡ length old → new ≡ sited text x.left old → Settles means (AnExpr y s) → Simply text means x (tree.Do n s) old new
-evaluate_lays means text x e y s n old new is same count lines h =
+evaluates means text x e y s n old new is same count lines h =
     let g : Settles means (AnExpr e s) = subst (λ (z : parsed.Expr). Settles means (AnExpr z s)) same h in
     let k : simple_at x.left (act.Evaluate e) ≡ x = sym (simple_is x ∙ ap (simple_at x.left) is) in
     let whole : Simply text means (simple_at x.left (act.Evaluate e)) (tree.Do (length old) s) old (sited text x.left old) = spec.evaluate x.left e g in
     let counted : Simply text means (simple_at x.left (act.Evaluate e)) (tree.Do n s) old new = rw (count, lines) whole in
     subst (λ z. Simply text means z (tree.Do n s) old new) k counted
 
-pub print_lays : (means : Sense) (text : List ℕ) (x : Simple) (es ys : List parsed.Expr) (ss : Vec Expr) (n : ℕ) (old new : List ℕ)
+pub evaluate_lays : (means : Sense) {E : Type 0} (r : Result Expr E) (q : Result Stmt E) (text : List ℕ) (x : Simple) (e y : parsed.Expr) (n : ℕ) (old new : List ℕ)
+    → q ≡ result_map_both (tree.Do n) (λ z. z) r → x.act ≡ act.Evaluate e → y ≡ e → n ≡ length old → new ≡ sited text x.left old → IfOk r (λ s. Settles means (AnExpr y s)) → IfOk q (λ t. Simply text means x t old new)
+evaluate_lays means (Ok s) q text x e y n old new made is same count lines h = rw made (evaluates means text x e y s n old new is same count lines h)
+evaluate_lays means (Err f) q text x e y n old new made is same count lines h = rw made tt
+
+prints : (means : Sense) (text : List ℕ) (x : Simple) (es ys : List parsed.Expr) (ss : Vec Expr) (n : ℕ) (old new : List ℕ)
     → x.act ≡ act.Print es → ys ≡ es → n ≡ length old → new ≡ sited text x.left old → Prints means ys ss.items → Simply text means x (tree.Print n ss) old new
-print_lays means text x es ys ss n old new is same count lines h =
+prints means text x es ys ss n old new is same count lines h =
     let g : Prints means es ss.items = subst (λ (z : List parsed.Expr). Prints means z ss.items) same h in
     let k : simple_at x.left (act.Print es) ≡ x = sym (simple_is x ∙ ap (simple_at x.left) is) in
     let whole : Simply text means (simple_at x.left (act.Print es)) (tree.Print (length old) ss) old (sited text x.left old) = spec.print x.left es ss g in
     let counted : Simply text means (simple_at x.left (act.Print es)) (tree.Print n ss) old new = rw (count, lines) whole in
     subst (λ z. Simply text means z (tree.Print n ss) old new) k counted
 
-pub printf_lays : (means : Sense) (text : List ℕ) (x : Simple) (es ys : List parsed.Expr) (s : Expr) (ss : Vec Expr) (n : ℕ) (old new : List ℕ)
+pub print_lays : (means : Sense) {E : Type 0} (r : Result (Vec Expr) E) (q : Result Stmt E) (text : List ℕ) (x : Simple) (es ys : List parsed.Expr) (n : ℕ) (old new : List ℕ)
+    → q ≡ result_map_both (tree.Print n) (λ z. z) r → x.act ≡ act.Print es → ys ≡ es → n ≡ length old → new ≡ sited text x.left old → IfOk r (λ ss. Prints means ys ss.items) → IfOk q (λ t. Simply text means x t old new)
+print_lays means (Ok ss) q text x es ys n old new made is same count lines h = rw made (prints means text x es ys ss n old new is same count lines h)
+print_lays means (Err f) q text x es ys n old new made is same count lines h = rw made tt
+
+printfs : (means : Sense) (text : List ℕ) (x : Simple) (es ys : List parsed.Expr) (s : Expr) (ss : Vec Expr) (n : ℕ) (old new : List ℕ)
     → x.act ≡ act.Printf es → ys ≡ es → n ≡ length old → new ≡ sited text x.left old → Settles means (SomeExprs ys (s ∷ ss.items)) → Simply text means x (tree.Printf n s ss) old new
-printf_lays means text x es ys s ss n old new is same count lines h =
+printfs means text x es ys s ss n old new is same count lines h =
     let g : Settles means (SomeExprs es (s ∷ ss.items)) = subst (λ (z : List parsed.Expr). Settles means (SomeExprs z (s ∷ ss.items))) same h in
     let k : simple_at x.left (act.Printf es) ≡ x = sym (simple_is x ∙ ap (simple_at x.left) is) in
     let whole : Simply text means (simple_at x.left (act.Printf es)) (tree.Printf (length old) s ss) old (sited text x.left old) = spec.printf x.left es ss g in
     let counted : Simply text means (simple_at x.left (act.Printf es)) (tree.Printf n s ss) old new = rw (count, lines) whole in
     subst (λ z. Simply text means z (tree.Printf n s ss) old new) k counted
 
-pub empty_lays : (means : Sense) (text : List ℕ) (s : step.Stmt) (ts : Vec Stmt) (m : List ℕ) → s ≡ from.Empty → ts.items ≡ [] → Lays text means (AStmt s (tree.Block ts)) m m
-empty_lays means text s ts m is none = rw is (spec.empty ts none)
+pub printf_lays : (means : Sense) {E : Type 0} (r : Result (Expr × Vec Expr) E) (q : Result Stmt E) (text : List ℕ) (x : Simple) (es ys : List parsed.Expr) (n : ℕ) (old new : List ℕ)
+    → q ≡ result_map_both (λ p. tree.Printf n p.0 p.1) (λ z. z) r → x.act ≡ act.Printf es → ys ≡ es → n ≡ length old → new ≡ sited text x.left old → IfOk r (λ p. Settles means (SomeExprs ys (p.0 ∷ p.1.items))) → IfOk q (λ t. Simply text means x t old new)
+printf_lays means (Ok p) q text x es ys n old new made is same count lines h = rw made (printfs means text x es ys p.0 p.1 n old new is same count lines h)
+printf_lays means (Err f) q text x es ys n old new made is same count lines h = rw made tt
+
+pub empty_lays : (means : Sense) {E : Type 0} (q : Result Stmt E) (text : List ℕ) (s : step.Stmt) (ts : Vec Stmt) (m : List ℕ) → q ≡ Ok (tree.Block ts) → s ≡ from.Empty → ts.items ≡ [] → IfOk q (λ t. Lays text means (AStmt s t) m m)
+empty_lays means q text s ts m made is none = rw (made, is) (spec.empty ts none)
 
 pub simple_lays : (means : Sense) {E : Type 0} (r : Result Stmt E) (text : List ℕ) (s : step.Stmt) (x y : Simple) (m n : List ℕ) → s ≡ from.Simple x → y ≡ x → IfOk r (λ t. Simply text means y t m n) → IfOk r (λ t. Lays text means (AStmt s t) m n)
 simple_lays means (Ok t) text s x y m n is same h = let g : Simply text means x t m n = subst (λ z. Simply text means z t m n) same h in rw is (spec.simple g)
 simple_lays means (Err e) text s x y m n is same h = tt
 
-pub block_lays : (means : Sense) (text : List ℕ) (s : step.Stmt) (ss zs : List step.Stmt) (ts : Vec Stmt) (m n : List ℕ) → s ≡ from.Block ss → zs ≡ ss → Lays text means (SomeStmts zs ts.items) m n → Lays text means (AStmt s (tree.Block ts)) m n
-block_lays means text s ss zs ts m n is same h = let g : Lays text means (SomeStmts ss ts.items) m n = subst (λ (z : List step.Stmt). Lays text means (SomeStmts z ts.items) m n) same h in rw is (spec.block ts g)
+pub block_lays : (means : Sense) {E : Type 0} (r : Result (Vec Stmt) E) (q : Result Stmt E) (text : List ℕ) (s : step.Stmt) (ss zs : List step.Stmt) (m n : List ℕ)
+    → q ≡ result_map_both tree.Block (λ z. z) r → s ≡ from.Block ss → zs ≡ ss → IfOk r (λ ts. Lays text means (SomeStmts zs ts.items) m n) → IfOk q (λ t. Lays text means (AStmt s t) m n)
+block_lays means (Ok ts) q text s ss zs m n made is same h = let g : Lays text means (SomeStmts ss ts.items) m n = subst (λ (z : List step.Stmt). Lays text means (SomeStmts z ts.items) m n) same h in rw (made, is) (spec.block ts g)
+block_lays means (Err f) q text s ss zs m n made is same h = rw made tt
 
-pub more_lays : (means : Sense) (text u : List ℕ) (xs : List step.Stmt) (i : ℕ) (x y : step.Stmt) (ts zs : List Stmt) (t : Stmt) (m n o : List ℕ)
-    → i < length xs → x ≡ get_or xs i x → y ≡ x → u ≡ text → zs ≡ ts ++ t ∷ [] → Lays text means (SomeStmts (take i xs) ts) m n → Lays u means (AStmt y t) n o → Lays text means (SomeStmts (take (i + 1) xs) zs) m o
-more_lays means text u xs i x y ts zs t m n o h at same there more g f =
+pub boxed_lays : (means : Sense) {E : Type 0} (text : List ℕ) (x : step.Stmt) (m n : List ℕ) (r : Result Stmt E) (q : Result (Box Stmt) E) → IfOk q (λ b. r ≡ Ok b.value) → IfOk r (λ t. Lays text means (AStmt x t) m n) → IfOk q (λ b. Lays text means (AStmt x b.value) m n)
+boxed_lays means text x m n r (Ok b) held h = IfOk-at_ok (λ t. Lays text means (AStmt x t) m n) held h
+boxed_lays means text x m n r (Err e) held h = tt
+
+pub more_lays : (means : Sense) (text u : List ℕ) (xs : List step.Stmt) (i : ℕ) (x y : step.Stmt) (ts zs : List Stmt) (r : Result Stmt ParseError) (m n o : List ℕ)
+    → i < length xs → x ≡ get_or xs i x → y ≡ x → u ≡ text → result_err r ≡ None → IfOk r (λ t. zs ≡ ts ++ t ∷ []) → Lays text means (SomeStmts (take i xs) ts) m n → IfOk r (λ t. Lays u means (AStmt y t) n o) → Lays text means (SomeStmts (take (i + 1) xs) zs) m o
+more_lays means text u xs i x y ts zs (Ok t) m n o h at same there none more g f =
     let k : Lays text means (AStmt x t) n o = subst (λ (z : step.Stmt). Lays text means (AStmt z t) n o) same (subst (λ v. Lays v means (AStmt y t) n o) there f) in
     let e : take (i + 1) xs ≡ take i xs ++ x ∷ [] = take_more xs i x h ∙ ap (λ z. take i xs ++ z ∷ []) (sym at) in
     rw (e, more) (spec.a_statement g k)
+more_lays means text u xs i x y ts zs (Err d) m n o h at same there none more g f = cc
 
 -- ---- jumps, conditions, choices and loops
 
@@ -101,8 +127,10 @@ goes_next means text left j n old new is count lines = rw (is, count, lines) (sp
 pub bare_exit : (means : Sense) (site : ℕ) (o : Option parsed.Expr) → o ≡ None → Exits means site o (tree.Exit site)
 bare_exit means site o is = rw is (spec.bare site)
 
-pub status_exit : (means : Sense) (site : ℕ) (o : Option parsed.Expr) (e y : parsed.Expr) (s : Expr) → o ≡ Some e → y ≡ e → Settles means (AnExpr y s) → Exits means site o (tree.ExitWith site s)
-status_exit means site o e y s is same h = let g : Settles means (AnExpr e s) = subst (λ (z : parsed.Expr). Settles means (AnExpr z s)) same h in rw is (spec.with_status site g)
+pub status_exit : (means : Sense) {E : Type 0} (r : Result Expr E) (q : Result Stmt E) (site : ℕ) (o : Option parsed.Expr) (e y : parsed.Expr)
+    → q ≡ result_map_both (tree.ExitWith site) (λ z. z) r → o ≡ Some e → y ≡ e → IfOk r (λ s. Settles means (AnExpr y s)) → IfOk q (λ t. Exits means site o t)
+status_exit means (Ok s) q site o e y made is same h = let g : Settles means (AnExpr e s) = subst (λ (z : parsed.Expr). Settles means (AnExpr z s)) same h in rw (made, is) (spec.with_status site g)
+status_exit means (Err f) q site o e y made is same h = rw made tt
 
 pub exit_jumps : (means : Sense) {E : Type 0} (r : Result Stmt E) (text : List ℕ) (left : ℕ) (j : Jump) (o : Option parsed.Expr) (n : ℕ) (old new : List ℕ) → j ≡ jump.Exit o → n ≡ length old → new ≡ sited text left old → IfOk r (λ t. Exits means n o t) → IfOk r (λ t. Jumps text means left j t old new)
 exit_jumps means (Ok t) text left j o n old new is count lines h = let g : Exits means (length old) o t = subst (λ k. Exits means k o t) count h in rw (is, lines) (spec.exits left g)
@@ -111,8 +139,10 @@ exit_jumps means (Err e) text left j o n old new is count lines h = tt
 pub no_return_value : (means : Sense) (site : ℕ) (o : Option parsed.Expr) → o ≡ None → Returns means site o (tree.Return site)
 no_return_value means site o is = rw is (spec.no_value site)
 
-pub return_value : (means : Sense) (site : ℕ) (o : Option parsed.Expr) (e y : parsed.Expr) (s : Expr) → o ≡ Some e → y ≡ e → Settles means (AnExpr y s) → Returns means site o (tree.ReturnWith site s)
-return_value means site o e y s is same h = let g : Settles means (AnExpr e s) = subst (λ (z : parsed.Expr). Settles means (AnExpr z s)) same h in rw is (spec.with_value site g)
+pub return_value : (means : Sense) {E : Type 0} (r : Result Expr E) (q : Result Stmt E) (site : ℕ) (o : Option parsed.Expr) (e y : parsed.Expr)
+    → q ≡ result_map_both (tree.ReturnWith site) (λ z. z) r → o ≡ Some e → y ≡ e → IfOk r (λ s. Settles means (AnExpr y s)) → IfOk q (λ t. Returns means site o t)
+return_value means (Ok s) q site o e y made is same h = let g : Settles means (AnExpr e s) = subst (λ (z : parsed.Expr). Settles means (AnExpr z s)) same h in rw (made, is) (spec.with_value site g)
+return_value means (Err f) q site o e y made is same h = rw made tt
 
 pub return_jumps : (means : Sense) {E : Type 0} (r : Result Stmt E) (text : List ℕ) (left : ℕ) (j : Jump) (o : Option parsed.Expr) (n : ℕ) (old new : List ℕ) → j ≡ jump.Return o → n ≡ length old → new ≡ sited text left old → IfOk r (λ t. Returns means n o t) → IfOk r (λ t. Jumps text means left j t old new)
 return_jumps means (Ok t) text left j o n old new is count lines h = let g : Returns means (length old) o t = subst (λ k. Returns means k o t) count h in rw (is, lines) (spec.returns left g)
@@ -140,12 +170,16 @@ while_lays means text u s c d x y e t b k m l n is same body count h lines there
     let from_is : l ≡ sited text c.left m = lines ∙ ap (λ (z : Condition). sited text z.left m) same in
     rw (is, count) (spec.repeats b g (moved means text u x y t b (sited text c.left m) l n there body held from_is f))
 
-pub do_lays : (means : Sense) (text u : List ℕ) (s : step.Stmt) (c d : Condition) (x y : step.Stmt) (e : Expr) (t : Stmt) (b : Box Stmt) (k : ℕ) (m l n : List ℕ)
-    → s ≡ from.Do x c → d ≡ c → y ≡ x → k ≡ length l → Settles means (AnExpr d.test e) → n ≡ sited u d.left l → u ≡ text → b.value ≡ t → Lays text means (AStmt y t) m l → Lays text means (AStmt s (tree.DoWhile b k e)) m n
-do_lays means text u s c d x y e t b k m l n is same body count h lines there held f =
-    let g : Settles means (AnExpr c.test e) = subst (λ (z : Condition). Settles means (AnExpr z.test e)) same h in
-    let to_is : n ≡ sited text c.left l = lines ∙ ap (λ v. sited v d.left l) there ∙ ap (λ (z : Condition). sited text z.left l) same in
-    rw (is, count, to_is) (spec.repeats_behind b (moved means text text x y t b m m l refl body held refl f) g)
+do_lays : (means : Sense) (text u : List ℕ) (c : Condition) (x : step.Stmt) (e : Expr) (b : Box Stmt) (k : ℕ) (m l n : List ℕ)
+    → k ≡ length l → u ≡ text → Settles means (AnExpr c.test e) → n ≡ sited u c.left l → Lays text means (AStmt x b.value) m l → Lays text means (AStmt (from.Do x c) (tree.DoWhile b k e)) m n
+do_lays means text u c x e b k m l n count there h lines f =
+    let to_is : n ≡ sited text c.left l = lines ∙ ap (λ v. sited v c.left l) there in
+    rw (count, to_is) (spec.repeats_behind b f h)
+
+pub do_made : (means : Sense) {E : Type 0} (r : Result Expr E) (q : Result Stmt E) (text u : List ℕ) (c : Condition) (x : step.Stmt) (b : Box Stmt) (k : ℕ) (m l n : List ℕ)
+    → q ≡ result_map_both (tree.DoWhile b k) (λ z. z) r → k ≡ length l → u ≡ text → IfOk r (λ e. Settles means (AnExpr c.test e)) → IfOk r (λ e. n ≡ sited u c.left l) → Lays text means (AStmt x b.value) m l → IfOk q (λ t. Lays text means (AStmt (from.Do x c) t) m n)
+do_made means (Ok e) q text u c x b k m l n made count there h lines f = rw made (do_lays means text u c x e b k m l n count there h lines f)
+do_made means (Err d) q text u c x b k m l n made count there h lines f = rw made tt
 
 other_moved : (means : Sense) (text u : List ℕ) (o p : Option step.Stmt) (t : Stmt) (m l n : List ℕ) → u ≡ text → p ≡ o → l ≡ m → Lays u means (AnOther p t) l n → Lays text means (AnOther o t) m n
 other_moved means text u o p t m l n there same lines h =
@@ -153,11 +187,12 @@ other_moved means text u o p t m l n there same lines h =
     let h2 : Lays text means (AnOther o t) l n = subst (λ (z : Option step.Stmt). Lays text means (AnOther z t) l n) same h1 in
     subst (λ v. Lays text means (AnOther o t) v n) lines h2
 
-pub if_lays : (means : Sense) (text u : List ℕ) (s : step.Stmt) (bs ys : List branching.Branch) (other : Option step.Stmt) (cs : Vec Branch) (b : Box Stmt) (m l n : List ℕ)
-    → s ≡ from.If bs other → ys ≡ bs → u ≡ text → Lays text means (SomeBranches ys cs.items) m l → Lays u means (AnOther other b.value) l n → Lays text means (AStmt s (tree.If cs b)) m n
-if_lays means text u s bs ys other cs b m l n is same there h f =
+pub if_lays : (means : Sense) {E : Type 0} (r : Result (Box Stmt) E) (q : Result Stmt E) (text u : List ℕ) (s : step.Stmt) (bs ys : List branching.Branch) (other : Option step.Stmt) (cs : Vec Branch) (m l n : List ℕ)
+    → q ≡ result_map_both (tree.If cs) (λ z. z) r → s ≡ from.If bs other → ys ≡ bs → u ≡ text → Lays text means (SomeBranches ys cs.items) m l → IfOk r (λ b. Lays u means (AnOther other b.value) l n) → IfOk q (λ t. Lays text means (AStmt s t) m n)
+if_lays means (Ok b) q text u s bs ys other cs m l n made is same there h f =
     let g : Lays text means (SomeBranches bs cs.items) m l = subst (λ (z : List branching.Branch). Lays text means (SomeBranches z cs.items) m l) same h in
-    rw is (spec.choice cs b g (other_moved means text u other other b.value l l n there refl refl f))
+    rw (made, is) (spec.choice cs b g (other_moved means text u other other b.value l l n there refl refl f))
+if_lays means (Err d) q text u s bs ys other cs m l n made is same there h f = rw made tt
 
 pub for_lays : (means : Sense) (text u v w : List ℕ) (s : step.Stmt) (h i : Head) (x y : step.Stmt) (e : Expr) (t : Stmt) (first step b : Box Stmt) (k : ℕ) (m n p o q : List ℕ)
     → s ≡ from.For h x → i ≡ h → y ≡ x → k ≡ length n → u ≡ text → v ≡ text → w ≡ text → b.value ≡ t → Lays text means (AnOther i.first first.value) m n → Tests means i.test e → p ≡ sited u i.left n → Lays v means (AnOther i.last step.value) p o → Lays w means (AStmt y t) o q
@@ -175,11 +210,11 @@ pub while_made : (means : Sense) {E : Type 0} (r : Result (Box Stmt) E) (q : Res
 while_made means (Ok b) q text u c x e k m l n is count h lines there f = rw is (while_lays means text u (from.While c x) c c x x e b.value b k m l n refl refl refl count h lines there refl f)
 while_made means (Err _) q text u c x e k m l n is count h lines there f = rw is tt
 
-pub for_made : (means : Sense) {E : Type 0} (r : Result (Box Stmt) E) (q : Result Stmt E) (text u : List ℕ) (s : step.Stmt) (h i : Head) (x y : step.Stmt) (g : LoopHead) (m p o : List ℕ)
-    → q ≡ result_map_both (for_with g) (λ z. z) r → s ≡ from.For h x → i ≡ h → y ≡ x → u ≡ text → Heads text means i g m p → IfOk r (λ b. Lays u means (AStmt y b.value) p o) → IfOk q (λ t. Lays text means (AStmt s t) m o)
-for_made means (Ok b) q text u s h i x y g m p o made is same body there head turn =
-    rw made (for_lays means text text text u s h i x y g.test b.value g.first g.step b g.site m head.before (sited text i.left head.before) p o is same body head.site refl refl there refl head.first head.test refl head.step turn)
-for_made means (Err _) q text u s h i x y g m p o made is same body there head turn = rw made tt
+pub for_made : (means : Sense) {E : Type 0} (r : Result (Box Stmt) E) (q : Result Stmt E) (text u : List ℕ) (h : Head) (x : step.Stmt) (g : LoopHead) (m p o : List ℕ)
+    → q ≡ result_map_both (for_with g) (λ z. z) r → u ≡ text → Heads text means h g m p → IfOk r (λ b. Lays u means (AStmt x b.value) p o) → IfOk q (λ t. Lays text means (AStmt (from.For h x) t) m o)
+for_made means (Ok b) q text u h x g m p o made there head turn =
+    rw made (for_lays means text text text u (from.For h x) h h x x g.test b.value g.first g.step b g.site m head.before (sited text h.left head.before) p o refl refl refl head.site refl refl there refl head.first head.test refl head.step turn)
+for_made means (Err _) q text u h x g m p o made there head turn = rw made tt
 
 pub head_made : (means : Sense) {E : Type 0} (r : Result (Box Stmt) E) (q : Result LoopHead E) (text u v : List ℕ) (h : Head) (first : Box Stmt) (e : Expr) (k : ℕ) (m n p o : List ℕ)
     → q ≡ result_map_both (head_with first k e) (λ z. z) r → k ≡ length n → u ≡ text → v ≡ text → Lays text means (AnOther h.first first.value) m n → Tests means h.test e → p ≡ sited u h.left n
@@ -206,8 +241,9 @@ branch_body means (Ok t) q text u s x e k l m n is there same lines h =
     rw is h3
 branch_body means (Err _) q text u s x e k l m n is there same lines h = rw is tt
 
-pub absent_lays : (means : Sense) (text : List ℕ) (o : Option step.Stmt) (ts : Vec Stmt) (b : Box Stmt) (m : List ℕ) → o ≡ None → ts.items ≡ [] → b.value ≡ tree.Block ts → Lays text means (AnOther o b.value) m m
-absent_lays means text o ts b m is none held = rw (is, held) (spec.absent ts none)
+pub absent_lays : (means : Sense) {E : Type 0} (r : Result (Box Stmt) E) (text : List ℕ) (o : Option step.Stmt) (m : List ℕ) → o ≡ None → IfOk r (λ b. (ts : Vec Stmt) × (ts.items ≡ []) × (b.value ≡ tree.Block ts)) → IfOk r (λ b. Lays text means (AnOther o b.value) m m)
+absent_lays means (Ok b) text o m is h = rw (is, h.2) (spec.absent h.0 h.1)
+absent_lays means (Err d) text o m is h = tt
 
 pub present_lays : (means : Sense) (text : List ℕ) (o : Option step.Stmt) (x y : step.Stmt) (t : Stmt) (b : Box Stmt) (m n : List ℕ) → o ≡ Some x → y ≡ x → b.value ≡ t → Lays text means (AStmt y t) m n → Lays text means (AnOther o b.value) m n
 present_lays means text o x y t b m n is same held f = let g = moved means text text x y t b m m n refl same held refl f in rw is (spec.present g)
@@ -216,39 +252,85 @@ pub other_made : (means : Sense) {E : Type 0} (r : Result (Box Stmt) E) (text : 
 other_made means (Ok b) text o x y m n is same h = present_lays means text o x y b.value b m n is same refl h
 other_made means (Err _) text o x y m n is same h = tt
 
-pub more_branches : (means : Sense) (text u : List ℕ) (xs : List branching.Branch) (i : ℕ) (x y : branching.Branch) (cs zs : List Branch) (c : Branch) (m n o : List ℕ)
-    → i < length xs → x ≡ get_or xs i x → y ≡ x → u ≡ text → zs ≡ cs ++ c ∷ [] → Lays text means (SomeBranches (take i xs) cs) m n → c.site ≡ length n → Settles means (AnExpr y.condition.test c.test) → Lays u means (AStmt y.body c.body) (sited u y.condition.left n) o
-    → Lays text means (SomeBranches (take (i + 1) xs) zs) m o
-more_branches means text u xs i x y cs zs c m n o h at same there more g site test f =
+pub more_branches : (means : Sense) (text u : List ℕ) (xs : List branching.Branch) (i : ℕ) (x y : branching.Branch) (cs zs : List Branch) (r : Result Branch ParseError) (m n o : List ℕ)
+    → i < length xs → x ≡ get_or xs i x → y ≡ x → u ≡ text → result_err r ≡ None → IfOk r (λ c. zs ≡ cs ++ c ∷ []) → Lays text means (SomeBranches (take i xs) cs) m n → IfOk r (λ c. c.site ≡ length n) → IfOk r (λ c. Settles means (AnExpr y.condition.test c.test))
+    → IfOk r (λ c. Lays u means (AStmt y.body c.body) (sited u y.condition.left n) o) → Lays text means (SomeBranches (take (i + 1) xs) zs) m o
+more_branches means text u xs i x y cs zs (Ok c) m n o h at same there none more g site test f =
     let e : take (i + 1) xs ≡ take i xs ++ y ∷ [] = take_more xs i x h ∙ ap (λ z. take i xs ++ z ∷ []) (sym at ∙ sym same) in
     let k : Lays text means (AStmt y.body c.body) (sited text y.condition.left n) o = subst (λ v. Lays v means (AStmt y.body c.body) (sited v y.condition.left n) o) there f in
     rw (e, more) (spec.a_branch y c g site test k)
+more_branches means text u xs i x y cs zs (Err d) m n o h at same there none more g site test f = cc
 
 -- ---- actions and rules
 
-pub missing_does : (means : Sense) (text : List ℕ) (x : Action) (left : ℕ) (none : List parsed.Expr) (ss : Vec Expr) (n : ℕ) (old new : List ℕ)
-    → x ≡ does.Missing left → none ≡ [] → n ≡ length old → new ≡ sited text left old → Prints means none ss.items → Does text means x (tree.Print n ss) old new
-missing_does means text x left none ss n old new is bare count lines h =
+pub missing_does : (means : Sense) {E : Type 0} (r : Result (Vec Expr) E) (q : Result Stmt E) (text : List ℕ) (x : Action) (left : ℕ) (none : List parsed.Expr) (n : ℕ) (old new : List ℕ)
+    → q ≡ result_map_both (tree.Print n) (λ z. z) r → x ≡ does.Missing left → none ≡ [] → n ≡ length old → new ≡ sited text left old → IfOk r (λ ss. Prints means none ss.items) → IfOk q (λ t. Does text means x t old new)
+missing_does means (Ok ss) q text x left none n old new made is bare count lines h =
     let g : Prints means [] ss.items = subst (λ (z : List parsed.Expr). Prints means z ss.items) bare h in
-    rw (is, count, lines) (spec.missing left ss g)
+    rw (made, is, count, lines) (spec.missing left ss g)
+missing_does means (Err d) q text x left none n old new made is bare count lines h = rw made tt
 
-pub given_does : (means : Sense) (text : List ℕ) (x : Action) (ss zs : List step.Stmt) (ts : Vec Stmt) (m n : List ℕ) → x ≡ does.Given ss → zs ≡ ss → Lays text means (SomeStmts zs ts.items) m n → Does text means x (tree.Block ts) m n
-given_does means text x ss zs ts m n is same h = let g : Lays text means (SomeStmts ss ts.items) m n = subst (λ (z : List step.Stmt). Lays text means (SomeStmts z ts.items) m n) same h in rw is (spec.given ts g)
+pub given_does : (means : Sense) {E : Type 0} (r : Result (Vec Stmt) E) (q : Result Stmt E) (text : List ℕ) (x : Action) (ss zs : List step.Stmt) (m n : List ℕ)
+    → q ≡ result_map_both tree.Block (λ z. z) r → x ≡ does.Given ss → zs ≡ ss → IfOk r (λ ts. Lays text means (SomeStmts zs ts.items) m n) → IfOk q (λ t. Does text means x t m n)
+given_does means (Ok ts) q text x ss zs m n made is same h = let g : Lays text means (SomeStmts ss ts.items) m n = subst (λ (z : List step.Stmt). Lays text means (SomeStmts z ts.items) m n) same h in rw (made, is) (spec.given ts g)
+given_does means (Err d) q text x ss zs m n made is same h = rw made tt
 
-pub when_rules : (means : Sense) (ranges : ℕ) (text u : List ℕ) (p : Pattern) (left : ℕ) (e y : parsed.Expr) (s : Expr) (x : Action) (t : Stmt) (n : ℕ) (old new : List ℕ) (m : List ℕ)
-    → p ≡ guard.When left e → y ≡ e → n ≡ length old → new ≡ sited text left old → u ≡ text → Settles means (AnExpr y s) → Does u means x t new m → Rules text means ranges p x (rule_of n s t) old m
-when_rules means ranges text u p left e y s x t n old new m is same count lines there h f =
+pub tests_guard : (means : Sense) {E : Type 0} (ranges : ℕ) (r : Result Expr E) (q : Result Guard E) (text : List ℕ) (p : Pattern) (left : ℕ) (e y : parsed.Expr) (old new : List ℕ)
+    → q ≡ result_map_both tree_guard.When (λ z. z) r → p ≡ guard.When left e → y ≡ e → new ≡ sited text left old → IfOk r (λ s. Settles means (AnExpr y s)) → IfOk q (λ g. Guards text means ranges p g old new)
+tests_guard means ranges (Ok s) q text p left e y old new made is same lines h =
     let g : Settles means (AnExpr e s) = subst (λ (z : parsed.Expr). Settles means (AnExpr z s)) same h in
-    let k : Does text means x t (sited text left old) m = subst (λ l. Does text means x t l m) lines (subst (λ v. Does v means x t new m) there f) in
-    rw (is, count) (spec.when left g k)
+    rw (made, is, lines) (spec.tests left g)
+tests_guard means ranges (Err d) q text p left e y old new made is same lines h = rw made tt
 
-pub range_rules : (means : Sense) (ranges : ℕ) (text u : List ℕ) (p : Pattern) (left : ℕ) (e y f z : parsed.Expr) (s o : Expr) (x : Action) (t : Stmt) (n : ℕ) (old new : List ℕ) (m : List ℕ)
-    → p ≡ guard.Range left e f → y ≡ e → z ≡ f → n ≡ length old → new ≡ sited text left old → u ≡ text → Settles means (AnExpr y s) → Settles means (AnExpr z o) → Does u means x t new m → Rules text means ranges p x (range_of n ranges s o t) old m
-range_rules means ranges text u p left e y f z s o x t n old new m is same other count lines there h g d =
+pub bounds_guard : (means : Sense) {E : Type 0} (ranges : ℕ) (s : Expr) (r : Result Expr E) (q : Result Guard E) (text : List ℕ) (p : Pattern) (left : ℕ) (e y f z : parsed.Expr) (old new : List ℕ)
+    → q ≡ result_map_both (tree_guard.Between ranges s) (λ z. z) r → p ≡ guard.Range left e f → y ≡ e → z ≡ f → new ≡ sited text left old → Settles means (AnExpr y s) → IfOk r (λ u. Settles means (AnExpr z u)) → IfOk q (λ g. Guards text means ranges p g old new)
+bounds_guard means ranges s (Ok u) q text p left e y f z old new made is same other lines h g =
     let h' : Settles means (AnExpr e s) = subst (λ (v : parsed.Expr). Settles means (AnExpr v s)) same h in
-    let g' : Settles means (AnExpr f o) = subst (λ (v : parsed.Expr). Settles means (AnExpr v o)) other g in
-    let k : Does text means x t (sited text left old) m = subst (λ l. Does text means x t l m) lines (subst (λ v. Does v means x t new m) there d) in
-    rw (is, count) (spec.between left h' g' k)
+    let g' : Settles means (AnExpr f u) = subst (λ (v : parsed.Expr). Settles means (AnExpr v u)) other g in
+    rw (made, is, lines) (spec.bounds left h' g')
+bounds_guard means ranges s (Err d) q text p left e y f z old new made is same other lines h g = rw made tt
+
+abbrev ruled : ℕ → Guard → Stmt → Rule
+ruled site g action = record { site = site; guard = g; action = action }
+
+guarded : (means : Sense) (ranges : ℕ) (text : List ℕ) (p : Pattern) (g : Guard) (x : Action) (t : Stmt) (old new m : List ℕ) → Guards text means ranges p g old new → Does text means x t new m → Rules text means ranges p x (ruled (length old) g t) old m
+guarded means ranges text p g x t old new m (spec.tests left h) d = spec.when left h d
+guarded means ranges text p g x t old new m (spec.bounds left h f) d = spec.between left h f d
+
+pub rule_made : (means : Sense) {A : Type 0} (ranges : ℕ) (r : Result Stmt ParseError) (q : Result A ParseError) (text u : List ℕ) (p : Pattern) (g : Guard) (x : Action) (n : ℕ) (old new m : List ℕ) (rules more : List Rule)
+    → n ≡ length old → u ≡ text → Guards text means ranges p g old new → IfOk r (λ t. Does u means x t new m) → Judges (result_err r) q → OnOk q (IfOk r (λ t. more ≡ rules ++ ruled n g t ∷ []))
+    → OnOk q (Adds (λ z. Rules text means ranges p x z old m) rules more)
+rule_made means ranges (Ok t) (Ok a) text u p g x n old new m rules more count there h d judged last =
+    let d' : Does text means x t new m = subst (λ v. Does v means x t new m) there d in
+    (ruled (length old) g t, guarded means ranges text p g x t old new m h d', last ∙ ap (λ k. rules ++ ruled k g t ∷ []) count)
+rule_made means ranges (Err d) (Ok a) text u p g x n old new m rules more count there h does judged last = cc
+rule_made means ranges r (Err e) text u p g x n old new m rules more count there h d judged last = tt
+
+pub always_made : (means : Sense) {A : Type 0} (r : Result (Vec Stmt) ParseError) (b : Result Stmt ParseError) (q : Result A ParseError) (text u : List ℕ) (left : ℕ) (ss : List step.Stmt) (n : ℕ) (old new m : List ℕ) (rules more : List Rule)
+    → b ≡ result_map_both tree.Block (λ z. z) r → n ≡ length old → new ≡ sited text left old → u ≡ text → IfOk r (λ ts. Lays u means (SomeStmts ss ts.items) new m) → Judges (result_err b) q → OnOk q (IfOk b (λ t. more ≡ rules ++ ruled n (tree_guard.When (expr.Number (pos 1))) t ∷ []))
+    → OnOk q (Adds (λ z. (z ≡ rule_of (length old) (expr.Number (pos 1)) z.action) × Does text means (does.Given ss) z.action (sited text left old) m) rules more)
+always_made means (Ok ts) (Ok t) (Ok a) text u left ss n old new m rules more made count lines there h judged last =
+    let f : Lays text means (SomeStmts ss ts.items) new m = subst (λ v. Lays v means (SomeStmts ss ts.items) new m) there h in
+    let g : Lays text means (SomeStmts ss ts.items) (sited text left old) m = subst (λ l. Lays text means (SomeStmts ss ts.items) l m) lines f in
+    let is : t ≡ tree.Block ts = cc in
+    (rule_of (length old) (expr.Number (pos 1)) t, (refl, rw is (spec.given ts g)), last ∙ ap (λ k. rules ++ rule_of k (expr.Number (pos 1)) t ∷ []) count)
+always_made means (Err d) (Ok t) (Ok a) text u left ss n old new m rules more made count lines there h judged last = cc
+always_made means r (Err d) (Ok a) text u left ss n old new m rules more made count lines there h judged last = cc
+always_made means r b (Err e) text u left ss n old new m rules more made count lines there h judged last = tt
+
+pub block_made : (means : Sense) {A : Type 0} (r : Result (Vec Stmt) ParseError) (b : Result Stmt ParseError) (q : Result A ParseError) (text : List ℕ) (ss : List step.Stmt) (m n : List ℕ) (blocks more : List Stmt)
+    → b ≡ result_map_both tree.Block (λ z. z) r → IfOk r (λ ts. Lays text means (SomeStmts ss ts.items) m n) → Judges (result_err b) q → OnOk q (IfOk b (λ t. more ≡ blocks ++ t ∷ []))
+    → OnOk q (Adds (λ t. Does text means (does.Given ss) t m n) blocks more)
+block_made means (Ok ts) (Ok t) (Ok a) text ss m n blocks more made h judged last =
+    let is : t ≡ tree.Block ts = cc in
+    (t, rw is (spec.given ts h), last)
+block_made means (Err d) (Ok t) (Ok a) text ss m n blocks more made h judged last = cc
+block_made means r (Err d) (Ok a) text ss m n blocks more made h judged last = cc
+block_made means r b (Err e) text ss m n blocks more made h judged last = tt
+
+-- the block that is done where one is given
+given_is : (means : Sense) (text : List ℕ) (ss : List step.Stmt) (t : Stmt) (m n : List ℕ) → Does text means (does.Given ss) t m n → (ts : Vec Stmt) × (t ≡ tree.Block ts) × Lays text means (SomeStmts ss ts.items) m n
+given_is means text ss t m n (spec.given ts h) = (ts, refl, h)
 
 pub defined : (means : Sense) (text u : List ℕ) (left : ℕ) (name : Name) (parameters : List Name) (ss : List step.Stmt) (word : List ℕ) (words : Vec (List ℕ)) (ts : Vec Stmt) (k : ℕ) (old new m : List ℕ)
     → word ≡ name.word → words.items ≡ words_of parameters → k ≡ length old → new ≡ sited text left old → u ≡ text → Lays u means (SomeStmts ss ts.items) new m
@@ -265,47 +347,61 @@ word_taken names i x words new w v h at is same more before =
 
 -- ---- items
 
-pub begin_laid : (means : ℕ → Sense) (text : List ℕ) (items : List Item) (x : Item) (ss zs : List step.Stmt) (ts : Vec Stmt) (m n : List ℕ) (p q : Program)
-    → x ≡ part.Begin ss → zs ≡ ss → Lays text (means 0) (SomeStmts zs ts.items) m n → q ≡ record p { begin = q.begin } → q.begin.items ≡ p.begin.items ++ tree.Block ts ∷ []
-    → IsLaidWith text means items p m → IsLaidWith text means (items ++ x ∷ []) q n
-begin_laid means text items x ss zs ts m n p q is same h rest begins before =
-    let g : Lays text (means 0) (SomeStmts ss ts.items) m n = subst (λ (z : List step.Stmt). Lays text (means 0) (SomeStmts z ts.items) m n) same h in
-    rw (is, rest, begins) (spec.begin ts before g)
+pub begin_laid : (means : ℕ → Sense) {A E : Type 0} (r : Result A E) (text : List ℕ) (x : Item) (ss zs : List step.Stmt) (m n : List ℕ) (p q : Program)
+    → x ≡ part.Begin ss → zs ≡ ss → q ≡ record p { begin = q.begin } → OnOk r (Adds (λ t. Does text (means 0) (does.Given zs) t m n) p.begin.items q.begin.items)
+    → OnOk r ((items : List Item) → IsLaidWith text means items p m → IsLaidWith text means (items ++ x ∷ []) q n)
+begin_laid means (Ok a) text x ss zs m n p q is same rest h = λ items before.
+    let d = given_is (means 0) text zs h.0 m n h.1 in
+    let g : Lays text (means 0) (SomeStmts ss d.0.items) m n = subst (λ (z : List step.Stmt). Lays text (means 0) (SomeStmts z d.0.items) m n) same d.2 in
+    let begins : q.begin.items ≡ p.begin.items ++ tree.Block d.0 ∷ [] = h.2 ∙ ap (λ t. p.begin.items ++ t ∷ []) d.1 in
+    rw (is, rest, begins) (spec.begin d.0 before g)
+begin_laid means (Err e) text x ss zs m n p q is same rest h = tt
 
-pub end_laid : (means : ℕ → Sense) (text : List ℕ) (items : List Item) (x : Item) (ss zs : List step.Stmt) (ts : Vec Stmt) (m n : List ℕ) (p q : Program)
-    → x ≡ part.End ss → zs ≡ ss → Lays text (means 0) (SomeStmts zs ts.items) m n → q ≡ record p { end = q.end } → q.end.items ≡ p.end.items ++ tree.Block ts ∷ []
-    → IsLaidWith text means items p m → IsLaidWith text means (items ++ x ∷ []) q n
-end_laid means text items x ss zs ts m n p q is same h rest ends before =
-    let g : Lays text (means 0) (SomeStmts ss ts.items) m n = subst (λ (z : List step.Stmt). Lays text (means 0) (SomeStmts z ts.items) m n) same h in
-    rw (is, rest, ends) (spec.ending ts before g)
+pub end_laid : (means : ℕ → Sense) {A E : Type 0} (r : Result A E) (text : List ℕ) (x : Item) (ss zs : List step.Stmt) (m n : List ℕ) (p q : Program)
+    → x ≡ part.End ss → zs ≡ ss → q ≡ record p { end = q.end } → OnOk r (Adds (λ t. Does text (means 0) (does.Given zs) t m n) p.end.items q.end.items)
+    → OnOk r ((items : List Item) → IsLaidWith text means items p m → IsLaidWith text means (items ++ x ∷ []) q n)
+end_laid means (Ok a) text x ss zs m n p q is same rest h = λ items before.
+    let d = given_is (means 0) text zs h.0 m n h.1 in
+    let g : Lays text (means 0) (SomeStmts ss d.0.items) m n = subst (λ (z : List step.Stmt). Lays text (means 0) (SomeStmts z d.0.items) m n) same d.2 in
+    let ends : q.end.items ≡ p.end.items ++ tree.Block d.0 ∷ [] = h.2 ∙ ap (λ t. p.end.items ++ t ∷ []) d.1 in
+    rw (is, rest, ends) (spec.ending d.0 before g)
+end_laid means (Err e) text x ss zs m n p q is same rest h = tt
 
-pub always_laid : (means : ℕ → Sense) (text u : List ℕ) (items : List Item) (x : Item) (left : ℕ) (ss zs : List step.Stmt) (ts : Vec Stmt) (k : ℕ) (old new : List ℕ) (n : List ℕ) (p q : Program)
-    → x ≡ part.Always left ss → zs ≡ ss → k ≡ length old → new ≡ sited text left old → u ≡ text → Lays u (means 0) (SomeStmts zs ts.items) new n
-    → q ≡ record p { rules = q.rules } → q.rules.items ≡ p.rules.items ++ rule_of k (expr.Number (pos 1)) (tree.Block ts) ∷ []
-    → IsLaidWith text means items p old → IsLaidWith text means (items ++ x ∷ []) q n
-always_laid means text u items x left ss zs ts k old new n p q is same count lines there h rest rules before =
-    let f : Lays text (means 0) (SomeStmts ss ts.items) new n = subst (λ (z : List step.Stmt). Lays text (means 0) (SomeStmts z ts.items) new n) same (subst (λ v. Lays v (means 0) (SomeStmts zs ts.items) new n) there h) in
-    let g : Lays text (means 0) (SomeStmts ss ts.items) (sited text left old) n = subst (λ l. Lays text (means 0) (SomeStmts ss ts.items) l n) lines f in
-    let rules' : q.rules.items ≡ p.rules.items ++ rule_of (length old) (expr.Number (pos 1)) (tree.Block ts) ∷ [] = rules ∙ ap (λ c. p.rules.items ++ rule_of c (expr.Number (pos 1)) (tree.Block ts) ∷ []) count in
-    rw (is, rest, rules') (spec.always left ts before g)
+pub always_laid : (means : ℕ → Sense) {A E : Type 0} (r : Result A E) (text : List ℕ) (x : Item) (left : ℕ) (ss zs : List step.Stmt) (m n : List ℕ) (p q : Program)
+    → x ≡ part.Always left ss → zs ≡ ss → q ≡ record p { rules = q.rules }
+    → OnOk r (Adds (λ z. (z ≡ rule_of (length m) (expr.Number (pos 1)) z.action) × Does text (means 0) (does.Given zs) z.action (sited text left m) n) p.rules.items q.rules.items)
+    → OnOk r ((items : List Item) → IsLaidWith text means items p m → IsLaidWith text means (items ++ x ∷ []) q n)
+always_laid means (Ok a) text x left ss zs m n p q is same rest h = λ items before.
+    let d = given_is (means 0) text zs h.0.action (sited text left m) n h.1.1 in
+    let g : Lays text (means 0) (SomeStmts ss d.0.items) (sited text left m) n = subst (λ (z : List step.Stmt). Lays text (means 0) (SomeStmts z d.0.items) (sited text left m) n) same d.2 in
+    let rules : q.rules.items ≡ p.rules.items ++ rule_of (length m) (expr.Number (pos 1)) (tree.Block d.0) ∷ [] =
+    h.2 ∙ ap (λ (z : Rule). p.rules.items ++ z ∷ []) h.1.0 ∙ ap (λ t. p.rules.items ++ rule_of (length m) (expr.Number (pos 1)) t ∷ []) d.1 in
+    rw (is, rest, rules) (spec.always left d.0 before g)
+always_laid means (Err e) text x left ss zs m n p q is same rest h = tt
 
-pub rule_laid : (means : ℕ → Sense) (text : List ℕ) (items : List Item) (x : Item) (f g : Pattern) (y : Action) (r : Rule) (m n : List ℕ) (p q : Program)
-    → x ≡ part.Rule f y → g ≡ f → Rules text (means 0) p.ranges g y r m n → q ≡ record p { rules = q.rules; ranges = q.ranges } → q.ranges ≡ p.ranges + ranges_of g → q.rules.items ≡ p.rules.items ++ r ∷ []
+pub rule_laid : (means : ℕ → Sense) (text : List ℕ) (items : List Item) (x : Item) (f g : Pattern) (y : Action) (m n : List ℕ) (p q : Program)
+    → x ≡ part.Rule f y → g ≡ f → q ≡ record p { rules = q.rules; ranges = q.ranges } → q.ranges ≡ p.ranges + ranges_of g → Adds (λ r. Rules text (means 0) p.ranges g y r m n) p.rules.items q.rules.items
     → IsLaidWith text means items p m → IsLaidWith text means (items ++ x ∷ []) q n
-rule_laid means text items x f g y r m n p q is same h rest ranges rules before =
-    let k : Rules text (means 0) p.ranges f y r m n = subst (λ z. Rules text (means 0) p.ranges z y r m n) same h in
+rule_laid means text items x f g y m n p q is same rest ranges h before =
+    let k : Rules text (means 0) p.ranges f y h.0 m n = subst (λ z. Rules text (means 0) p.ranges z y h.0 m n) same h.1 in
     let ranges' : q.ranges ≡ p.ranges + ranges_of f = ranges ∙ ap (λ z. p.ranges + ranges_of z) same in
-    rw (is, rest, ranges', rules) (spec.rule before k)
+    rw (is, rest, ranges', h.2) (spec.rule before k)
 
-pub function_laid : (means : ℕ → Sense) (text : List ℕ) (items : List Item) (x : Item) (left : ℕ) (name : Name) (parameters takes : List Name) (ss zs : List step.Stmt) (f : Function) (k : ℕ) (m n : List ℕ) (p q : Program)
-    → x ≡ part.Function left name parameters ss → takes ≡ parameters → zs ≡ ss → k ≡ length p.functions.items → Defines text (means (k + 1)) left name takes zs f m n → q ≡ record p { functions = q.functions } → q.functions.items ≡ p.functions.items ++ f ∷ []
-    → IsLaidWith text means items p m → IsLaidWith text means (items ++ x ∷ []) q n
-function_laid means text items x left name parameters takes ss zs f k m n p q is list same count h rest functions before =
+pub function_laid : (means : ℕ → Sense) {A E : Type 0} (r : Result A E) (text : List ℕ) (x : Item) (left : ℕ) (name : Name) (parameters takes : List Name) (ss zs : List step.Stmt) (k : ℕ) (m n : List ℕ) (p q : Program)
+    → x ≡ part.Function left name parameters ss → takes ≡ parameters → zs ≡ ss → k ≡ length p.functions.items → q ≡ record p { functions = q.functions } → OnOk r (Adds (λ f. Defines text (means (k + 1)) left name takes zs f m n) p.functions.items q.functions.items)
+    → OnOk r ((items : List Item) → IsLaidWith text means items p m → IsLaidWith text means (items ++ x ∷ []) q n)
+function_laid means (Ok a) text x left name parameters takes ss zs k m n p q is list same count rest h = λ items before.
     let number : k + 1 ≡ suc (length p.functions.items) = omega (arith, count) in
-    let g : Defines text (means (k + 1)) left name parameters zs f m n = subst (λ (z : List Name). Defines text (means (k + 1)) left name z zs f m n) list h in
-    let g' : Defines text (means (k + 1)) left name parameters ss f m n = subst (λ (z : List step.Stmt). Defines text (means (k + 1)) left name parameters z f m n) same g in
-    let g'' : Defines text (means (suc (length p.functions.items))) left name parameters ss f m n = subst (λ z. Defines text (means z) left name parameters ss f m n) number g' in
-    rw (is, rest, functions) (spec.function left before g'')
+    let g : Defines text (means (k + 1)) left name parameters zs h.0 m n = subst (λ (z : List Name). Defines text (means (k + 1)) left name z zs h.0 m n) list h.1 in
+    let g' : Defines text (means (k + 1)) left name parameters ss h.0 m n = subst (λ (z : List step.Stmt). Defines text (means (k + 1)) left name parameters z h.0 m n) same g in
+    let g'' : Defines text (means (suc (length p.functions.items))) left name parameters ss h.0 m n = subst (λ z. Defines text (means z) left name parameters ss h.0 m n) number g' in
+    rw (is, rest, h.2) (spec.function left before g'')
+function_laid means (Err e) text x left name parameters takes ss zs k m n p q is list same count rest h = tt
+
+-- one more than there were
+pub added : {A B E : Type 0} (P : A → Type 0) (r : Result B E) (before after : List A) → OnOk r (Adds P before after) → OnOk r (length after ≡ suc (length before))
+added P (Ok b) before after h = ap length h.2 ∙ length-append before (h.0 ∷ []) ∙ omega arith
+added P (Err e) before after h = tt
 
 pub item_laid : (means : ℕ → Sense) (text u : List ℕ) (items : List Item) (i : ℕ) (x : Item) (m n : List ℕ) (p q : Program) → i < length items → x ≡ get_or items i x → u ≡ text
     → IsLaidWith text means (take i items) p m → ((found : List Item) → IsLaidWith u means found p m → IsLaidWith u means (found ++ x ∷ []) q n) → IsLaidWith text means (take (i + 1) items) q n

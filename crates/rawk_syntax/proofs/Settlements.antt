@@ -1,10 +1,11 @@
 -- The steps of settling, over plain variables.
-use Rattle.std.proofs.Common.{◌≡◌, ℕ, ℤ, ◌+◌, ◌<◌, ◌≢◌, suc, true, List, [], ◌∷◌, ◌++◌, length, take, get_or, Some, Result, Ok, Err, IfOk, refl, sym, ap, subst, ◌∙◌, arith, pos}
+use Rattle.std.proofs.Common.{◌≡◌, ℕ, ℤ, ◌+◌, ◌<◌, ◌≢◌, suc, Bool, true, List, [], ◌∷◌, ◌++◌, length, take, get_or, None, Some, Result, Ok, Err, IfOk, refl, sym, ap, subst, ◌∙◌, arith, pos}
+use Rattle.std.specs.Result.{result_err, result_map_both}
 use Rattle.std.proofs.lemmas.List.{take_more, length-append}
+use Rattle.std.proofs.lemmas.Result.{IfOk-at_ok}
 use Rattle.std.specs.Global.{Box, Vec}
-use Rattle.rawk_value.specs.declared.operator.Arithmetic.{Arithmetic}
 use Rattle.rawk_value.specs.declared.operator.Arithmetic.TheVariants.{Pow}
-use Rattle.rawk_parsing.specs.declared.tree.Assignment.TheVariants as setting
+use Rattle.rawk_parsing.specs.declared.parse_error.ParseError.{ParseError}
 use Rattle.rawk_parsing.specs.declared.tree.Sign.{Sign}
 use Rattle.rawk_parsing.specs.declared.tree.Logic.{Logic}
 use Rattle.rawk_parsing.specs.declared.tree.Change.{Change}
@@ -26,113 +27,96 @@ use Rattle.rawk_tree.specs.declared.tree.Link.TheVariants as tree_link
 use Rattle.rawk_tree.specs.declared.tree.Place.{Place}
 use Rattle.rawk_tree.specs.declared.tree.Place.TheVariants as tree_place
 use Rattle.rawk_builtin_trees.specs.Calls.{Applies}
-use Rattle.rawk_syntax.specs.Covered.{place_cover, joiner_of}
+use Rattle.rawk_syntax.specs.Covered.{Judges, unless, place_cover, joiner_of}
 use Rattle.rawk_syntax.specs.Settled as spec
 use Rattle.rawk_syntax.specs.Meant.{Sense}
-use Rattle.rawk_syntax.specs.Settled.{Pair, AnExpr, APlace, SomeLinks, SomeTests, SomeExprs, Settles, operator_of, neutral}
+use Rattle.rawk_syntax.specs.Settled.{AnExpr, APlace, SomeLinks, SomeTests, SomeExprs, Settles, operator_of}
 
-pub number_settles : (m : Sense) (e : parsed.Expr) (s : Expr) (n : ℤ) → e ≡ from.Number n → s ≡ tree.Number n → Settles m (AnExpr e s)
-number_settles m e s n is same = rw (is, same) spec.number
+pub number_settles : (m : Sense) {E : Type 0} (r : Result Expr E) (e : parsed.Expr) (n : ℤ) → e ≡ from.Number n → r ≡ Ok (tree.Number n) → IfOk r (λ s. Settles m (AnExpr e s))
+number_settles m r e n is made = rw (made, is) spec.number
 
-pub text_settles : (m : Sense) (e : parsed.Expr) (v w : List ℕ) → e ≡ from.Text v → w ≡ v → Settles m (AnExpr e (tree.Text w))
-text_settles m e v w is same = rw (is, same) spec.text
+pub number_judged : (b : Bool) (left : ℕ) (r : Result Expr ParseError) (n : ℤ) → b ≡ true → r ≡ Ok (tree.Number n) → Judges (unless b left) r
+number_judged b left r n so made = rw (so, made) refl
 
-pub read_settles : (m : Sense) (e : parsed.Expr) (p : spot.Place) (q : Place) → e ≡ from.Of p → Settles m (APlace p q) → Settles m (AnExpr e (tree.Read q))
-read_settles m e p q is h = rw is (spec.read h)
+pub text_settles : (m : Sense) {E : Type 0} (r : Result Expr E) (e : parsed.Expr) (v w : List ℕ) → e ≡ from.Text v → w ≡ v → IfOk r (λ s. s ≡ tree.Text w) → IfOk r (λ s. Settles m (AnExpr e s))
+text_settles m (Ok s) e v w is same made = rw (is, made, same) spec.text
+text_settles m (Err f) e v w is same made = tt
+
+pub read_settles : (m : Sense) {E : Type 0} (r : Result Place E) (q : Result Expr E) (e : parsed.Expr) (p : spot.Place) → e ≡ from.Of p → q ≡ result_map_both tree.Read (λ z. z) r → IfOk r (λ s. Settles m (APlace p s)) → IfOk q (λ s. Settles m (AnExpr e s))
+read_settles m (Ok s) q e p is made h = rw (made, is) (spec.read h)
+read_settles m (Err f) q e p is made h = rw made tt
 
 pub group_settles : (m : Sense) {E : Type 0} (r : Result Expr E) (e x y : parsed.Expr) → e ≡ from.Group x → y ≡ x → IfOk r (λ s. Settles m (AnExpr y s)) → IfOk r (λ s. Settles m (AnExpr e s))
 group_settles m (Ok s) e x y is same h = let g : Settles m (AnExpr x s) = subst (λ (z : parsed.Expr). Settles m (AnExpr z s)) same h in rw is (spec.group g)
 group_settles m (Err f) e x y is same h = tt
 
 -- the same, boxed
-boxed : (m : Sense) (x y : parsed.Expr) (s : Expr) (value : Box Expr) → y ≡ x → value.value ≡ s → Settles m (AnExpr y s) → Settles m (AnExpr x value.value)
-boxed m x y s value same held h =
-    subst (λ (z : parsed.Expr). Settles m (AnExpr z value.value)) same (subst (λ (v : Expr). Settles m (AnExpr y v)) (sym held) h)
+pub boxed_settles : (m : Sense) {E : Type 0} (e : parsed.Expr) (r : Result Expr E) (q : Result (Box Expr) E) → IfOk q (λ b. r ≡ Ok b.value) → IfOk r (λ s. Settles m (AnExpr e s)) → IfOk q (λ b. Settles m (AnExpr e b.value))
+boxed_settles m e r (Ok b) held h = IfOk-at_ok (λ s. Settles m (AnExpr e s)) held h
+boxed_settles m e r (Err f) held h = tt
 
-pub chain_settles : (m : Sense) (e x y : parsed.Expr) (xs ys : List join.Link) (s : Expr) (first : Box Expr) (more : Vec Link)
-    → e ≡ from.Chain x xs → y ≡ x → ys ≡ xs → first.value ≡ s → Settles m (AnExpr y s) → Settles m (SomeLinks ys more.items) → Settles m (AnExpr e (tree.Chain first more))
-chain_settles m e x y xs ys s first more is same all held h g =
-    let h' : Settles m (AnExpr x first.value) = boxed m x y s first same held h in
-    let g' : Settles m (SomeLinks xs more.items) = subst (λ (zs : List join.Link). Settles m (SomeLinks zs more.items)) all g in
-    rw is (spec.chain first more h' g')
+pub signed_settles : (m : Sense) {E : Type 0} (sign : Sign) (r : Result (Box Expr) E) (q : Result Expr E) (e x y : parsed.Expr)
+    → e ≡ from.Signed sign x → y ≡ x → q ≡ result_map_both (tree.Unary (unary.Sign sign)) (λ z. z) r → IfOk r (λ b. Settles m (AnExpr y b.value)) → IfOk q (λ s. Settles m (AnExpr e s))
+signed_settles m sign (Ok b) q e x y is same made h = rw (made, is) (spec.signed b (subst (λ (z : parsed.Expr). Settles m (AnExpr z b.value)) same h))
+signed_settles m sign (Err f) q e x y is same made h = rw made tt
 
-pub signed_settles : (m : Sense) (sign : Sign) (e x y : parsed.Expr) (s : Expr) (operand : Box Expr)
-    → e ≡ from.Signed sign x → y ≡ x → operand.value ≡ s → Settles m (AnExpr y s) → Settles m (AnExpr e (tree.Unary (unary.Sign sign) operand))
-signed_settles m sign e x y s operand is same held h = rw is (spec.signed operand (boxed m x y s operand same held h))
+pub power_settles : (m : Sense) (x y : parsed.Expr) (r : Result Expr ParseError) (base : Box Expr) (old : List Link) (powers : Vec Link)
+    → result_err r ≡ None → old ≡ [] → IfOk r (λ t. powers.items ≡ old ++ tree_link.Combine (joiner.Arithmetic Pow) t ∷ []) → Settles m (AnExpr x base.value) → IfOk r (λ t. Settles m (AnExpr y t)) → Settles m (AnExpr (from.Power x y) (tree.Chain base powers))
+power_settles m x y (Ok t) base old powers none bare one h g = spec.power base powers h g (one ∙ ap (λ l. l ++ tree_link.Combine (joiner.Arithmetic Pow) t ∷ []) bare)
+power_settles m x y (Err e) base old powers none bare one h g = cc
 
-pub power_settles : (m : Sense) (e x y v w : parsed.Expr) (s t : Expr) (base : Box Expr) (powers : Vec Link)
-    → e ≡ from.Power x v → y ≡ x → w ≡ v → base.value ≡ s → powers.items ≡ tree_link.Combine (joiner.Arithmetic Pow) t ∷ [] → Settles m (AnExpr y s) → Settles m (AnExpr w t) → Settles m (AnExpr e (tree.Chain base powers))
-power_settles m e x y v w s t base powers is same other held one h g =
-    let h' : Settles m (AnExpr x base.value) = boxed m x y s base same held h in
-    let g' : Settles m (AnExpr v t) = subst (λ (z : parsed.Expr). Settles m (AnExpr z t)) other g in
-    rw is (spec.power base powers h' g' one)
+pub before_settles : (m : Sense) (e : parsed.Expr) (c : Change) (p : spot.Place) (r : Result Place ParseError) (q : Result Expr ParseError)
+    → e ≡ from.Before c p → Judges (result_err r) q → IfOk q (λ s. IfOk r (λ t. (one : Box Expr) × (one.value ≡ tree.Number (pos 1)) × (s ≡ tree.Update (operator_of c) t one)))
+    → IfOk r (λ t. (place_cover m p).sets ≡ true) → IfOk r (λ t. Settles m (APlace p t)) → IfOk q (λ s. Settles m (AnExpr e s))
+before_settles m e c p (Ok t) (Ok s) is judged made free h = rw (is, made.2) (spec.before made.0 free h made.1)
+before_settles m e c p (Err f) (Ok s) is judged made free h = cc
+before_settles m e c p r (Err f) is judged made free h = tt
 
-pub logic_settles : (m : Sense) (l : Logic) (e : parsed.Expr) (xs ys : List parsed.Expr) (s : Expr) (first : Box Expr) (more : Vec Link)
-    → e ≡ from.Logic l xs → ys ≡ xs → first.value ≡ s → s ≡ tree.Number (neutral l) → Settles m (SomeTests l ys more.items) → Settles m (AnExpr e (tree.Chain first more))
-logic_settles m l e xs ys s first more is all held one g =
-    let g' : Settles m (SomeTests l xs more.items) = subst (λ (zs : List parsed.Expr). Settles m (SomeTests l zs more.items)) all g in
-    rw is (spec.logical first more (held ∙ one) g')
+pub after_settles : (m : Sense) {E : Type 0} (e : parsed.Expr) (c : Change) (p : spot.Place) (r : Result Place E) (q : Result Expr E)
+    → e ≡ from.After c p → q ≡ result_map_both (tree.After (operator_of c)) (λ z. z) r → IfOk r (λ t. (place_cover m p).sets ≡ true) → IfOk r (λ t. Settles m (APlace p t)) → IfOk q (λ s. Settles m (AnExpr e s))
+after_settles m e c p (Ok t) q is made free h = rw (made, is) (spec.after free h)
+after_settles m e c p (Err f) q is made free h = rw made tt
 
-pub choice_settles : (m : Sense) (e x y v w a b : parsed.Expr) (s t u : Expr) (first second third : Box Expr)
-    → e ≡ from.Choice x v a → y ≡ x → w ≡ v → b ≡ a → first.value ≡ s → second.value ≡ t → third.value ≡ u → Settles m (AnExpr y s) → Settles m (AnExpr w t) → Settles m (AnExpr b u) → Settles m (AnExpr e (tree.Choice first second third))
-choice_settles m e x y v w a b s t u first second third is one two three held1 held2 held3 h g f =
-    rw is (spec.choice first second third (boxed m x y s first one held1 h) (boxed m v w t second two held2 g) (boxed m a b u third three held3 f))
-
-pub before_settles : (m : Sense) (e : parsed.Expr) (c : Change) (p : spot.Place) (q : Place) (o : Arithmetic) (one : Box Expr)
-    → e ≡ from.Before c p → o ≡ operator_of c → (place_cover m p).sets ≡ true → one.value ≡ tree.Number (pos 1) → Settles m (APlace p q) → Settles m (AnExpr e (tree.Update o q one))
-before_settles m e c p q o one is does free held h = rw (is, does) (spec.before one free h held)
-
-pub after_settles : (m : Sense) (e : parsed.Expr) (c : Change) (p : spot.Place) (q : Place) (o : Arithmetic)
-    → e ≡ from.After c p → o ≡ operator_of c → (place_cover m p).sets ≡ true → Settles m (APlace p q) → Settles m (AnExpr e (tree.After o q))
-after_settles m e c p q o is does free h = rw (is, does) (spec.after free h)
-
-pub test_settles : (m : Sense) (l : Logic) (xs : List parsed.Expr) (i : ℕ) (x y : parsed.Expr) (ys zs : List Link) (s : Expr)
-    → i < length xs → x ≡ get_or xs i x → y ≡ x → zs ≡ ys ++ tree_link.Decide l s ∷ [] → Settles m (SomeTests l (take i xs) ys) → Settles m (AnExpr y s) → Settles m (SomeTests l (take (i + 1) xs) zs)
-test_settles m l xs i x y ys zs s h held same more g f' =
+pub test_settles : (m : Sense) (l : Logic) (xs : List parsed.Expr) (i : ℕ) (x y : parsed.Expr) (ys zs : List Link) (r : Result Expr ParseError)
+    → i < length xs → x ≡ get_or xs i x → y ≡ x → result_err r ≡ None → IfOk r (λ s. zs ≡ ys ++ tree_link.Decide l s ∷ []) → Settles m (SomeTests l (take i xs) ys) → IfOk r (λ s. Settles m (AnExpr y s)) → Settles m (SomeTests l (take (i + 1) xs) zs)
+test_settles m l xs i x y ys zs (Ok s) h held same none more g f' =
     let f : Settles m (AnExpr x s) = subst (λ (z : parsed.Expr). Settles m (AnExpr z s)) same f' in
     let t : take (i + 1) xs ≡ take i xs ++ x ∷ [] = take_more xs i x h ∙ ap (λ y. take i xs ++ y ∷ []) (sym held) in
     rw (t, more) (spec.a_test g f)
-
-pub assign_settles : (m : Sense) (e x y : parsed.Expr) (p : spot.Place) (q : Place) (s : Expr) (value : Box Expr)
-    → e ≡ from.Assign setting.Plain p x → (place_cover m p).sets ≡ true → y ≡ x → value.value ≡ s → Settles m (APlace p q) → Settles m (AnExpr y s) → Settles m (AnExpr e (tree.Assign q value))
-assign_settles m e x y p q s value is free same held h g = rw is (spec.assign value free h (boxed m x y s value same held g))
-
-pub update_settles : (m : Sense) (operator : Arithmetic) (e x y : parsed.Expr) (p : spot.Place) (q : Place) (s : Expr) (value : Box Expr)
-    → e ≡ from.Assign (setting.Update operator) p x → (place_cover m p).sets ≡ true → y ≡ x → value.value ≡ s → Settles m (APlace p q) → Settles m (AnExpr y s) → Settles m (AnExpr e (tree.Update operator q value))
-update_settles m operator e x y p q s value is free same held h g = rw is (spec.update value free h (boxed m x y s value same held g))
+test_settles m l xs i x y ys zs (Err e) h held same none more g f' = cc
 
 pub name_settles : (m : Sense) (p : spot.Place) (n : word.Name) (v : List ℕ) (s : Place) → p ≡ from_place.Name n → v ≡ n.word → Some s ≡ m.place v → Settles m (APlace p s)
 name_settles m p n v s is same h = rw is (spec.name (ap m.place (sym same) ∙ sym h))
 
-pub field_settles : (m : Sense) (p : spot.Place) (x y : parsed.Expr) (s : Expr) (number : Box Expr)
-    → p ≡ from_place.Field x → y ≡ x → number.value ≡ s → Settles m (AnExpr y s) → Settles m (APlace p (tree_place.Field number))
-field_settles m p x y s number is same held h = rw is (spec.field number (boxed m x y s number same held h))
+pub field_settles : (m : Sense) (p : spot.Place) (x y : parsed.Expr) (number : Box Expr)
+    → p ≡ from_place.Field x → y ≡ x → Settles m (AnExpr y number.value) → Settles m (APlace p (tree_place.Field number))
+field_settles m p x y number is same h = rw is (spec.field number (subst (λ (z : parsed.Expr). Settles m (AnExpr z number.value)) same h))
 
 link_is : (x : join.Link) → x ≡ link x.operator x.operand
 unfolding link
 link_is x = refl
 
 -- one more link
-pub link_settles : (m : Sense) (xs : List join.Link) (i : ℕ) (x : join.Link) (j : Joiner) (e : parsed.Expr) (ys zs : List Link) (s : Expr)
-    → i < length xs → x ≡ get_or xs i x → Some j ≡ joiner_of x.operator → e ≡ x.operand → zs ≡ ys ++ tree_link.Combine j s ∷ []
-    → Settles m (SomeLinks (take i xs) ys) → Settles m (AnExpr e s) → Settles m (SomeLinks (take (i + 1) xs) zs)
-link_settles m xs i x j e ys zs s h at joins is more g f =
+pub link_settles : (m : Sense) (xs : List join.Link) (i : ℕ) (x : join.Link) (j : Joiner) (e : parsed.Expr) (ys zs : List Link) (r : Result Expr ParseError)
+    → i < length xs → x ≡ get_or xs i x → Some j ≡ joiner_of x.operator → e ≡ x.operand → result_err r ≡ None → IfOk r (λ s. zs ≡ ys ++ tree_link.Combine j s ∷ [])
+    → Settles m (SomeLinks (take i xs) ys) → IfOk r (λ s. Settles m (AnExpr e s)) → Settles m (SomeLinks (take (i + 1) xs) zs)
+link_settles m xs i x j e ys zs (Ok s) h at joins is none more g f =
     let same : x ≡ link x.operator e = link_is x ∙ ap (link x.operator) (sym is) in
     let t : take (i + 1) xs ≡ take i xs ++ link x.operator e ∷ [] = take_more xs i x h ∙ ap (λ y. take i xs ++ y ∷ []) (sym at ∙ same) in
     rw (t, more) (spec.a_link x.operator j e (sym joins) g f)
+link_settles m xs i x j e ys zs (Err d) h at joins is none more g f = cc
 
-pub expr_settles : (m : Sense) (xs : List parsed.Expr) (i : ℕ) (x y : parsed.Expr) (ys zs : List Expr) (s : Expr)
-    → i < length xs → x ≡ get_or xs i x → y ≡ x → zs ≡ ys ++ s ∷ [] → Settles m (SomeExprs (take i xs) ys) → Settles m (AnExpr y s) → Settles m (SomeExprs (take (i + 1) xs) zs)
-expr_settles m xs i x y ys zs s h held same more g f' =
+pub expr_settles : (m : Sense) (xs : List parsed.Expr) (i : ℕ) (x y : parsed.Expr) (ys zs : List Expr) (r : Result Expr ParseError)
+    → i < length xs → x ≡ get_or xs i x → y ≡ x → result_err r ≡ None → IfOk r (λ s. zs ≡ ys ++ s ∷ []) → Settles m (SomeExprs (take i xs) ys) → IfOk r (λ s. Settles m (AnExpr y s)) → Settles m (SomeExprs (take (i + 1) xs) zs)
+expr_settles m xs i x y ys zs (Ok s) h held same none more g f' =
     let f : Settles m (AnExpr x s) = subst (λ (z : parsed.Expr). Settles m (AnExpr z s)) same f' in
     let t : take (i + 1) xs ≡ take i xs ++ x ∷ [] = take_more xs i x h ∙ ap (λ y. take i xs ++ y ∷ []) (sym held) in
     rw (t, more) (spec.an_expr g f)
+expr_settles m xs i x y ys zs (Err e) h held same none more g f' = cc
 
-pub call_settles : (m : Sense) (e : parsed.Expr) (n : word.Name) (w : List ℕ) (f : ℕ) (xs ys : List parsed.Expr) (ss : Vec Expr)
-    → e ≡ from.Call n xs → w ≡ n.word → Some f ≡ m.function w → ys ≡ xs → Settles m (SomeExprs ys ss.items) → Settles m (AnExpr e (tree.Call f ss))
-call_settles m e n w f xs ys ss is same found all h =
-    let g : Settles m (SomeExprs xs ss.items) = subst (λ (zs : List parsed.Expr). Settles m (SomeExprs zs ss.items)) all h in
-    rw is (spec.call ss (ap m.function (sym same) ∙ sym found) g)
+pub call_settles : (m : Sense) (n : word.Name) (w : List ℕ) (f : ℕ) (xs : List parsed.Expr) (ss : Vec Expr)
+    → w ≡ n.word → Some f ≡ m.function w → Settles m (SomeExprs xs ss.items) → Settles m (AnExpr (from.Call n xs) (tree.Call f ss))
+call_settles m n w f xs ss same found h = spec.call ss (ap m.function (sym same) ∙ sym found) h
 
 -- as many arguments are settled as there are
 pub same_count : (m : Sense) {es : List parsed.Expr} {ss : List Expr} → Settles m (SomeExprs es ss) → length ss ≡ length es

@@ -199,9 +199,12 @@ abbrev pub action_gap : Sense → Action → Option ParseError
 action_gap means (does.Missing left) = None
 action_gap means (does.Given ss) = first_of (gap means) ss
 
+abbrev pub pattern_gap : Sense → Pattern → Option ParseError
+pattern_gap means (guard.When left e) = unless (covers means e) left
+pattern_gap means (guard.Range left e f) = unless (covers means e && covers means f) left
+
 abbrev pub rule_gap : Sense → Pattern → Action → Option ParseError
-rule_gap means (guard.When left e) a = or_then (unless (covers means e) left) (action_gap means a)
-rule_gap means (guard.Range left e f) a = or_then (unless (covers means e && covers means f) left) (action_gap means a)
+rule_gap means p a = or_then (pattern_gap means p) (action_gap means a)
 
 -- an item behind so many functions; inside a function the scope is one more than its number
 abbrev pub item_gap : (ℕ → Sense) → ℕ → Item → Option ParseError

@@ -26,6 +26,7 @@ use Rattle.rawk_tree.specs.declared.tree.Stmt.{Stmt}
 use Rattle.rawk_tree.specs.declared.tree.Stmt.TheVariants as tree
 use Rattle.rawk_tree.specs.declared.tree.Branch.{Branch}
 use Rattle.rawk_syntax.specs.declared.statements.LoopHead.{LoopHead}
+use Rattle.rawk_tree.specs.declared.tree.Guard.{Guard}
 use Rattle.rawk_tree.specs.declared.tree.Guard.TheVariants as tree_guard
 use Rattle.rawk_tree.specs.declared.tree.Rule.{Rule}
 use Rattle.rawk_tree.specs.declared.tree.Function.{Function}
@@ -33,6 +34,10 @@ use Rattle.rawk_tree.specs.declared.tree.Program.{Program}
 use Rattle.rawk_names.specs.Named.{Known}
 use Rattle.rawk_syntax.specs.Meant.{Sense, sense, global_words}
 use Rattle.rawk_syntax.specs.Settled.{Settles, AnExpr, SomeExprs, Prints}
+
+-- behind the others stands one more, of which P holds
+abbrev pub Adds : {A : Type 0} → (A → Type 0) → List A → List A → Type 0
+Adds {A} P before after = (x : A) × P x × (after ≡ before ++ x ∷ [])
 
 -- one site more, at a place of the text
 abbrev pub sited : List ℕ → ℕ → List ℕ → List ℕ
@@ -130,6 +135,13 @@ pub data Does (text : List ℕ) (means : Sense) : Action → Stmt → List ℕ �
   missing : {lines : List ℕ} (left : ℕ) (ss : Vec Expr)
       → Prints means [] ss.items → Does text means (does.Missing left) (tree.Print (length lines) ss) lines (sited text left lines)
   given : {ss : List step.Stmt} {m n : List ℕ} (ts : Vec Stmt) → Lays text means (SomeStmts ss ts.items) m n → Does text means (does.Given ss) (tree.Block ts) m n
+
+-- what says at which records a rule runs, whose site is the next one: a range has the number of its flag, which is how many stand before it
+pub data Guards (text : List ℕ) (means : Sense) (ranges : ℕ) : Pattern → Guard → List ℕ → List ℕ → Type 0 where
+  tests : {e : parsed.Expr} {s : Expr} {lines : List ℕ} (left : ℕ)
+      → Settles means (AnExpr e s) → Guards text means ranges (guard.When left e) (tree_guard.When s) lines (sited text left lines)
+  bounds : {e f : parsed.Expr} {s u : Expr} {lines : List ℕ} (left : ℕ)
+      → Settles means (AnExpr e s) → Settles means (AnExpr f u) → Guards text means ranges (guard.Range left e f) (tree_guard.Between ranges s u) lines (sited text left lines)
 
 abbrev pub rule_of : ℕ → Expr → Stmt → Rule
 rule_of site test action = record { site = site; guard = tree_guard.When test; action = action }

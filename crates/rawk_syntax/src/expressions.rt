@@ -1,41 +1,38 @@
 //! Expressions: names become numbers, and parentheses go.
 
-ghost use Rattle.std.specs.Prelude.{◌≡◌, ◌∷◌, IfOk, length, true};
+ghost use Rattle.std.specs.Prelude.{◌≡◌, [], ◌∷◌, ◌++◌, IfOk, OnOk, Ok, None, length, pos, true};
+ghost use Rattle.std.specs.Global.{Box};
+ghost use Rattle.std.specs.Result.{result_err, result_map_both};
 ghost use Rattle.rawk_parsing.specs.declared.parse_error.ParseError.TheVariants.{Here};
 ghost use Rattle.rawk_parsing.specs.declared.refusal.RefusalKind.TheVariants as refused;
+ghost use Rattle.rawk_parsing.specs.declared.tree.Expr.TheVariants as from;
+ghost use Rattle.rawk_parsing.specs.declared.tree.Place.TheVariants as from_place;
+ghost use Rattle.rawk_tree.specs.declared.tree.Expr as settled;
 ghost use Rattle.rawk_tree.specs.declared.tree.Expr.TheVariants as tree;
+ghost use Rattle.rawk_tree.specs.declared.tree.Link.TheVariants as tree_link;
+ghost use Rattle.rawk_tree.specs.declared.tree.Unary.TheVariants as unary;
 ghost use Rattle.rawk_builtin_trees.specs.Calls.{Applies, has_builtin};
 ghost use Rattle.rawk_syntax.specs.Covered as cover;
 ghost use Rattle.rawk_syntax.specs.Covered.{Judges, unless};
 ghost use Rattle.rawk_syntax.specs.Meant.{Sense, sense_of};
 ghost use Rattle.rawk_syntax.specs.Settled.{Settles, AnExpr, APlace, SomeLinks, SomeTests, SomeExprs, Prints, operator_of, neutral};
 
-use crate::growth::{boxed, push};
+use crate::growth::{boxed, boxed_if, push, push_if};
 use crate::scope::{Scope, called, meant};
 use rawk_builtin_trees::{apply, format_and_arguments};
 use rawk_items::Boxed;
-use rawk_parsing::tree::{Assignment, Change, Function, Logic, Operator};
+use rawk_parsing::tree::{Assignment, Change, Function, Logic, Operator, Sign};
 use rawk_parsing::{ParseError, RefusalKind, tree as parsed};
 use rawk_special::is_field_count;
 use rawk_tree::{Expr, Joiner, Link, Place, Unary};
 use rawk_value::{Arithmetic, Bytes};
-use std::alloc::Global;
+use std::alloc::{AllocError, Global};
 
 /// The refusal of what the settled tree does not have yet, at a place.
 pub fn left_out(left: usize) -> ParseError
     ensures { result ≡ Here refused.LeftOut left }
 {
     ParseError::Here(RefusalKind::LeftOut, left)
-}
-
-/// Whether a place can be assigned: a name other than NF.
-fn can_set(place: &parsed::Place) -> bool
-    ensures { (means : Sense) → result ≡ (cover.place_cover means place.now).sets }
-{
-    match place {
-        parsed::Place::Name(name) => !is_field_count(name.word.as_slice()),
-        _ => false,
-    }
 }
 
 /// The operator of a link, where the settled tree has it.
@@ -61,22 +58,45 @@ fn operator_of(change: Change) -> Arithmetic
     }
 }
 
-/// A place that can be assigned.
-#[cycle(settle)]
-fn settle_target(
-    alloc: Global,
-    scope: &Scope<'_>,
-    left: usize,
-    place: &parsed::Place,
-) -> Result<Place, ParseError>
+/// The place that a name stands for.
+fn settle_name(scope: &Scope<'_>, left: usize, name: &parsed::Name) -> Result<Place, ParseError>
+    ensures settled { IfOk result (λ s. Settles (sense_of scope.now) (APlace (from_place.Name name.now) s)) }
+    ensures judged { Judges (unless (cover.place_cover (sense_of scope.now) (from_place.Name name.now)).reads left) result }
+{
+    match meant(scope, name.word.as_slice()) {
+        Some(place) => Ok(place),
+        None => Err(left_out(left)),
+    }
+}
+
+/// A place that can be assigned: a name other than NF.
+fn settle_target(scope: &Scope<'_>, left: usize, place: &parsed::Place) -> Result<Place, ParseError>
     ensures settled { IfOk result (λ s. Settles (sense_of scope.now) (APlace place.now s)) }
     ensures sets { IfOk result (λ s. (cover.place_cover (sense_of scope.now) place.now).sets ≡ true) }
     ensures judged { Judges (unless (cover.can_change (cover.place_cover (sense_of scope.now) place.now)) left) result }
 {
-    if !can_set(place) {
+    let parsed::Place::Name(name) = place else {
+        return Err(left_out(left));
+    };
+    if is_field_count(name.word.as_slice()) {
         return Err(left_out(left));
     }
-    settle_place(alloc, scope, left, place)
+    settle_name(scope, left, name)
+}
+
+/// One more test at the end, if it was settled.
+fn push_test(
+    tests: &mut Vec<Link>,
+    logic: Logic,
+    test: Result<Expr, ParseError>,
+) -> Result<(), ParseError>
+    ensures pushed { OnOk result (IfOk test (λ s. tests.new.items ≡ tests.old.items ++ tree_link.Decide logic s ∷ [])) }
+    ensures judged { Judges (result_err test) result }
+{
+    match test {
+        Ok(test) => Ok(push(tests, Link::Decide(logic, test))?),
+        Err(e) => Err(e),
+    }
 }
 
 /// The tests that `&&` or `||` joins.
@@ -93,10 +113,17 @@ fn settle_tests(
 {
     let mut settled = Vec::new(alloc);
     for test in tests {
-        let operand = settle_expr(alloc, scope, left, test.get())?;
-        push(&mut settled, Link::Decide(logic, operand))?;
+        let operand = settle_expr(alloc, scope, left, test.get());
+        push_test(&mut settled, logic, operand)?;
     }
     Ok(settled)
+}
+
+/// A number that the text does not have.
+fn number(alloc: Global, n: i64) -> Result<Box<Expr>, AllocError>
+    ensures { IfOk result (λ b. b.value ≡ tree.Number n) }
+{
+    boxed(alloc, Expr::Number(n))
 }
 
 /// The constant before the first test, which decides nothing.
@@ -120,15 +147,27 @@ fn settle_place(
     ensures judged { Judges (unless ((cover.place_cover (sense_of scope.now) place.now).reads) left) result }
 {
     match place {
-        parsed::Place::Name(name) => match meant(scope, name.word.as_slice()) {
-            Some(place) => Ok(place),
-            None => Err(left_out(left)),
-        },
+        parsed::Place::Name(name) => settle_name(scope, left, name),
         parsed::Place::Field(e) => {
-            let number = boxed(alloc, settle_expr(alloc, scope, left, e.get())?)?;
+            let number = settle_boxed(alloc, scope, left, e.get())?;
             Ok(Place::Field(number))
         }
         parsed::Place::Element(_, _) => Err(left_out(left)),
+    }
+}
+
+/// One more link at the end, if its operand was settled.
+fn push_link(
+    links: &mut Vec<Link>,
+    operator: Joiner,
+    operand: Result<Expr, ParseError>,
+) -> Result<(), ParseError>
+    ensures pushed { OnOk result (IfOk operand (λ s. links.new.items ≡ links.old.items ++ tree_link.Combine operator s ∷ [])) }
+    ensures judged { Judges (result_err operand) result }
+{
+    match operand {
+        Ok(operand) => Ok(push(links, Link::Combine(operator, operand))?),
+        Err(e) => Err(e),
     }
 }
 
@@ -147,16 +186,74 @@ fn settle_links(
         let Some(operator) = joiner_of(link.operator) else {
             return Err(left_out(left));
         };
-        let operand = settle_expr(alloc, scope, left, link.operand.get())?;
-        push(&mut settled, Link::Combine(operator, operand))?;
+        let operand = settle_expr(alloc, scope, left, link.operand.get());
+        push_link(&mut settled, operator, operand)?;
     }
     Ok(settled)
 }
 
-fn number_of(n: &i64) -> Expr
-    ensures { result ≡ tree.Number n.now }
+/// A number, which is settled as itself.
+fn settle_number(n: &i64) -> Result<Expr, ParseError>
+    ensures { result ≡ Ok (tree.Number n.now) }
 {
-    Expr::Number(*n)
+    Ok(Expr::Number(*n))
+}
+
+/// A text, which is settled as itself.
+fn settle_text(alloc: Global, text: &[u8]) -> Result<Expr, ParseError>
+    ensures settled { IfOk result (λ s. s ≡ tree.Text text.now) }
+    ensures judged { Judges None result }
+{
+    let text = Bytes::from_slice(alloc, text)?;
+    Ok(Expr::Text(text))
+}
+
+/// The value of a place, if that was settled.
+fn read_of(place: Result<Place, ParseError>) -> Result<Expr, ParseError>
+    ensures { result ≡ result_map_both tree.Read (λ e. e) place }
+{
+    match place {
+        Ok(place) => Ok(Expr::Read(place)),
+        Err(e) => Err(e),
+    }
+}
+
+/// A sign before an operand, if that was settled.
+fn signed_of(sign: Sign, operand: Result<Box<Expr>, ParseError>) -> Result<Expr, ParseError>
+    ensures { result ≡ result_map_both (tree.Unary (unary.Sign sign)) (λ e. e) operand }
+{
+    match operand {
+        Ok(operand) => Ok(Expr::Unary(Unary::Sign(sign), operand)),
+        Err(e) => Err(e),
+    }
+}
+
+/// `++` or `--` before a place, if that was settled: an assignment with 1.
+fn before_of(
+    alloc: Global,
+    change: Change,
+    place: Result<Place, ParseError>,
+) -> Result<Expr, ParseError>
+    ensures settled { IfOk result (λ s. IfOk place (λ p. (one : Box settled.Expr) × (one.value ≡ tree.Number (pos 1)) × (s ≡ tree.Update (operator_of change) p one))) }
+    ensures judged { Judges (result_err place) result }
+{
+    match place {
+        Ok(place) => {
+            let one = number(alloc, 1)?;
+            Ok(Expr::Update(operator_of(change), place, one))
+        }
+        Err(e) => Err(e),
+    }
+}
+
+/// `++` or `--` behind a place, if that was settled.
+fn after_of(change: Change, place: Result<Place, ParseError>) -> Result<Expr, ParseError>
+    ensures { result ≡ result_map_both (tree.After (operator_of change)) (λ e. e) place }
+{
+    match place {
+        Ok(place) => Ok(Expr::After(operator_of(change), place)),
+        Err(e) => Err(e),
+    }
 }
 
 /// A call of a built-in function with these arguments, where the settled tree has it.
@@ -169,10 +266,137 @@ fn settle_builtin(
     ensures settled { IfOk result (λ s. Applies function arguments.items s) }
     ensures judged { Judges (unless (has_builtin function (length arguments.items)) left) result }
 {
-    match apply(alloc, function, arguments)? {
-        Some(call) => Ok(call),
-        None => Err(left_out(left)),
+    match apply(alloc, function, arguments) {
+        Ok(Some(call)) => Ok(call),
+        Ok(None) => Err(left_out(left)),
+        Err(_) => Err(ParseError::OutOfMemory),
     }
+}
+
+/// An expression on the heap.
+#[cycle(settle)]
+fn settle_boxed(
+    alloc: Global,
+    scope: &Scope<'_>,
+    left: usize,
+    e: &parsed::Expr,
+) -> Result<Box<Expr>, ParseError>
+    ensures settled { IfOk result (λ b. Settles (sense_of scope.now) (AnExpr e.now b.value)) }
+    ensures judged { Judges (unless (cover.covers (sense_of scope.now) e.now) left) result }
+{
+    boxed_if(alloc, settle_expr(alloc, scope, left, e))
+}
+
+/// A power, which is a chain of one link.
+#[cycle(settle)]
+fn settle_power(
+    alloc: Global,
+    scope: &Scope<'_>,
+    left: usize,
+    base: &parsed::Expr,
+    exponent: &parsed::Expr,
+) -> Result<Expr, ParseError>
+    ensures settled { IfOk result (λ s. Settles (sense_of scope.now) (AnExpr (from.Power base.now exponent.now) s)) }
+    ensures judged { Judges (unless (cover.covers (sense_of scope.now) (from.Power base.now exponent.now)) left) result }
+{
+    let base = settle_boxed(alloc, scope, left, base)?;
+    let mut powers = Vec::new(alloc);
+    let exponent = settle_expr(alloc, scope, left, exponent);
+    push_link(&mut powers, Joiner::Arithmetic(Arithmetic::Pow), exponent)?;
+    Ok(Expr::Chain(base, powers))
+}
+
+/// An operand and its links.
+#[cycle(settle)]
+fn settle_chain(
+    alloc: Global,
+    scope: &Scope<'_>,
+    left: usize,
+    first: &parsed::Expr,
+    links: &[parsed::Link],
+) -> Result<Expr, ParseError>
+    ensures settled { IfOk result (λ s. Settles (sense_of scope.now) (AnExpr (from.Chain first.now links.now) s)) }
+    ensures judged { Judges (unless (cover.covers (sense_of scope.now) (from.Chain first.now links.now)) left) result }
+{
+    let first = settle_boxed(alloc, scope, left, first)?;
+    let links = settle_links(alloc, scope, left, links)?;
+    Ok(Expr::Chain(first, links))
+}
+
+/// Tests that `&&` or `||` joins: a chain behind a constant.
+#[cycle(settle)]
+fn settle_logic(
+    alloc: Global,
+    scope: &Scope<'_>,
+    left: usize,
+    logic: Logic,
+    tests: &[Boxed<parsed::Expr>],
+) -> Result<Expr, ParseError>
+    ensures settled { IfOk result (λ s. Settles (sense_of scope.now) (AnExpr (from.Logic logic tests.now) s)) }
+    ensures judged { Judges (unless (cover.covers (sense_of scope.now) (from.Logic logic tests.now)) left) result }
+{
+    let first = boxed(alloc, neutral(logic))?;
+    let tests = settle_tests(alloc, scope, left, logic, tests)?;
+    Ok(Expr::Chain(first, tests))
+}
+
+/// A test and what it chooses from.
+#[cycle(settle)]
+fn settle_choice(
+    alloc: Global,
+    scope: &Scope<'_>,
+    left: usize,
+    test: &parsed::Expr,
+    yes: &parsed::Expr,
+    no: &parsed::Expr,
+) -> Result<Expr, ParseError>
+    ensures settled { IfOk result (λ s. Settles (sense_of scope.now) (AnExpr (from.Choice test.now yes.now no.now) s)) }
+    ensures judged { Judges (unless (cover.covers (sense_of scope.now) (from.Choice test.now yes.now no.now)) left) result }
+{
+    let test = settle_boxed(alloc, scope, left, test)?;
+    let yes = settle_boxed(alloc, scope, left, yes)?;
+    let no = settle_boxed(alloc, scope, left, no)?;
+    Ok(Expr::Choice(test, yes, no))
+}
+
+/// An assignment.
+#[cycle(settle)]
+fn settle_assign(
+    alloc: Global,
+    scope: &Scope<'_>,
+    left: usize,
+    how: Assignment,
+    place: &parsed::Place,
+    value: &parsed::Expr,
+) -> Result<Expr, ParseError>
+    ensures settled { IfOk result (λ s. Settles (sense_of scope.now) (AnExpr (from.Assign how place.now value.now) s)) }
+    ensures judged { Judges (unless (cover.covers (sense_of scope.now) (from.Assign how place.now value.now)) left) result }
+{
+    let place = settle_target(scope, left, place)?;
+    let value = settle_boxed(alloc, scope, left, value)?;
+    match how {
+        Assignment::Plain => Ok(Expr::Assign(place, value)),
+        Assignment::Update(operator) => Ok(Expr::Update(operator, place, value)),
+    }
+}
+
+/// A call of a function of the program.
+#[cycle(settle)]
+fn settle_call(
+    alloc: Global,
+    scope: &Scope<'_>,
+    left: usize,
+    name: &parsed::Name,
+    arguments: &[Boxed<parsed::Expr>],
+) -> Result<Expr, ParseError>
+    ensures settled { IfOk result (λ s. Settles (sense_of scope.now) (AnExpr (from.Call name.now arguments.now) s)) }
+    ensures judged { Judges (unless (cover.covers (sense_of scope.now) (from.Call name.now arguments.now)) left) result }
+{
+    let Some(function) = called(scope, name.word.as_slice()) else {
+        return Err(left_out(left));
+    };
+    let arguments = settle_list(alloc, scope, left, arguments)?;
+    Ok(Expr::Call(function, arguments))
 }
 
 /// An expression of a statement or pattern at a place.
@@ -187,66 +411,36 @@ pub fn settle_expr(
     ensures judged { Judges (unless (cover.covers (sense_of scope.now) e.now) left) result }
 {
     match e {
-        parsed::Expr::Number(n) => Ok(number_of(n)),
-        parsed::Expr::Text(bytes) => Ok(Expr::Text(Bytes::from_slice(alloc, bytes.as_slice())?)),
-        parsed::Expr::Of(place) => Ok(Expr::Read(settle_place(alloc, scope, left, place)?)),
+        parsed::Expr::Number(n) => settle_number(n),
+        parsed::Expr::Text(bytes) => settle_text(alloc, bytes.as_slice()),
+        parsed::Expr::Of(place) => read_of(settle_place(alloc, scope, left, place)),
         parsed::Expr::Group(inner) => settle_expr(alloc, scope, left, inner.get()),
         parsed::Expr::Signed(sign, operand) => {
-            let operand = boxed(alloc, settle_expr(alloc, scope, left, operand.get())?)?;
-            Ok(Expr::Unary(Unary::Sign(*sign), operand))
+            signed_of(*sign, settle_boxed(alloc, scope, left, operand.get()))
         }
         parsed::Expr::Power(base, exponent) => {
-            let base = boxed(alloc, settle_expr(alloc, scope, left, base.get())?)?;
-            let mut powers = Vec::new(alloc);
-            let exponent = settle_expr(alloc, scope, left, exponent.get())?;
-            push(
-                &mut powers,
-                Link::Combine(Joiner::Arithmetic(Arithmetic::Pow), exponent),
-            )?;
-            Ok(Expr::Chain(base, powers))
+            settle_power(alloc, scope, left, base.get(), exponent.get())
         }
         parsed::Expr::Chain(first, links) => {
-            let first = boxed(alloc, settle_expr(alloc, scope, left, first.get())?)?;
-            let links = settle_links(alloc, scope, left, links.as_slice())?;
-            Ok(Expr::Chain(first, links))
+            settle_chain(alloc, scope, left, first.get(), links.as_slice())
         }
         parsed::Expr::Logic(logic, tests) => {
-            let first = boxed(alloc, neutral(*logic))?;
-            let tests = settle_tests(alloc, scope, left, *logic, tests.as_slice())?;
-            Ok(Expr::Chain(first, tests))
+            settle_logic(alloc, scope, left, *logic, tests.as_slice())
         }
         parsed::Expr::Choice(test, yes, no) => {
-            let test = boxed(alloc, settle_expr(alloc, scope, left, test.get())?)?;
-            let yes = boxed(alloc, settle_expr(alloc, scope, left, yes.get())?)?;
-            let no = boxed(alloc, settle_expr(alloc, scope, left, no.get())?)?;
-            Ok(Expr::Choice(test, yes, no))
+            settle_choice(alloc, scope, left, test.get(), yes.get(), no.get())
         }
         parsed::Expr::Before(change, place) => {
-            let place = settle_target(alloc, scope, left, place)?;
-            let one = boxed(alloc, Expr::Number(1))?;
-            Ok(Expr::Update(operator_of(*change), place, one))
+            before_of(alloc, *change, settle_target(scope, left, place))
         }
         parsed::Expr::After(change, place) => {
-            let place = settle_target(alloc, scope, left, place)?;
-            Ok(Expr::After(operator_of(*change), place))
+            after_of(*change, settle_target(scope, left, place))
         }
         parsed::Expr::Assign(how, place, value) => {
-            if !can_set(place) {
-                return Err(left_out(left));
-            }
-            let place = settle_place(alloc, scope, left, place)?;
-            let value = boxed(alloc, settle_expr(alloc, scope, left, value.get())?)?;
-            match how {
-                Assignment::Plain => Ok(Expr::Assign(place, value)),
-                Assignment::Update(operator) => Ok(Expr::Update(*operator, place, value)),
-            }
+            settle_assign(alloc, scope, left, *how, place, value.get())
         }
         parsed::Expr::Call(name, arguments) => {
-            let Some(function) = called(scope, name.word.as_slice()) else {
-                return Err(left_out(left));
-            };
-            let arguments = settle_list(alloc, scope, left, arguments.as_slice())?;
-            Ok(Expr::Call(function, arguments))
+            settle_call(alloc, scope, left, name, arguments.as_slice())
         }
         parsed::Expr::Builtin(function, arguments) => {
             let arguments = settle_list(alloc, scope, left, arguments.as_slice())?;
@@ -269,7 +463,7 @@ fn settle_list(
 {
     let mut settled = Vec::new(alloc);
     for e in list {
-        push(&mut settled, settle_expr(alloc, scope, left, e.get())?)?;
+        push_if(&mut settled, settle_expr(alloc, scope, left, e.get()))?;
     }
     Ok(settled)
 }
@@ -286,7 +480,7 @@ pub fn settle_printed(
 {
     if list.len() == 0 {
         let mut record = Vec::new(alloc);
-        let number = boxed(alloc, Expr::Number(0))?;
+        let number = number(alloc, 0)?;
         push(&mut record, Expr::Read(Place::Field(number)))?;
         return Ok(record);
     }

@@ -1,9 +1,11 @@
 //! Statements: each gets the sites of its points.
 
-ghost use Rattle.std.specs.Prelude.{◌≡◌, ◌++◌, ◌∷◌, [], length, IfOk};
+ghost use Rattle.std.specs.Prelude.{◌≡◌, ◌++◌, ◌∷◌, [], length, IfOk, None};
+ghost use Rattle.std.specs.Global.{Vec};
 ghost use Rattle.std.specs.Result.{result_map_both};
 ghost use Rattle.rawk_grammar.specs.declared.tree.Jump.TheVariants as jump;
 ghost use Rattle.rawk_grammar.specs.declared.tree.Stmt.TheVariants as from;
+ghost use Rattle.rawk_tree.specs.declared.tree.Stmt as settled;
 ghost use Rattle.rawk_tree.specs.declared.tree.Stmt.TheVariants as tree;
 ghost use Rattle.rawk_syntax.specs.Covered as cover;
 ghost use Rattle.rawk_syntax.specs.Covered.{Judges};
@@ -12,7 +14,7 @@ ghost use Rattle.rawk_syntax.specs.Settled.{Settles, AnExpr};
 ghost use Rattle.rawk_syntax.specs.Laid.{sited, Simply, Exits, Returns, Jumps, Tests, Lays, AStmt, SomeStmts, SomeBranches, AnOther, Heads, branch_with, head_with, for_with};
 
 use crate::expressions::{left_out, settle_expr, settle_formatted, settle_printed};
-use crate::growth::{boxed, push};
+use crate::growth::{boxed, boxed_if, push_if};
 use crate::lines::Sites;
 use crate::scope::Scope;
 use rawk_grammar::tree as parsed;
@@ -21,6 +23,36 @@ use rawk_items::Boxed;
 use rawk_parsing::ParseError;
 use rawk_tree::{Branch, Expr, Stmt};
 use std::alloc::Global;
+
+/// An expression as a statement, if it was settled.
+fn do_of(site: usize, e: Result<Expr, ParseError>) -> Result<Stmt, ParseError>
+    ensures { result ≡ result_map_both (tree.Do site) (λ e. e) e }
+{
+    match e {
+        Ok(e) => Ok(Stmt::Do(site, e)),
+        Err(e) => Err(e),
+    }
+}
+
+/// A `print` of a list, if that was settled.
+pub fn print_of(site: usize, list: Result<Vec<Expr>, ParseError>) -> Result<Stmt, ParseError>
+    ensures { result ≡ result_map_both (tree.Print site) (λ e. e) list }
+{
+    match list {
+        Ok(list) => Ok(Stmt::Print(site, list)),
+        Err(e) => Err(e),
+    }
+}
+
+/// A `printf` of a format and its arguments, if these were settled.
+fn printf_of(site: usize, parts: Result<(Expr, Vec<Expr>), ParseError>) -> Result<Stmt, ParseError>
+    ensures { result ≡ result_map_both (λ p. tree.Printf site p.0 p.1) (λ e. e) parts }
+{
+    match parts {
+        Ok((format, arguments)) => Ok(Stmt::Printf(site, format, arguments)),
+        Err(e) => Err(e),
+    }
+}
 
 /// A simple statement, whose site is added.
 fn settle_simple(
@@ -36,19 +68,26 @@ fn settle_simple(
     let site = sites.lines.len();
     sites.add(simple.left)?;
     match &simple.act {
-        Act::Evaluate(e) => {
-            let e = settle_expr(alloc, scope, simple.left, e.get())?;
-            Ok(Stmt::Do(site, e))
-        }
-        Act::Print(list) => {
-            let list = settle_printed(alloc, scope, simple.left, list.as_slice())?;
-            Ok(Stmt::Print(site, list))
-        }
-        Act::Printf(list) => {
-            let (format, arguments) = settle_formatted(alloc, scope, simple.left, list.as_slice())?;
-            Ok(Stmt::Printf(site, format, arguments))
-        }
+        Act::Evaluate(e) => do_of(site, settle_expr(alloc, scope, simple.left, e.get())),
+        Act::Print(list) => print_of(
+            site,
+            settle_printed(alloc, scope, simple.left, list.as_slice()),
+        ),
+        Act::Printf(list) => printf_of(
+            site,
+            settle_formatted(alloc, scope, simple.left, list.as_slice()),
+        ),
         Act::Delete(_) => Err(left_out(simple.left)),
+    }
+}
+
+/// An `exit` with a status, if that was settled.
+fn exit_of(site: usize, status: Result<Expr, ParseError>) -> Result<Stmt, ParseError>
+    ensures { result ≡ result_map_both (tree.ExitWith site) (λ e. e) status }
+{
+    match status {
+        Ok(status) => Ok(Stmt::ExitWith(site, status)),
+        Err(e) => Err(e),
     }
 }
 
@@ -65,10 +104,17 @@ fn settle_exit(
 {
     match status {
         None => Ok(Stmt::Exit(site)),
-        Some(e) => {
-            let e = settle_expr(alloc, scope, left, e.get())?;
-            Ok(Stmt::ExitWith(site, e))
-        }
+        Some(e) => exit_of(site, settle_expr(alloc, scope, left, e.get())),
+    }
+}
+
+/// A `return` with a value, if that was settled.
+fn return_of(site: usize, value: Result<Expr, ParseError>) -> Result<Stmt, ParseError>
+    ensures { result ≡ result_map_both (tree.ReturnWith site) (λ e. e) value }
+{
+    match value {
+        Ok(value) => Ok(Stmt::ReturnWith(site, value)),
+        Err(e) => Err(e),
     }
 }
 
@@ -85,10 +131,7 @@ fn settle_return(
 {
     match value {
         None => Ok(Stmt::Return(site)),
-        Some(e) => {
-            let e = settle_expr(alloc, scope, left, e.get())?;
-            Ok(Stmt::ReturnWith(site, e))
-        }
+        Some(e) => return_of(site, settle_expr(alloc, scope, left, e.get())),
     }
 }
 
@@ -131,6 +174,32 @@ fn settle_condition(
     settle_expr(alloc, scope, condition.left, condition.test.get())
 }
 
+/// Statements as one, if they were settled.
+pub fn block_of(steps: Result<Vec<Stmt>, ParseError>) -> Result<Stmt, ParseError>
+    ensures { result ≡ result_map_both tree.Block (λ e. e) steps }
+{
+    match steps {
+        Ok(steps) => Ok(Stmt::Block(steps)),
+        Err(e) => Err(e),
+    }
+}
+
+/// An `if` of these parts, if the last one was settled.
+fn if_of(
+    branches: Vec<Branch>,
+    otherwise: Result<Box<Stmt>, ParseError>,
+) -> Result<Stmt, ParseError>
+    ensures { result ≡ result_map_both (tree.If branches) (λ e. e) otherwise }
+{
+    match otherwise {
+        Ok(otherwise) => Ok(Stmt::If(branches, otherwise)),
+        Err(e) => {
+            drop(branches);
+            Err(e)
+        }
+    }
+}
+
 /// A statement, whose sites are added.
 #[cycle(statements)]
 fn settle_statement(
@@ -144,17 +213,15 @@ fn settle_statement(
     ensures judged { Judges (cover.gap (sense_of scope.now) s.now) result }
 {
     match s {
-        parsed::Stmt::Empty => Ok(Stmt::Block(Vec::new(alloc))),
+        parsed::Stmt::Empty => block_of(Ok(Vec::new(alloc))),
         parsed::Stmt::Simple(simple) => settle_simple(alloc, sites, scope, simple.get()),
         parsed::Stmt::Block(all) => {
-            let all = settle_statements(alloc, sites, scope, all.as_slice())?;
-            Ok(Stmt::Block(all))
+            block_of(settle_statements(alloc, sites, scope, all.as_slice()))
         }
         parsed::Stmt::Jump(left, jump) => settle_jump(alloc, sites, scope, *left, jump.get()),
         parsed::Stmt::If(branches, other) => {
             let branches = settle_branches(alloc, sites, scope, branches.as_slice())?;
-            let otherwise = settle_other(alloc, sites, scope, other)?;
-            Ok(Stmt::If(branches, otherwise))
+            if_of(branches, settle_other(alloc, sites, scope, other))
         }
         parsed::Stmt::While(condition, body) => settle_while(
             alloc,
@@ -170,11 +237,7 @@ fn settle_statement(
             body.get(),
             condition.get(),
         ),
-        parsed::Stmt::For(head, body) => {
-            let head = settle_head(alloc, sites, scope, head.get())?;
-            let turn = settle_body(alloc, sites, scope, body.get());
-            for_of(head, turn)
-        }
+        parsed::Stmt::For(head, body) => settle_for(alloc, sites, scope, head.get(), body.get()),
         parsed::Stmt::ForIn(left, _, _, _) => Err(left_out(*left)),
     }
 }
@@ -230,8 +293,25 @@ fn settle_do(
 {
     let body = settle_body(alloc, sites, scope, body)?;
     let site = sites.lines.len();
-    let test = settle_condition(alloc, sites, scope, condition)?;
-    Ok(Stmt::DoWhile(body, site, test))
+    let test = settle_condition(alloc, sites, scope, condition);
+    do_while_of(body, site, test)
+}
+
+/// A `do` of these parts, if its condition was settled.
+fn do_while_of(
+    body: Box<Stmt>,
+    site: usize,
+    test: Result<Expr, ParseError>,
+) -> Result<Stmt, ParseError>
+    ensures { result ≡ result_map_both (tree.DoWhile body site) (λ e. e) test }
+{
+    match test {
+        Ok(test) => Ok(Stmt::DoWhile(body, site, test)),
+        Err(e) => {
+            drop(body);
+            Err(e)
+        }
+    }
 }
 
 /// What stands in the parentheses of a `for`.
@@ -299,6 +379,24 @@ fn settle_head(
     head_of(first, site, test, step)
 }
 
+/// A `for` that counts, whose sites are added.
+#[cycle(statements)]
+fn settle_for(
+    alloc: Global,
+    sites: &mut Sites<'_>,
+    scope: &Scope<'_>,
+    head: &parsed::Head,
+    body: &parsed::Stmt,
+) -> Result<Stmt, ParseError>
+    ensures text { sites.new.text ≡ sites.old.text }
+    ensures settled { IfOk result (λ t. Lays sites.old.text.now (sense_of scope.now) (AStmt (from.For head.now body.now) t) sites.old.lines.items sites.new.lines.items) }
+    ensures judged { Judges (cover.or_then (cover.head_parts_gap (sense_of scope.now) head.now) (cover.gap (sense_of scope.now) body.now)) result }
+{
+    let head = settle_head(alloc, sites, scope, head)?;
+    let turn = settle_body(alloc, sites, scope, body);
+    for_of(head, turn)
+}
+
 /// A statement that is the body of another.
 #[cycle(statements)]
 fn settle_body(
@@ -311,7 +409,7 @@ fn settle_body(
     ensures settled { IfOk result (λ b. Lays sites.old.text.now (sense_of scope.now) (AStmt s.now b.value) sites.old.lines.items sites.new.lines.items) }
     ensures judged { Judges (cover.gap (sense_of scope.now) s.now) result }
 {
-    Ok(boxed(alloc, settle_statement(alloc, sites, scope, s)?)?)
+    boxed_if(alloc, settle_statement(alloc, sites, scope, s))
 }
 
 /// The condition of a `for`, whose site is added; a missing one is the number 1.
@@ -334,6 +432,14 @@ fn settle_test(
     }
 }
 
+/// A statement that does nothing.
+fn nothing(alloc: Global) -> Result<Box<Stmt>, ParseError>
+    ensures does { IfOk result (λ b. (ts : Vec settled.Stmt) × (ts.items ≡ []) × (b.value ≡ tree.Block ts)) }
+    ensures judged { Judges None result }
+{
+    Ok(boxed(alloc, Stmt::Block(Vec::new(alloc)))?)
+}
+
 /// A statement that may be missing: then it does nothing.
 #[cycle(statements)]
 fn settle_other(
@@ -347,7 +453,7 @@ fn settle_other(
     ensures judged { Judges (cover.other_gap (sense_of scope.now) other.now) result }
 {
     match other {
-        None => Ok(boxed(alloc, Stmt::Block(Vec::new(alloc)))?),
+        None => nothing(alloc),
         Some(s) => settle_body(alloc, sites, scope, s.get()),
     }
 }
@@ -399,7 +505,7 @@ fn settle_branches(
 {
     let mut settled = Vec::new(alloc);
     for b in all {
-        push(&mut settled, settle_branch(alloc, sites, scope, b.get())?)?;
+        push_if(&mut settled, settle_branch(alloc, sites, scope, b.get()))?;
     }
     Ok(settled)
 }
@@ -418,10 +524,7 @@ pub fn settle_statements(
 {
     let mut settled = Vec::new(alloc);
     for s in all {
-        push(
-            &mut settled,
-            settle_statement(alloc, sites, scope, s.get())?,
-        )?;
+        push_if(&mut settled, settle_statement(alloc, sites, scope, s.get()))?;
     }
     Ok(settled)
 }

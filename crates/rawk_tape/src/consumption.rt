@@ -7,7 +7,7 @@ use rawk_slots::Reversible;
 use std::alloc::{AllocError, Global};
 
 /// How many of the bytes kept are consumed then; a count of more than are kept changes nothing.
-#[derive(Clone, Copy, Debug, PartialEq, Eq)]
+#[derive(Clone, Copy, PartialEq, Eq)]
 pub struct Consumption {
     /// The count, from the first byte kept on.
     pub count: usize,

@@ -2,7 +2,7 @@
 
 /// A record: where it begins and ends among the kept bytes, and how many of them are consumed
 /// once it is.
-#[derive(Clone, Copy, Debug, PartialEq, Eq)]
+#[derive(Clone, Copy, PartialEq, Eq)]
 pub struct Found {
     /// The place of its first byte.
     pub start: usize,

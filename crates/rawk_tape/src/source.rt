@@ -5,7 +5,7 @@ ghost use Rattle.rawk_tape.specs.Records.{Input};
 ghost use Rattle.rawk_tape.specs.Inputs.{before, nothing, size_taken, ending_of, failures_of, CountsUp};
 
 /// How an input ends.
-#[derive(Clone, Copy, Debug, PartialEq, Eq)]
+#[derive(Clone, Copy, PartialEq, Eq)]
 pub enum Ending {
     /// A read gave no bytes.
     Ended,
@@ -14,7 +14,7 @@ pub enum Ending {
 }
 
 /// A read or a write has failed.
-#[derive(Clone, Copy, Debug, PartialEq, Eq)]
+#[derive(Clone, Copy, PartialEq, Eq)]
 pub struct DeviceFault;
 
 /// A device that hands out an input piece by piece.

@@ -12,3 +12,4 @@ pub mod Travels
 pub mod AtOnces
 pub mod Turns
 pub mod Calls
+pub mod Oks

@@ -4,7 +4,7 @@ ghost use Rattle.rawk_store.specs.declared.store.Store.{Store};
 ghost use Rattle.rawk_travel.specs.Plain.{IsPlainMove, Reaches};
 
 /// What the instructions of a step may have changed, as far as they tell.
-#[derive(Clone, Copy, Debug, PartialEq, Eq)]
+#[derive(Clone, Copy, PartialEq, Eq)]
 pub enum Reach {
     /// globals, and the place in the code
     Narrow,

@@ -25,7 +25,7 @@ use rawk_value::{Fault, Value};
 use std::alloc::{AllocError, Global};
 
 /// What came of the reading of a record.
-#[derive(Clone, Copy, Debug)]
+#[derive(Clone, Copy)]
 pub enum Reading {
     Taken,
     /// the input is at its end
@@ -38,8 +38,10 @@ pub enum Reading {
 fn value_up(globals: &Cells, counter: usize) -> Result<i64, Fault>
     ensures { result ≡ counter_up counter globals.now.now }
 {
-    let n = number(global_borrowed(globals, counter))?;
-    rawk_value::add(n, 1)
+    match number(global_borrowed(globals, counter)) {
+        Err(fault) => Err(fault),
+        Ok(n) => rawk_value::add(n, 1),
+    }
 }
 
 /// A counter with one more. It takes no memory.

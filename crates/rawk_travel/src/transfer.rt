@@ -3,7 +3,7 @@
 use rawk_store::registers::Ending;
 
 /// Where an instruction leads.
-#[derive(Clone, Copy, Debug)]
+#[derive(Clone, Copy)]
 pub enum Transfer {
     /// to the next instruction
     Next,

@@ -4,7 +4,7 @@ use rawk_parsing::tree::{Logic, Sign};
 use rawk_value::{Arithmetic, Bytes, Comparison};
 
 /// What joins two values.
-#[derive(Clone, Copy, Debug, PartialEq, Eq)]
+#[derive(Clone, Copy, PartialEq, Eq)]
 pub enum Joiner {
     Arithmetic(Arithmetic),
     Comparison(Comparison),
@@ -17,7 +17,7 @@ pub enum Joiner {
 }
 
 /// What makes a value of one (POSIX awk, Expressions in awk, Arithmetic Functions, String Functions).
-#[derive(Clone, Copy, Debug, PartialEq, Eq)]
+#[derive(Clone, Copy, PartialEq, Eq)]
 pub enum Unary {
     /// a sign or `!`
     Sign(Sign),

@@ -6,7 +6,7 @@ ghost use Rattle.rawk_value.specs.declared.fault.Fault.TheVariants.{OutOfMemory}
 use std::alloc::{AllocError, AllocFailed};
 
 /// What ends a run before its end. Each has a number, F1 to F12, and a text.
-#[derive(Clone, Copy, Debug, PartialEq, Eq)]
+#[derive(Clone, Copy, PartialEq, Eq)]
 pub enum Fault {
     /// F1: a number that does not fit 64 bits with a sign.
     Overflow,

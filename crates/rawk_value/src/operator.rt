@@ -1,7 +1,7 @@
 //! The operators that join two values.
 
 /// What joins two numbers.
-#[derive(Clone, Copy, Debug, PartialEq, Eq)]
+#[derive(Clone, Copy, PartialEq, Eq)]
 pub enum Arithmetic {
     Add,
     Sub,
@@ -12,7 +12,7 @@ pub enum Arithmetic {
 }
 
 /// What compares two values.
-#[derive(Clone, Copy, Debug, PartialEq, Eq)]
+#[derive(Clone, Copy, PartialEq, Eq)]
 pub enum Comparison {
     Less,
     LessEqual,

@@ -6,7 +6,7 @@ use crate::bytes::Bytes;
 use std::alloc::{AllocError, Global};
 
 /// What a variable, a field, an element or an operand is (POSIX awk, Expressions in awk).
-#[derive(Debug, Drop)]
+#[derive(Drop)]
 pub enum Value {
     /// Both the empty string and 0.
     Uninitialized,

@@ -1,5 +1,5 @@
 use Rattle.std.proofs.Common.{◌∙◌, Some}
-use Rattle.rawk_code.specs.declared.code.Instr.TheVariants.{Point, GoOn}
+use Rattle.rawk_code.specs.declared.code.Instr.TheVariants.{Point}
 use Rattle.rawk_compiler.specs.Code.{operand_of, unless_ready, expr_code, nowhere, when_code, opened_code, stmt_code}
 use Rattle.rawk_compiler.proofs.Patch.{patch_range}
 use Rattle.rawk_compiler.proofs.compiler.emit_between.Goals as goal
@@ -9,6 +9,6 @@ returns c =
     let first = c.args.first.now in
     let test = unless_ready (operand_of first) (expr_code first) in
     let piece = when_code test (operand_of first) (opened_code c.args.range c.args.last.now (stmt_code c.args.action.now)) in
-    c.patch.ensures
-    ∙ patch_range c.args.code.now.items test piece nowhere c.put.new.code.items c.put-2.new.code.items c.emit_range.new.code.items (Point (Some c.args.site)) (GoOn 0) c.args.range c.len-skip.result c.in_ok-behind.behind
-    c.in_ok-put.ensures (c.len-skip.ensures ∙ c.put.new.code.ok.0) c.in_ok-put-2.ensures c.in_ok-behind.ensures.items c.in_ok-behind.ensures.behind
+    c.patch.ensures.items
+    ∙ patch_range c.args.code.now.items test piece nowhere c.put_point.new.code.items c.put.new.code.items c.emit_range.new.code.items (Point (Some c.args.site)) c.args.range c.len-skip.result c.in_ok-behind.behind
+    c.in_ok-put_point.ensures (c.len-skip.ensures ∙ c.put_point.new.code.ok.0) c.in_ok-put.ensures c.in_ok-behind.ensures.items c.in_ok-behind.ensures.behind

@@ -1,19 +1,17 @@
-use Rattle.std.proofs.Common.{sym, subst, refl}
-use Rattle.rawk_names.specs.Noted.{shown}
-use Rattle.rawk_names.specs.Named.{IsNamed}
+use Rattle.std.proofs.Common.{refl}
 use Rattle.rawk_names.proofs.Misuses.{proper, first_is}
 use Rattle.rawk_names.proofs.names.settled.Goals as goal
 
 pub returns-in-Some-clause-refused : goal.returns-in-Some-clause-refused
-returns-in-Some-clause-refused c = (c.requires, first_is c.args.register.uses.items c.in_ok-arrays.arrays.items c.in-Some.left c.in_ok-arrays.ensures c.in-Some.ensures)
+returns-in-Some-clause-refused c = (c.requires, first_is c.args.register.now.uses.items c.in_ok-arrays.arrays.items c.in-Some.left c.in_ok-arrays.ensures c.in-Some.ensures)
 
 pub returns-in-None-clause-named : goal.returns-in-None-clause-named
 returns-in-None-clause-named c =
-    subst (IsNamed (shown c.args.register)) (sym c.names_from.ensures) (record {
+    record {
       functions = refl;
       signatures = refl;
       variables = refl;
       arrays = c.in_ok-arrays.ensures;
-      proper = proper c.args.register.uses.items c.in_ok-arrays.arrays.items c.in_ok-arrays.ensures c.in-None.ensures;
+      proper = proper c.args.register.now.uses.items c.in_ok-arrays.arrays.items c.in_ok-arrays.ensures c.in-None.ensures;
       patterns = c.requires;
-    })
+    }

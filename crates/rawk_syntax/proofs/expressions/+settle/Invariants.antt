@@ -1,4 +1,7 @@
-use Rattle.std.proofs.Common.{◌≡◌, take, true}
+use Rattle.std.proofs.Common.{◌≡◌, ◌+◌, ◌*◌, max, take, true}
+use denote.Param.Weighed.{most}
+use Rattle.rawk_parsing.proofs.tree.Expr.TheLaws as expr
+use Rattle.rawk_parsing.proofs.tree.Link.TheLaws as link
 use Rattle.rawk_syntax.specs.Covered.{each, covers, covers_link}
 use Rattle.rawk_syntax.specs.Meant.{sense_of}
 use Rattle.rawk_syntax.specs.Settled.{Settles, SomeLinks, SomeTests, SomeExprs}
@@ -21,3 +24,41 @@ invariant-settle_list-loop-e l = record {
   settled : Settles (sense_of l.scope) (SomeExprs (take l.e-index l.list) l.settled.items);
   judged : each (covers (sense_of l.scope)) (take l.e-index l.list) ≡ true;
 }
+
+-- the depth, and whose calls come first where it stays
+
+abbrev pub decreases-settle_expr : goal.decreases-settle_expr
+decreases-settle_expr l = 3 * goal.size-settle_expr l + 0
+
+abbrev pub decreases-settle_boxed : goal.decreases-settle_boxed
+decreases-settle_boxed l = 3 * goal.size-settle_boxed l + 1
+
+abbrev pub decreases-settle_place : goal.decreases-settle_place
+decreases-settle_place l = 3 * goal.size-settle_place l + 0
+
+abbrev pub decreases-settle_links : goal.decreases-settle_links
+decreases-settle_links l = 3 * goal.size-settle_links l + 1
+
+abbrev pub decreases-settle_tests : goal.decreases-settle_tests
+decreases-settle_tests l = 3 * goal.size-settle_tests l + 1
+
+abbrev pub decreases-settle_list : goal.decreases-settle_list
+decreases-settle_list l = 3 * goal.size-settle_list l + 1
+
+abbrev pub decreases-settle_logic : goal.decreases-settle_logic
+decreases-settle_logic l = 3 * goal.size-settle_logic l + 2
+
+abbrev pub decreases-settle_call : goal.decreases-settle_call
+decreases-settle_call l = 3 * goal.size-settle_call l + 2
+
+abbrev pub decreases-settle_power : goal.decreases-settle_power
+decreases-settle_power l = 3 * max (expr.the_size l.base.now) (expr.the_size l.exponent.now) + 2
+
+abbrev pub decreases-settle_chain : goal.decreases-settle_chain
+decreases-settle_chain l = 3 * max (expr.the_size l.first.now) (most link.the_size l.links.now) + 2
+
+abbrev pub decreases-settle_choice : goal.decreases-settle_choice
+decreases-settle_choice l = 3 * max (expr.the_size l.test.now) (max (expr.the_size l.yes.now) (expr.the_size l.no.now)) + 2
+
+abbrev pub decreases-settle_assign : goal.decreases-settle_assign
+decreases-settle_assign l = 3 * expr.the_size l.value.now + 2

@@ -1,16 +1,18 @@
 use Rattle.std.proofs.Common.{◌∙◌, ap}
+use Rattle.rawk_syntax.specs.Covered.{pattern_gap, action_gap}
 use Rattle.rawk_syntax.specs.Meant.{sense_of}
-use Rattle.rawk_syntax.proofs.Layings.{when_rules, range_rules}
+use Rattle.rawk_syntax.proofs.Coverings.{judges_on}
+use Rattle.rawk_syntax.proofs.Gaps.{then_judged}
+use Rattle.rawk_syntax.proofs.Layings.{rule_made}
 use Rattle.rawk_syntax.proofs.items.settle_rule.Goals as goal
 
-pub returns-in_ok-action-in-When-clause-settled : goal.returns-in_ok-action-in-When-clause-settled
-returns-in_ok-action-in-When-clause-settled c =
-    when_rules (sense_of c.args.scope.now) c.args.ranges c.args.sites.now.text.now c.add.new.self.text.now c.args.pattern.now c.in-When.left c.in-When.test c.get.result.now c.in_ok-settle_expr-in-When.field-0 c.args.action.now c.in_ok-action-in-When.action
-    c.len-site.result c.args.sites.now.lines.items c.add.new.self.lines.items c.settle_action.new.sites.lines.items
-    c.in-When.is c.get.ensures (c.len-site.ensures ∙ c.args.sites.now.lines.ok.0) c.in_ok-add-in-When.ensures.lines (ap (λ v. v.now) c.add.ensures.text) c.in_ok-settle_expr-in-When.ensures.settled c.in_ok-action-in-When.ensures.settled
+pub returns-clause-settled : goal.returns-clause-settled
+returns-clause-settled c =
+    rule_made (sense_of c.args.scope.now) c.args.ranges c.settle_action-action.result c.push_rule.result c.args.sites.now.text.now c.settle_guard.new.sites.text.now c.args.pattern.now c.in_ok-guard.guard c.args.action.now c.len-site.result
+    c.args.sites.now.lines.items c.settle_guard.new.sites.lines.items c.settle_action-action.new.sites.lines.items c.args.rules.now.items c.push_rule.new.rules.items
+    (c.len-site.ensures ∙ c.args.sites.now.lines.ok.0) (ap (λ v. v.now) c.settle_guard.ensures.text) c.in_ok-guard.ensures.settled c.settle_action-action.ensures.settled c.push_rule.ensures.judged c.push_rule.ensures.pushed
 
-pub returns-in_ok-action-in-Range-clause-settled : goal.returns-in_ok-action-in-Range-clause-settled
-returns-in_ok-action-in-Range-clause-settled c =
-    range_rules (sense_of c.args.scope.now) c.args.ranges c.args.sites.now.text.now c.add-in-Range.new.self.text.now c.args.pattern.now c.in-Range.left c.in-Range.first c.get-in-Range.result.now c.in-Range.last c.get-in-Range-2.result.now c.in_ok-first-in-Range.first c.in_ok-last-in-Range.last c.args.action.now c.in_ok-action-in-Range.action
-    c.len-site.result c.args.sites.now.lines.items c.add-in-Range.new.self.lines.items c.settle_action-in-Range.new.sites.lines.items
-    c.in-Range.is c.get-in-Range.ensures c.get-in-Range-2.ensures (c.len-site.ensures ∙ c.args.sites.now.lines.ok.0) c.in_ok-add-in-Range.ensures.lines (ap (λ v. v.now) c.add-in-Range.ensures.text) c.in_ok-first-in-Range.ensures.settled c.in_ok-last-in-Range.ensures.settled c.in_ok-action-in-Range.ensures.settled
+pub returns-clause-judged : goal.returns-clause-judged
+returns-clause-judged c =
+    then_judged (pattern_gap (sense_of c.args.scope.now) c.args.pattern.now) (action_gap (sense_of c.args.scope.now) c.args.action.now) c.push_rule.result c.in_ok-guard.ensures.judged
+    (judges_on (action_gap (sense_of c.args.scope.now) c.args.action.now) c.settle_action-action.result c.push_rule.result c.settle_action-action.ensures.judged c.push_rule.ensures.judged)

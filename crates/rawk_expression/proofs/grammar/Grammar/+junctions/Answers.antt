@@ -32,12 +32,6 @@ pub further-loop-turn-init : goal.further-loop-turn-init
 unfolding further
 further-loop-turn-init g t c = grind (arith, common_steps)
 
-pub further-returns-in_err-start : goal.further-returns-in_err-start
-unfolding further_from
-further-returns-in_err-start g t c =
-    let e = one_more (λ n. further_from c.args.level (begun c.args.self.now.depth (expression c.args.self.now.depth) (junction c.args.self.now.depth (expression c.args.self.now.depth) c.args.prints (c.args.level - 1))) n c.loop-turn.operands c.loop-turn.tokens) _ c.loop-turn._turn c.loop-turn-test.true c.loop-turn.invariant in
-    grind (arith, common_steps)
-
 pub further-returns-in_err-next : goal.further-returns-in_err-next
 unfolding further_from
 further-returns-in_err-next g t c =

@@ -3,10 +3,13 @@ use Rattle.rawk_expression.specs.Expression.{further, further_from, begun, junct
 use Rattle.rawk_expression.proofs.grammar.Grammar.+junctions.Given as goal
 
 abbrev pub decreases-junction : goal.decreases-junction
-decreases-junction g l = 2 * l.level
+decreases-junction g l = 3 * l.level
 
 abbrev pub decreases-further : goal.decreases-further
-decreases-further g l = 2 * l.level - 1
+decreases-further g l = 3 * l.level - 1
+
+abbrev pub decreases-next : goal.decreases-next
+decreases-next g l = 3 * l.level - 2
 
 abbrev pub invariant-further-loop-turn : goal.invariant-further-loop-turn
 invariant-further-loop-turn g l =

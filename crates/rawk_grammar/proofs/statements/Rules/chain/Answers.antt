@@ -22,12 +22,6 @@ returns-then-not-goes_on g c =
     let e = one_more (λ n. chain_from c.args.self.now.depth (statement c.args.self.now.depth) c.args.self.now.context n c.loop-turn.branches c.loop-turn.tokens) _ c.loop-turn._turn c.loop-turn-test.true c.loop-turn.invariant in
     grind (arith, common_steps)
 
-pub returns-in_err-last : goal.returns-in_err-last
-unfolding chain_from
-returns-in_err-last g c =
-    let e = one_more (λ n. chain_from c.args.self.now.depth (statement c.args.self.now.depth) c.args.self.now.context n c.loop-turn.branches c.loop-turn.tokens) _ c.loop-turn._turn c.loop-turn-test.true c.loop-turn.invariant in
-    grind (arith, common_steps)
-
 pub returns-then-not-eat : goal.returns-then-not-eat
 unfolding chain_from
 returns-then-not-eat g c =

@@ -88,6 +88,3 @@ returns-in-Err-step-clause-err g c =
           subst (λ (s : g.row.R.Denot). CountsUp (g.R.Source.handed s) (g.R.Source.handed c.step.new.tape.source) (length read)) source
           (counted_first g.R.Source.over g.R.Source.handed c.new-tape.result c.step.new.tape empty c.step.ensures.draws);
     })
-
-pub invariant_of-store : goal.invariant_of-store
-invariant_of-store g c = record { is = c.store.inside.last.is }

@@ -1,6 +1,5 @@
 use Rattle.std.proofs.Common.{◌≡◌, List, [], ◌∷◌, ◌++◌, length, reverse, refl, sym, ap, ◌∙◌, subst, arith}
 use Rattle.std.proofs.lemmas.List.{reverse-append}
-use Rattle.rawk_value.specs.declared.value.Value.{Value}
 use Rattle.rawk_store.specs.Groups.{Group}
 use Rattle.rawk_store.specs.declared.registers.Registers.{Registers}
 use Rattle.rawk_store.specs.Saving.{saved_in}
@@ -22,21 +21,21 @@ invariant_of-self-2 g c =
     let i = c.self.inside in
     let v = c.self.invariant in
     let l = now_of i.store in
-    let n = now_of c.write.new.store in
+    let n = now_of c.write_copy.new.store in
     let here = reverse i.here.items in
     let size = length i.tape.bytes in
     let kept = g.K.Keeper.kept i.keeper in
-    let w = c.in_ok-write.ensures in
+    let w = c.in-Ok.ensures in
     let x = w.back.0 in
     let e : SetAt = record { point = i.point; target = c.args.target; value = c.args.value } in
     let going = no_ending i.store.registers.now.ending (ap (λ (m : Standing g.row.R.Denot). m.ending) c.self.view_is ∙ c.requires) in
     let placed : IsPlaced l i.point size = record { goes = going; here = (v.below going).0; consumed = omega (arith, v.consumed, c.consumed-consumed.ensures.in_range, c.consumed-consumed.ensures.value) } in
-    let last : reverse c.write.new.here.items ≡ x ∷ here = ap (λ (gs : List Group). reverse gs) w.back.1 ∙ reverse-append i.here.items (x ∷ []) in
+    let last : reverse c.write_copy.new.here.items ≡ x ∷ here = ap (λ (gs : List Group). reverse gs) w.back.1 ∙ reverse-append i.here.items (x ∷ []) in
     let chain : Chain n i.point size (i.sets.items ++ e ∷ []) (x ∷ here) kept = chain_set l n i.point size i.sets.items e x here kept placed w.back.2 w.back.3 refl v.chain in
-    let pushed : c.push.new.self.items ≡ i.sets.items ++ e ∷ [] = c.in_ok-push.ensures.items ∙ ap (λ (xs : List SetAt). xs ++ e ∷ []) c.reserve.ensures.items in
+    let pushed : c.push.new.self.items ≡ i.sets.items ++ e ∷ [] = c.in_ok-push.ensures.items ∙ ap (λ (xs : List SetAt). xs ++ e ∷ []) c.write_copy.ensures.sets in
     let chain2 = subst (λ (xs : List SetAt). Chain n i.point size xs (x ∷ here) kept) (sym pushed) chain in
     record {
-      rest = c.write.ensures.rest;
+      rest = c.write_copy.ensures.rest;
       sound = w.sound;
       consumed = v.consumed ∙ sym (ap (λ (r : Registers). r.consumed) w.did.registers);
       below = subst (λ (r : Registers). IsBelow r i.point i.steps) (sym w.did.registers) v.below;
@@ -54,23 +53,23 @@ returns-clause-made g c =
     let i = c.self.inside in
     let v = c.self.invariant in
     let l = now_of i.store in
-    let n = now_of c.write.new.store in
+    let n = now_of c.write_copy.new.store in
     let here = reverse i.here.items in
     let size = length i.tape.bytes in
     let kept = g.K.Keeper.kept i.keeper in
     let limit = g.K.Keeper.limit i.keeper in
-    let w = c.in_ok-write.ensures in
+    let w = c.in-Ok.ensures in
     let x = w.back.0 in
     let target = c.args.target in
     let value = c.args.value in
     let e : SetAt = record { point = i.point; target = target; value = value } in
-    let last : reverse c.write.new.here.items ≡ x ∷ here = ap (λ (gs : List Group). reverse gs) w.back.1 ∙ reverse-append i.here.items (x ∷ []) in
-    let pushed : c.push.new.self.items ≡ i.sets.items ++ e ∷ [] = c.in_ok-push.ensures.items ∙ ap (λ (xs : List SetAt). xs ++ e ∷ []) c.reserve.ensures.items in
-    let did : IsWritten target value l n = subst (λ (y : Value). IsWritten target y l n) c.in_ok-kept.ensures w.did in
+    let last : reverse c.write_copy.new.here.items ≡ x ∷ here = ap (λ (gs : List Group). reverse gs) w.back.1 ∙ reverse-append i.here.items (x ∷ []) in
+    let pushed : c.push.new.self.items ≡ i.sets.items ++ e ∷ [] = c.in_ok-push.ensures.items ∙ ap (λ (xs : List SetAt). xs ++ e ∷ []) c.write_copy.ensures.sets in
+    let did : IsWritten target value l n = w.did in
     let standing = λ (xs : List SetAt) (gs : List Group). standing_of i.code i.settings i.steps xs i.point i.tape n i.executed gs kept limit Nothing in (
       refl,
       saved_in x,
-      ap (λ (xs : List SetAt). standing xs (reverse c.write.new.here.items)) pushed
+      ap (λ (xs : List SetAt). standing xs (reverse c.write_copy.new.here.items)) pushed
           ∙ ap (standing (i.sets.items ++ e ∷ [])) last
           ∙ set_is i.code i.settings i.steps i.sets.items i.point i.tape l n i.executed x here kept limit (last_of i.last (g.K.Keeper.forth i.keeper)) target value did w.back.2
           ∙ ap (set_made (saved_in x) target value) c.self.view_is,

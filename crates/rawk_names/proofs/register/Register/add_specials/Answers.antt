@@ -1,7 +1,7 @@
 use Rattle.std.proofs.Common.{◌≡◌, ℕ, take, ap, ◌∙◌, arith}
 use Rattle.rawk_special.specs.Special.{field_count_name, special_names}
 use Rattle.rawk_names.specs.Items.{start, with_globals, with_variable, empty}
-use Rattle.rawk_names.proofs.register.Register.new.Goals as goal
+use Rattle.rawk_names.proofs.register.Register.add_specials.Goals as goal
 
 pub returns : goal.returns
 unfolding start

@@ -1,0 +1,139 @@
+// Instructions, one behind another; and jumps forward, which are left open until their ends are known.
+
+ghost use Rattle.std.specs.Prelude.{◌≡◌, [], ◌∷◌, ◌++◌, ◌-◌, ◌<◌, Some, pos, OnOk, length};
+ghost use Rattle.rawk_compiler.specs.Written.{over, led};
+
+use rawk_code::{Destination, Instr, Operand, Simple};
+use rawk_value::{Arithmetic, Bytes};
+use std::alloc::{AllocError, Global};
+
+// One more instruction.
+pub(crate) fn put(code: &mut Vec<Instr>, instr: Instr) -> Result<(), AllocError>
+    ensures { OnOk result (code.new.items ≡ code.old.items ++ instr ∷ []) }
+{
+    code.push(instr)?;
+    Ok(())
+}
+
+// A point.
+pub(crate) fn put_point(code: &mut Vec<Instr>, site: usize) -> Result<(), AllocError>
+    ensures { OnOk result (code.new.items ≡ code.old.items ++ Instr.Point (Some site) ∷ []) }
+{
+    put(code, Instr::Point(Some(site)))
+}
+
+// What has its value at once goes onto the operands.
+pub(crate) fn put_push(code: &mut Vec<Instr>, from: Simple) -> Result<(), AllocError>
+    ensures { OnOk result (code.new.items ≡ code.old.items ++ Instr.Push from ∷ []) }
+{
+    put(code, Instr::Push(from))
+}
+
+// A text goes onto the operands.
+pub(crate) fn put_text(alloc: Global, code: &mut Vec<Instr>, text: &Bytes) -> Result<(), AllocError>
+    ensures { OnOk result (code.new.items ≡ code.old.items ++ Instr.Push (Simple.Text text.now) ∷ []) }
+{
+    let copy = Bytes::from_slice(alloc, text.as_slice())?;
+    put_push(code, Simple::Text(copy))
+}
+
+// A change of a variable, whose old number becomes the newest operand.
+pub(crate) fn put_after(
+    code: &mut Vec<Instr>,
+    op: Arithmetic,
+    x: Destination,
+) -> Result<(), AllocError>
+    ensures { OnOk result (code.new.items ≡ code.old.items ++ Instr.After op x ∷ []) }
+{
+    put(code, Instr::After(op, x))
+}
+
+// A change of a variable, which leaves no value.
+pub(crate) fn put_step(
+    code: &mut Vec<Instr>,
+    op: Arithmetic,
+    x: Destination,
+) -> Result<(), AllocError>
+    ensures { OnOk result (code.new.items ≡ code.old.items ++ Instr.StoreUpdate op x (Operand.Given (Simple.Number (pos 1))) ∷ []) }
+{
+    let one = Operand::Given(Simple::Number(1));
+    put(code, Instr::StoreUpdate(op, x, one))
+}
+
+// A call of a function with so many arguments.
+pub(crate) fn put_call(
+    code: &mut Vec<Instr>,
+    function: usize,
+    count: usize,
+) -> Result<(), AllocError>
+    ensures { OnOk result (code.new.items ≡ code.old.items ++ Instr.Call function count ∷ []) }
+{
+    put(code, Instr::Call(function, count))
+}
+
+// The text that a format makes of so many arguments.
+pub(crate) fn put_sprintf(code: &mut Vec<Instr>, count: usize) -> Result<(), AllocError>
+    ensures { OnOk result (code.new.items ≡ code.old.items ++ Instr.Sprintf count ∷ []) }
+{
+    put(code, Instr::Sprintf(count))
+}
+
+// A part of a text.
+pub(crate) fn put_part(code: &mut Vec<Instr>) -> Result<(), AllocError>
+    ensures { OnOk result (code.new.items ≡ code.old.items ++ Instr.Part ∷ []) }
+{
+    put(code, Instr::Part)
+}
+
+// What a range's flag becomes.
+pub(crate) fn put_range(code: &mut Vec<Instr>, range: usize, on: bool) -> Result<(), AllocError>
+    ensures { OnOk result (code.new.items ≡ code.old.items ++ Instr.SetRange range on ∷ []) }
+{
+    put(code, Instr::SetRange(range, on))
+}
+
+// A jump to a place.
+pub(crate) fn put_go_to(code: &mut Vec<Instr>, place: usize) -> Result<(), AllocError>
+    ensures { OnOk result (code.new.items ≡ code.old.items ++ Instr.GoTo place ∷ []) }
+{
+    put(code, Instr::GoTo(place))
+}
+
+// A jump forward that is left open.
+pub(crate) fn put_open(code: &mut Vec<Instr>) -> Result<(), AllocError>
+    ensures { OnOk result (code.new.items ≡ code.old.items ++ Instr.GoOn 0 ∷ []) }
+{
+    put(code, Instr::GoOn(0))
+}
+
+// The jump forward at a place passes so many instructions.
+pub(crate) fn patch(code: &mut Vec<Instr>, place: usize, count: usize)
+    requires { place < length code.now.items }
+    ensures items { code.new.items ≡ led code.old.items place count }
+    ensures size { length code.new.items ≡ length code.old.items }
+{
+    lead(&mut code[place], count);
+}
+
+// A jump forward passes so many instructions.
+fn lead(jump: &mut Instr, count: usize)
+    ensures { jump.new ≡ over count jump.old }
+{
+    match jump {
+        Instr::GoOn(passed) => *passed = count,
+        Instr::SkipIfFalse(passed, _) => *passed = count,
+        Instr::SkipIfOn(_, passed) => *passed = count,
+        Instr::Decide(_, passed) => *passed = count,
+        Instr::ReadRecord(passed) => *passed = count,
+        _ => {}
+    }
+}
+
+// The jump forward at a place passes each instruction behind it.
+pub(crate) fn pass_rest(code: &mut Vec<Instr>, place: usize)
+    requires { place < length code.now.items }
+    ensures { code.new.items ≡ led code.old.items place (length code.old.items - place - 1) }
+{
+    let count = code.len() - place - 1;
+    patch(code, place, count);
+}
