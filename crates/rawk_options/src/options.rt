@@ -48,23 +48,34 @@ fn is_asked_for(kind: ErrorKind) -> bool
 
 /// The options and operands. The value of an option may begin with `-`.
 fn command<'a>(alloc: Global) -> Result<Command<'a>, AllocError> {
-    let operands = Arg::new(alloc, "operands")
-        .value_name("OPERAND")
-        .help("PROGRAM, the text of a program, and FILE, its input (default the standard input)")
-        .num_args(ValueRange::new(0..))
-        .action(ArgAction::Append);
+    let arguments = vec![in alloc;
+        separator(alloc),
+        assignment(alloc),
+        program_file(alloc),
+        debug(alloc),
+        steps(alloc),
+        history(alloc),
+        operands(alloc),
+    ]?;
+    named(alloc).args(arguments)
+}
+
+/// The command's name, its version and its help, without options.
+fn named<'a>(alloc: Global) -> Command<'a> {
     Command::new(alloc, "rawk")
         .version(VERSION)
         .no_binary_name(true)
         .override_usage(USAGE)
         .after_help(SESSION_HELP)
-        .arg(separator(alloc))?
-        .arg(assignment(alloc))?
-        .arg(program_file(alloc))?
-        .arg(debug(alloc))?
-        .arg(steps(alloc))?
-        .arg(history(alloc))?
-        .arg(operands)
+}
+
+/// The operands: PROGRAM and FILE.
+fn operands<'a>(alloc: Global) -> Arg<'a> {
+    Arg::new(alloc, "operands")
+        .value_name("OPERAND")
+        .help("PROGRAM, the text of a program, and FILE, its input (default the standard input)")
+        .num_args(ValueRange::new(0..))
+        .action(ArgAction::Append)
 }
 
 /// The option `-F`.

@@ -212,3 +212,36 @@ pub returns-in-Some-clause-asks : goal.returns-in-Some-clause-asks
 returns-in-Some-clause-asks g c = λ input gone handed may at asked.
     let old = c.args.self.now in
     asked_wider old.code old.settings (given_of old input) old.point (old.point + 1) (gone ++ old.tape.bytes) (omega arith) asked
+
+pub returns-in-Some-clause-code : goal.returns-in-Some-clause-code
+returns-in-Some-clause-code g c = refl
+
+pub returns-in-Some-clause-settings : goal.returns-in-Some-clause-settings
+returns-in-Some-clause-settings g c = refl
+
+pub returns-in-Some-clause-sets : goal.returns-in-Some-clause-sets
+returns-in-Some-clause-sets g c = refl
+
+pub returns-in-Some-clause-steps : goal.returns-in-Some-clause-steps
+returns-in-Some-clause-steps g c = refl
+
+pub returns-in-Some-clause-limit : goal.returns-in-Some-clause-limit
+returns-in-Some-clause-limit g c = refl
+
+pub returns-in-Some-clause-may : goal.returns-in-Some-clause-may
+returns-in-Some-clause-may g c = λ gone input comes. comes
+
+pub returns-in-Some-clause-stands : goal.returns-in-Some-clause-stands
+returns-in-Some-clause-stands g c = λ input gone handed comes is. is
+
+pub returns-in-Some-clause-stood : goal.returns-in-Some-clause-stood
+returns-in-Some-clause-stood g c = λ input comes stood. stood
+
+pub returns-in-Some-clause-rests : goal.returns-in-Some-clause-rests
+returns-in-Some-clause-rests g c = λ ending. refl
+
+pub returns-in-Some-clause-err : goal.returns-in-Some-clause-err
+returns-in-Some-clause-err g c = tt
+
+pub returns-in_ok-journaled-in-None-clause-err : goal.returns-in_ok-journaled-in-None-clause-err
+returns-in_ok-journaled-in-None-clause-err g c = tt

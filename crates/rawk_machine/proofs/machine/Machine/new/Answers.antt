@@ -88,3 +88,102 @@ returns-in-Err-step-clause-err g c =
           subst (λ (s : g.row.R.Denot). CountsUp (g.R.Source.handed s) (g.R.Source.handed c.step.new.tape.source) (length read)) source
           (counted_first g.R.Source.over g.R.Source.handed c.new-tape.result c.step.new.tape empty c.step.ensures.draws);
     })
+
+pub returns-clause-code : goal.returns-clause-code
+returns-clause-code g c = refl
+
+pub returns-clause-steps : goal.returns-clause-steps
+returns-clause-steps g c = refl
+
+pub returns-clause-point : goal.returns-clause-point
+returns-clause-point g c = refl
+
+pub returns-clause-limit : goal.returns-clause-limit
+returns-clause-limit g c = refl
+
+pub returns-clause-err : goal.returns-clause-err
+returns-clause-err g c = tt
+
+pub returns-in-Err-clause-code : goal.returns-in-Err-clause-code
+returns-in-Err-clause-code g c = tt
+
+pub returns-in-Err-clause-settings : goal.returns-in-Err-clause-settings
+returns-in-Err-clause-settings g c = tt
+
+pub returns-in-Err-clause-sets : goal.returns-in-Err-clause-sets
+returns-in-Err-clause-sets g c = tt
+
+pub returns-in-Err-clause-steps : goal.returns-in-Err-clause-steps
+returns-in-Err-clause-steps g c = tt
+
+pub returns-in-Err-clause-point : goal.returns-in-Err-clause-point
+returns-in-Err-clause-point g c = tt
+
+pub returns-in-Err-clause-unset : goal.returns-in-Err-clause-unset
+returns-in-Err-clause-unset g c = tt
+
+pub returns-in-Err-clause-history : goal.returns-in-Err-clause-history
+returns-in-Err-clause-history g c = tt
+
+pub returns-in-Err-clause-limit : goal.returns-in-Err-clause-limit
+returns-in-Err-clause-limit g c = tt
+
+pub returns-in-Err-clause-may : goal.returns-in-Err-clause-may
+returns-in-Err-clause-may g c = tt
+
+pub returns-in-Err-clause-still : goal.returns-in-Err-clause-still
+returns-in-Err-clause-still g c = tt
+
+pub returns-in-Err-clause-stands : goal.returns-in-Err-clause-stands
+returns-in-Err-clause-stands g c = tt
+
+pub returns-in-Err-clause-asks : goal.returns-in-Err-clause-asks
+returns-in-Err-clause-asks g c = tt
+
+pub returns-in-Err-clause-counted : goal.returns-in-Err-clause-counted
+returns-in-Err-clause-counted g c = tt
+
+pub returns-in-Err-clause-stood : goal.returns-in-Err-clause-stood
+returns-in-Err-clause-stood g c = tt
+
+pub returns-in-Err-step-clause-code : goal.returns-in-Err-step-clause-code
+returns-in-Err-step-clause-code g c = tt
+
+pub returns-in-Err-step-clause-settings : goal.returns-in-Err-step-clause-settings
+returns-in-Err-step-clause-settings g c = tt
+
+pub returns-in-Err-step-clause-sets : goal.returns-in-Err-step-clause-sets
+returns-in-Err-step-clause-sets g c = tt
+
+pub returns-in-Err-step-clause-steps : goal.returns-in-Err-step-clause-steps
+returns-in-Err-step-clause-steps g c = tt
+
+pub returns-in-Err-step-clause-point : goal.returns-in-Err-step-clause-point
+returns-in-Err-step-clause-point g c = tt
+
+pub returns-in-Err-step-clause-unset : goal.returns-in-Err-step-clause-unset
+returns-in-Err-step-clause-unset g c = tt
+
+pub returns-in-Err-step-clause-history : goal.returns-in-Err-step-clause-history
+returns-in-Err-step-clause-history g c = tt
+
+pub returns-in-Err-step-clause-limit : goal.returns-in-Err-step-clause-limit
+returns-in-Err-step-clause-limit g c = tt
+
+pub returns-in-Err-step-clause-may : goal.returns-in-Err-step-clause-may
+returns-in-Err-step-clause-may g c = tt
+
+pub returns-in-Err-step-clause-still : goal.returns-in-Err-step-clause-still
+returns-in-Err-step-clause-still g c = tt
+
+pub returns-in-Err-step-clause-stands : goal.returns-in-Err-step-clause-stands
+returns-in-Err-step-clause-stands g c = tt
+
+pub returns-in-Err-step-clause-asks : goal.returns-in-Err-step-clause-asks
+returns-in-Err-step-clause-asks g c = tt
+
+pub returns-in-Err-step-clause-counted : goal.returns-in-Err-step-clause-counted
+returns-in-Err-step-clause-counted g c = tt
+
+pub returns-in-Err-step-clause-stood : goal.returns-in-Err-step-clause-stood
+returns-in-Err-step-clause-stood g c = tt

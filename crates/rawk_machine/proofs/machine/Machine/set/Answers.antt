@@ -81,3 +81,6 @@ returns-clause-stood g c = λ input stood.
     let made = (returns-clause-made g c).2 in
     let saved = (returns-clause-made g c).1 in
     subst (λ (m : Standing g.row.R.Denot). Stood m input) (sym made ∙ refl) (stood_set saved old input c.args.target c.args.value c.requires stood)
+
+pub returns-in-Err-clause-made : goal.returns-in-Err-clause-made
+returns-in-Err-clause-made g c = tt
