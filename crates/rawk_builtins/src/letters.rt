@@ -11,7 +11,7 @@ use std::alloc::{AllocError, Global};
 pub fn tolower(alloc: Global, text: &[u8]) -> Result<Bytes, AllocError>
     ensures { IfOk result (λ lowered. lowered ≡ map lower text.now) }
 {
-    Ok(Bytes::from_vec(text.to_ascii_lowercase(alloc)?))
+    Bytes::from_vec(alloc, text.to_ascii_lowercase(alloc)?)
 }
 
 /// The text with its lower-case letters of ASCII in upper case (POSIX awk, String Functions, in the POSIX locale).
@@ -19,5 +19,5 @@ pub fn tolower(alloc: Global, text: &[u8]) -> Result<Bytes, AllocError>
 pub fn toupper(alloc: Global, text: &[u8]) -> Result<Bytes, AllocError>
     ensures { IfOk result (λ raised. raised ≡ map upper text.now) }
 {
-    Ok(Bytes::from_vec(text.to_ascii_uppercase(alloc)?))
+    Bytes::from_vec(alloc, text.to_ascii_uppercase(alloc)?)
 }

@@ -40,7 +40,10 @@ fn constant_copied(alloc: Global, literal: Literal<'_>) -> Result<Constant, Allo
 {
     match literal {
         Literal::Number(n) => Ok(Constant::Number(n)),
-        Literal::Quoted(inside) => Ok(Constant::Text(Bytes::from_vec(unescaped(alloc, inside)?))),
+        Literal::Quoted(inside) => Ok(Constant::Text(Bytes::from_vec(
+            alloc,
+            unescaped(alloc, inside)?,
+        )?)),
     }
 }
 
@@ -51,9 +54,9 @@ fn key_copied(alloc: Global, literal: Literal<'_>) -> Result<Bytes, AllocError>
         Literal::Number(n) => {
             let mut text = Vec::new(alloc);
             push_number(&mut text, n)?;
-            Ok(Bytes::from_vec(text))
+            Bytes::from_vec(alloc, text)
         }
-        Literal::Quoted(inside) => Ok(Bytes::from_vec(unescaped(alloc, inside)?)),
+        Literal::Quoted(inside) => Bytes::from_vec(alloc, unescaped(alloc, inside)?),
     }
 }
 

@@ -1,6 +1,7 @@
 pub mod Follows
 pub mod Expressions
 pub mod Statements
+pub mod Adding
 pub mod Runs
 pub mod Calls
 pub mod Whole

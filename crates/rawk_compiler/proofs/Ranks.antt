@@ -28,7 +28,7 @@ use Rattle.rawk_code.specs.declared.code.Entry.{Entry}
 use Rattle.rawk_code.specs.declared.code.Instr.{Instr}
 use Rattle.rawk_code.specs.declared.code.Instr.TheVariants as instr
 use Rattle.rawk_code.specs.Trace.{reads}
-use Rattle.rawk_compiler.specs.Code.{simple_field, operand_of, unless_ready, pushed, joined, assign_code, store_code, choice_code, decide_code, change_code, step_code, expr_code, expr_codes, effect_code, place_code, link_code, link_codes, front_of, simples_behind, Piece, nowhere, always, in_turn, when_code, Arm, then_to, branch_to, if_code, step_around, body_around, loop_code, jump_code, test_code, stmt_code, stmt_codes, arms_of, closing_code, opened_code, guard_code, rule_code, records_code, main_code, begin_code, record_at_of, end_at_of, functions_at_of, function_code, functions_code, entries_of, program_code, HasAt, variable_of}
+use Rattle.rawk_compiler.specs.Code.{simple_field, operand_of, unless_ready, pushed, joined, assign_code, store_code, choice_code, decide_code, change_code, step_code, expr_code, expr_codes, effect_code, place_code, link_code, link_codes, front_of, simples_behind, Piece, nowhere, always, in_turn, when_code, Arm, then_to, branch_to, if_code, step_around, body_around, loop_code, jump_code, test_code, stmt_code, stmt_codes, arms_of, added, appended, added_code, closing_code, opened_code, guard_code, rule_code, records_code, main_code, begin_code, record_at_of, end_at_of, functions_at_of, function_code, functions_code, entries_of, program_code, HasAt, variable_of}
 use Rattle.rawk_code.specs.Valid.{rank_of, rank, IsEntry, Descends, IsValid}
 use Rattle.rawk_compiler.proofs.Follows.{has_front, has_back, has_all}
 use Rattle.rawk_compiler.proofs.Statements.{branches_length}
@@ -149,6 +149,18 @@ module _ (code : List Instr) where
   store_fine None instruction o c h f = fine_last c instr.Pop (λ pc. tt) f
   store_fine (Some x) instruction o c h f = fine_last (unless_ready o c) (instruction x o) (h x o) (unless_fine o c f)
 
+  appends_fine : (x : Destination) (froms : List Simple) → Fine (map (instr.Append x) froms)
+  appends_fine x [] = fine_none
+  appends_fine x (from ∷ froms) = fine_cons (instr.Append x from) (map (instr.Append x) froms) (λ pc. tt) (appends_fine x froms)
+
+  appended_fine : (x : Destination) (froms : List Simple) (other : List Instr) → Fine other → Fine (appended x froms other)
+  appended_fine x [] other f = f
+  appended_fine x (from ∷ froms) other f = appends_fine x (from ∷ froms)
+
+  added_fine : (t : Option Destination) (e : Expr) (other : List Instr) → Fine other → Fine (added_code t e other)
+  added_fine None e other f = f
+  added_fine (Some x) e other f = appended_fine x (added x e) other f
+
   effect_fine : (e : Expr) → Fine (effect_code e)
   effect_fine (expr.Number n) = fine_last _ instr.Pop (λ pc. tt) (expr_fine (expr.Number n))
   effect_fine (expr.Text text) = fine_last _ instr.Pop (λ pc. tt) (expr_fine (expr.Text text))
@@ -157,7 +169,7 @@ module _ (code : List Instr) where
   effect_fine (expr.Chain' p first shape more) = fine_last _ instr.Pop (λ pc. tt) (expr_fine (expr.Chain' p first shape more))
   effect_fine (expr.Choice' p a q b r c) = fine_last _ instr.Pop (λ pc. tt) (expr_fine (expr.Choice' p a q b r c))
   effect_fine (expr.After op p) = step_fine op (variable_of p) (place_code p) (place_fine p)
-  effect_fine (expr.Assign' t p e) = store_fine (variable_of t) instr.Store (operand_of e) (expr_code e) (λ x from pc. tt) (expr_fine e)
+  effect_fine (expr.Assign' t p e) = added_fine (variable_of t) e (store_code (variable_of t) instr.Store (operand_of e) (expr_code e)) (store_fine (variable_of t) instr.Store (operand_of e) (expr_code e) (λ x from pc. tt) (expr_fine e))
   effect_fine (expr.Update' op t p e) = store_fine (variable_of t) (instr.StoreUpdate op) (operand_of e) (expr_code e) (λ x from pc. tt) (expr_fine e)
   effect_fine (expr.Call' f shape args) = fine_last _ instr.Pop (λ pc. tt) (expr_fine (expr.Call' f shape args))
   effect_fine (expr.Part' p e q from r count) = fine_last _ instr.Pop (λ pc. tt) (expr_fine (expr.Part' p e q from r count))
@@ -487,6 +499,7 @@ module _ (code : List Instr) where
   descends again entries ready begins pc (Some (instr.Update op x from)) h back = onward pc (instr.Update op x from) h refl (pc + 1) (omega arith)
   descends again entries ready begins pc (Some (instr.Store x from)) h back = onward pc (instr.Store x from) h refl (pc + 1) (omega arith)
   descends again entries ready begins pc (Some (instr.StoreUpdate op x from)) h back = onward pc (instr.StoreUpdate op x from) h refl (pc + 1) (omega arith)
+  descends again entries ready begins pc (Some (instr.Append x from)) h back = onward pc (instr.Append x from) h refl (pc + 1) (omega arith)
   descends again entries ready begins pc (Some (instr.Print m simples)) h back = onward pc (instr.Print m simples) h refl (pc + 1) (omega arith)
   descends again entries ready begins pc (Some (instr.Printf m)) h back = onward pc (instr.Printf m) h refl (pc + 1) (omega arith)
   descends again entries ready begins pc (Some (instr.Sprintf m)) h back = onward pc (instr.Sprintf m) h refl (pc + 1) (omega arith)

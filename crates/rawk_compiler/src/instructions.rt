@@ -33,7 +33,7 @@ pub(crate) fn put_push(code: &mut Vec<Instr>, from: Simple) -> Result<(), AllocE
 pub(crate) fn put_text(alloc: Global, code: &mut Vec<Instr>, text: &Bytes) -> Result<(), AllocError>
     ensures { OnOk result (code.new.items ≡ code.old.items ++ Instr.Push (Simple.Text text.now) ∷ []) }
 {
-    let copy = Bytes::from_slice(alloc, text.as_slice())?;
+    let copy = text.copy()?;
     put_push(code, Simple::Text(copy))
 }
 

@@ -105,7 +105,7 @@ impl Keeper for Off {
         store: &mut Store,
         sets: &mut Vec<Group>,
     ) -> Result<(), AllocError> {
-        let _step = store.finish(alloc);
+        let _step = store.finish(alloc)?;
         sets.clear();
         Ok(())
     }

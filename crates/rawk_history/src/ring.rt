@@ -121,7 +121,7 @@ impl Keeper for Ring {
         store: &mut Store,
         sets: &mut Vec<Group>,
     ) -> Result<(), AllocError> {
-        let step = store.finish(alloc);
+        let step = store.finish(alloc)?;
         let sets = mem::replace(sets, Vec::new(alloc));
         let _oldest = self.items.push_back(Item { step, sets });
         self.ahead = None;

@@ -70,9 +70,16 @@ fn write(
 {
     here.reserve(1)?;
     assign(store, target, value)?;
-    let group = store.finish(alloc);
-    here.push(group)?;
-    Ok(())
+    match store.finish(alloc) {
+        Ok(group) => {
+            here.push(group)?;
+            Ok(())
+        }
+        Err(refused) => {
+            store.undo_step();
+            Err(refused)
+        }
+    }
 }
 
 /// Writes a copy of a value to a place, as `write` does, with room left for one more set.

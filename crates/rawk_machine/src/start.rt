@@ -54,10 +54,7 @@ fn settle_one(
 {
     match global_number(names, first.name.as_slice()) {
         None => Ok(()),
-        Some(number) => globals.set(
-            number,
-            Value::Input(Bytes::from_slice(alloc, first.text.as_slice())?),
-        ),
+        Some(number) => globals.set(number, Value::Input(first.text.copy()?)),
     }
 }
 

@@ -19,7 +19,7 @@ pub fn format(
 {
     let mut digits = Buffer::new();
     match rawk_format::format(alloc, text_borrowed(format, &mut digits), values) {
-        Ok(text) => Ok(Ok(Bytes::from_vec(text))),
+        Ok(text) => Ok(Ok(Bytes::from_vec(alloc, text)?)),
         Err(Fault::OutOfMemory) => Err(AllocError),
         Err(fault) => Ok(Err(fault)),
     }

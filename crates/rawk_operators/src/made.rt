@@ -5,7 +5,7 @@ ghost use Rattle.rawk_value.specs.Values.{flag, next_ok};
 ghost use Rattle.rawk_operators.specs.Borrowed.{borrowed_value};
 ghost use Rattle.rawk_operators.specs.Operators.{both_make, one_makes, signed};
 
-use crate::borrowed::{Borrowed, number, push_borrowed, text_borrowed, truth, whole};
+use crate::borrowed::{Borrowed, number, text_borrowed, truth, whole};
 use crate::ordered::compare;
 use crate::parts::{part, place};
 use itoa::Buffer;
@@ -44,10 +44,13 @@ fn compared(comparison: Comparison, left: Borrowed<'_>, right: Borrowed<'_>) -> 
 fn concat(alloc: Global, left: Borrowed<'_>, right: Borrowed<'_>) -> Result<Value, AllocError>
     ensures { IfOk result (λ v. Ok v ≡ both_make Joiner.Concat (borrowed_value left.entry) (borrowed_value right.entry)) }
 {
-    let mut text = Vec::new(alloc);
-    push_borrowed(&mut text, left)?;
-    push_borrowed(&mut text, right)?;
-    Ok(Value::String(Bytes::from_vec(text)))
+    let mut left_digits = Buffer::new();
+    let mut right_digits = Buffer::new();
+    Ok(Value::String(Bytes::concat(
+        alloc,
+        text_borrowed(left, &mut left_digits),
+        text_borrowed(right, &mut right_digits),
+    )?))
 }
 
 /// A copy of the left text from the place that the right number says on, or its fault. It fails where memory is refused.

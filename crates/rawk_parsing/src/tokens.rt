@@ -137,7 +137,7 @@ pub fn text(alloc: Global, tokens: &mut Cursor<'_>) -> Result<Bytes, ParseError>
 {
     let bytes = unescaped(alloc, unquoted(tokens.spelling()))?;
     tokens.take();
-    Ok(Bytes::from_vec(bytes))
+    Ok(Bytes::from_vec(alloc, bytes)?)
 }
 
 /// The bytes of the regular expression that begins at the next token, between its slashes; `Unterminated` where none ends on the line.

@@ -1,8 +1,8 @@
 //! Slots whose content can be put back as it stood when the step began.
 
-ghost use Rattle.std.specs.Prelude.{◌≡◌, ◌<◌, ◌≤◌, ◌+◌, ◌++◌, ◌∷◌, [], ℕ, List, OnErr, OnOk, Some, drop, length, slice_get, slice_set, take};
+ghost use Rattle.std.specs.Prelude.{◌≡◌, ◌<◌, ◌≤◌, ◌+◌, ◌++◌, ◌∷◌, [], ℕ, IfSome, List, OnErr, OnOk, Some, drop, if◌then◌else◌, length, slice_get, slice_set, take};
 ghost use Rattle.std.specs.Bool.{OnTrue};
-ghost use Rattle.std.specs.Option.{option_copied};
+ghost use Rattle.std.specs.Option.{is_some, option_copied};
 ghost use Rattle.rawk_slots.specs.Back.{back, AreBelow, AreDistinctFrom, HasAdded};
 ghost use Rattle.rawk_slots.specs.Journaled.{Longer, at_rest};
 
@@ -96,6 +96,33 @@ impl<T: Drop> Slots<T> {
             self.write(place, value)?;
         }
         Ok(())
+    }
+
+    /// Puts a value into a slot, which the step's beginning then has too, while the step has changed nothing, and gives what stood there. It takes no memory.
+    #[inline]
+    pub fn replace_at_rest(&mut self, place: usize, value: T) -> T
+        requires within { place < length self.old.now }
+        requires rest { self.old.start ≡ self.old.now }
+        ensures value { slice_get self.old.now place ≡ Some result }
+        ensures after { self.new ≡ at_rest (slice_set self.old.now place value) }
+    {
+        drop_all(&mut self.saved);
+        mem::replace(&mut self.items[place], value)
+    }
+
+    /// Puts a value into a slot that the step has changed already, and gives what stands there; `None` where the step has not changed the slot, and then
+    /// nothing has changed. It takes no memory.
+    #[inline]
+    pub fn take_changed(&mut self, place: usize, spare: T) -> Option<T>
+        requires { place < length self.old.now }
+        ensures value { IfSome result (λ v. slice_get self.old.now place ≡ Some v) }
+        ensures after { self.new.now ≡ (if is_some result then slice_set self.old.now place spare else self.old.now) }
+        ensures start { self.new.start ≡ self.old.start }
+    {
+        if is_saved(&self.marks, &self.saved, place) {
+            return Some(mem::replace(&mut self.items[place], spare));
+        }
+        None
     }
 
     /// Adds a slot, which the step's beginning then has too. It fails where memory is refused, and then nothing has changed.

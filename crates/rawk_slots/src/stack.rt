@@ -1,7 +1,7 @@
 //! A stack whose values can be put back as they stood when the step began.
 
-ghost use Rattle.std.specs.Prelude.{◌≡◌, ◌∷◌, [], OnErr, OnOk, drop, length, slice_get, slice_set, take};
-ghost use Rattle.std.specs.Option.{option_copied};
+ghost use Rattle.std.specs.Prelude.{◌≡◌, ◌∷◌, [], IfSome, OnErr, OnOk, Some, drop, if◌then◌else◌, length, slice_get, slice_set, take};
+ghost use Rattle.std.specs.Option.{is_some, option_copied};
 ghost use Rattle.std.specs.Bool.{OnTrue};
 ghost use Rattle.rawk_slots.specs.Journaled.{at_rest};
 ghost use Rattle.rawk_slots.specs.Stacked.{GrownStack, IsLive, empty_stack, live_slots, live_values};
@@ -119,6 +119,19 @@ impl<T: Drop> Stack<T> {
             self.slots.write(self.live - 1, value)?;
         }
         Ok(())
+    }
+
+    /// Puts a value in the place of the newest one, and gives that, where the step has changed its slot already; else `None`, and then nothing has changed. It takes no memory.
+    #[inline]
+    pub fn take_newest(&mut self, spare: T) -> Option<T>
+        ensures value { IfSome result (λ v. slice_get (live_values self.old.now) 0 ≡ Some v) }
+        ensures after { live_values self.new.now ≡ (if is_some result then slice_set (live_values self.old.now) 0 spare else live_values self.old.now) }
+        ensures start { self.new.start ≡ self.old.start }
+    {
+        if self.live > 0 {
+            return self.slots.take_changed(self.live - 1, spare);
+        }
+        None
     }
 
     /// Drops the newest values, as many as there are at most.

@@ -16,6 +16,7 @@ pub use numbering::field_number;
 pub use others::{OperandsGroup, Others};
 pub use output::Output;
 pub use rawk_arrays::{Arrays, ArraysGroup};
+pub use rawk_cells::Cells;
 pub use rawk_frames::{
     Activation, Frames, FramesGroup, KeysLeft, KeysLeftGroup, Local, Ranges, RangesGroup,
 };
@@ -24,5 +25,5 @@ pub use rawk_record::{
 };
 pub use rawk_slots::{Reversible, Saved, SlotGroup, Slots, Stack, StackGroup, led_to};
 pub use registers::{Bank, Ending, Phase, Registers};
-pub use store::{Cells, Operands, Store};
+pub use store::{Operands, Store};
 pub use target::Target;

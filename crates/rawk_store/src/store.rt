@@ -1,6 +1,6 @@
 //! The state of a run, beside what it was when the step began.
 
-ghost use Rattle.std.specs.Prelude.{◌≡◌, None};
+ghost use Rattle.std.specs.Prelude.{◌≡◌, IfOk, None, OnErr, OnOk};
 ghost use Rattle.std.specs.Bool.{OnTrue};
 ghost use Rattle.rawk_record.specs.Shown.{record_back};
 ghost use Rattle.rawk_slots.specs.Back.{back};
@@ -14,13 +14,11 @@ use crate::others::Others;
 use crate::output::Output;
 use crate::registers::{Bank, Registers};
 use rawk_arrays::Arrays;
+use rawk_cells::Cells;
 use rawk_frames::{Frames, KeysLeft, Ranges};
 use rawk_slots::{Slots, Stack};
 use rawk_value::Value;
-use std::alloc::Global;
-
-/// The globals, of which a number names one, from 0.
-pub type Cells = Slots<Value>;
+use std::alloc::{AllocError, Global};
 
 /// The operand stack.
 pub type Operands = Stack<Value>;
@@ -46,7 +44,7 @@ impl Store {
         ensures { IsNew registers result }
     {
         Store {
-            globals: Slots::new(alloc),
+            globals: Cells::new(alloc),
             arrays: Arrays::new(alloc, seed),
             frames: Frames::new(alloc),
             keys: KeysLeft::new(alloc),
@@ -92,22 +90,25 @@ impl Store {
         })
     }
 
-    /// Ends the step, and gives what it changed. It takes no memory.
-    pub fn finish(&mut self, alloc: Global) -> Group
+    /// Ends the step, and gives what it changed. It takes memory at most where a text grew in place, and where that is refused nothing has changed.
+    pub fn finish(&mut self, alloc: Global) -> Result<Group, AllocError>
         ensures now { now_of self.new ≡ now_of self.old }
-        ensures rest { start_of self.new ≡ now_of self.old }
-        ensures back { put_back (now_of self.old) result ≡ start_of self.old }
-        ensures fits { FitsIn result (now_of self.old) }
+        ensures rest { OnOk result (start_of self.new ≡ now_of self.old) }
+        ensures open { OnErr result (start_of self.new ≡ start_of self.old) }
+        ensures back { IfOk result (λ group. put_back (now_of self.old) group ≡ start_of self.old) }
+        ensures fits { IfOk result (λ group. FitsIn group (now_of self.old)) }
         ensures sound { IsSound (now_of self.old) }
     {
+        self.known();
+        let globals = self.globals.finish(alloc)?;
         let others = self.finish_others(alloc);
-        Group {
-            globals: self.globals.finish(alloc),
+        Ok(Group {
+            globals,
             others,
             current: self.current.finish(alloc),
             output: self.output.finish(),
             registers: self.registers.finish(),
-        }
+        })
     }
 
     /// What is so of the parts that few steps change. It does nothing.

@@ -2,6 +2,7 @@
 #![tactic(auto, using(rawk_store::specs::Growth::grows))]
 
 mod act;
+mod append;
 mod at_once;
 mod borrowed;
 mod call;

@@ -1,14 +1,15 @@
 //! Texts.
 
-ghost use Rattle.std.specs.Prelude.{◌≡◌, IfOk};
+ghost use Rattle.std.specs.Prelude.{◌≡◌, ◌++◌, IfOk, OnErr, OnOk, take};
 
+use rawk_text::Text;
 use std::alloc::{AllocError, Global};
 use std::marker::Model;
 
 /// A text: any bytes, which contracts see as a list.
 #[derive(Drop)]
 pub struct Bytes {
-    items: Vec<u8>,
+    text: Text,
 }
 
 impl Model for Bytes {
@@ -16,7 +17,7 @@ impl Model for Bytes {
 
     ghost Value = { List ℕ };
 
-    ghost view = { λ b. b.items.items };
+    ghost view = { λ b. b.text };
 }
 
 impl Bytes {
@@ -25,21 +26,59 @@ impl Bytes {
         ensures { IfOk result (λ b. b ≡ bytes.now) }
     {
         Ok(Bytes {
-            items: Vec::from_slice(alloc, bytes)?,
+            text: Text::from_slice(alloc, bytes)?,
         })
     }
 
-    /// These bytes, moved. It takes no memory.
-    pub fn from_vec(items: Vec<u8>) -> Self
-        ensures { result ≡ items.items }
+    /// These bytes, moved where they are long. It fails where memory is refused.
+    pub fn from_vec(alloc: Global, items: Vec<u8>) -> Result<Self, AllocError>
+        ensures { IfOk result (λ b. b ≡ items.items) }
     {
-        Bytes { items }
+        Ok(Bytes {
+            text: Text::from_vec(alloc, items)?,
+        })
+    }
+
+    /// The two side by side. It fails where memory is refused.
+    pub fn concat(alloc: Global, left: &[u8], right: &[u8]) -> Result<Self, AllocError>
+        ensures { IfOk result (λ b. b ≡ left.now ++ right.now) }
+    {
+        Ok(Bytes {
+            text: Text::concat(alloc, left, right)?,
+        })
+    }
+
+    /// A copy. It takes no memory, and fails only where the count of owners is full.
+    #[inline]
+    pub fn copy(&self) -> Result<Self, AllocError>
+        ensures { IfOk result (λ b. b ≡ self.now) }
+    {
+        Ok(Bytes {
+            text: self.text.copy()?,
+        })
+    }
+
+    /// Adds bytes, in place where nobody shares them. It fails where memory is refused, and the bytes are then as they were.
+    #[inline]
+    pub fn append(&mut self, alloc: Global, more: &[u8]) -> Result<(), AllocError>
+        ensures ok { OnOk result (self.new ≡ self.old ++ more.now) }
+        ensures err { OnErr result (self.new ≡ self.old) }
+    {
+        self.text.append(alloc, more)
+    }
+
+    /// Keeps the first bytes, so many at most. It takes no memory.
+    #[inline]
+    pub fn truncate(&mut self, count: usize)
+        ensures { self.new ≡ take count self.old }
+    {
+        self.text.truncate(count)
     }
 
     /// The bytes.
     pub fn as_slice(&self) -> &[u8]
         ensures { result.now ≡ self.now }
     {
-        self.items.as_slice()
+        self.text.as_slice()
     }
 }

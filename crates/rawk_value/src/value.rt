@@ -19,15 +19,16 @@ pub enum Value {
 }
 
 impl Value {
-    /// A copy. It fails where memory is refused.
-    pub fn copy(&self, alloc: Global) -> Result<Value, AllocError>
+    /// A copy. It takes no memory, and fails only where a count of owners is full.
+    #[inline]
+    pub fn copy(&self, _alloc: Global) -> Result<Value, AllocError>
         ensures { IfOk result (λ v. v ≡ self.now) }
     {
         match self {
             Value::Uninitialized => Ok(Value::Uninitialized),
             Value::Number(n) => Ok(Value::Number(*n)),
-            Value::String(text) => Ok(Value::String(Bytes::from_slice(alloc, text.as_slice())?)),
-            Value::Input(text) => Ok(Value::Input(Bytes::from_slice(alloc, text.as_slice())?)),
+            Value::String(text) => Ok(Value::String(text.copy()?)),
+            Value::Input(text) => Ok(Value::Input(text.copy()?)),
         }
     }
 }

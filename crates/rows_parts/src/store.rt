@@ -1,5 +1,5 @@
 //! `store` and changes: the globals, the operands from the newest on, the output in brackets, and the place in the code. A change
-//! is `global VALUE` for one more, `global N=VALUE`, `operand VALUE`, `text TEXT`, `value VALUE` or `number N` for more output, or
+//! is `global VALUE` for one more, `global N=VALUE`, `append N=VALUE` for its text behind that of a global, `operand VALUE`, `text TEXT`, `value VALUE` or `number N` for more output, or
 //! `place N`; `apply` or `there and back` before `global N=VALUE`, `text TEXT`, `operand VALUE`, `newest VALUE`, `oldest N=VALUE`, `drop N`, `keep N`
 //! or `clear operands` makes a change of that part as a step of its own, which the second takes back. `step` ends the step, and `back` ends it and takes it back; `undo` takes back what it did so far.
 
@@ -8,7 +8,7 @@ use crate::values::value_of;
 use rawk_slots::StackChange;
 use rawk_slots::slots::Write;
 use rawk_store::{Phase, Registers, Store};
-use rawk_value::Value;
+use rawk_value::{Value, text_of};
 use rows_cases::{number_of, push_value};
 use std::alloc::{AllocError, Global};
 
@@ -49,10 +49,7 @@ fn make(alloc: Global, store: &mut Store, change: &[u8]) -> Result<(), AllocErro
     }
     match halves(change, b' ') {
         Some((word, rest)) => put(alloc, store, word, rest),
-        None => {
-            end(alloc, store, change);
-            Ok(())
-        }
+        None => end(alloc, store, change),
     }
 }
 
@@ -114,22 +111,24 @@ fn operands_change(
 }
 
 /// Ends the step, or takes it back.
-fn end(alloc: Global, store: &mut Store, word: &[u8]) {
+fn end(alloc: Global, store: &mut Store, word: &[u8]) -> Result<(), AllocError> {
     match word {
         b"back" => {
-            let mut group = store.finish(alloc);
+            let mut group = store.finish(alloc)?;
             store.undo(&mut group);
             drop(group);
         }
         b"undo" => store.undo_step(),
         _ => store.forget(),
     }
+    Ok(())
 }
 
 /// Changes a part of the store.
 fn put(alloc: Global, store: &mut Store, word: &[u8], rest: &[u8]) -> Result<(), AllocError> {
     match word {
         b"global" => put_global(alloc, store, rest),
+        b"append" => append(alloc, store, rest),
         b"operand" => store.operands.push(value_of(alloc, rest)?),
         b"text" => store.output.push(rest),
         b"value" => put_value(alloc, store, rest),
@@ -150,6 +149,14 @@ fn put_global(alloc: Global, store: &mut Store, global: &[u8]) -> Result<(), All
         }
         value => store.globals.add(value_of(alloc, value)?),
     }
+}
+
+/// Adds a value's text to that of a global.
+fn append(alloc: Global, store: &mut Store, global: &[u8]) -> Result<(), AllocError> {
+    let (number, value) = numbered(alloc, global)?;
+    let text = text_of(alloc, &value)?;
+    drop(value);
+    store.globals.append(alloc, number, &text)
 }
 
 /// Adds a value to the output.

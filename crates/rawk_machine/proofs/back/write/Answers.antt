@@ -4,12 +4,12 @@ use Rattle.rawk_store.specs.Layout.{Layout}
 use Rattle.rawk_store.specs.GroupBack.{FitsIn, put_back}
 use Rattle.rawk_machine.proofs.back.write.Goals as goal
 
-pub returns-clause-back : goal.returns-clause-back
-returns-clause-back c =
-    let g = c.finish-group.result in (
+pub returns-in_ok-push-in-Ok-clause-back : goal.returns-in_ok-push-in-Ok-clause-back
+returns-in_ok-push-in-Ok-clause-back c =
+    let g = c.in-Ok.group in (
       g,
-      c.in_ok-push.ensures.items ∙ ap (λ (gs : List Group). gs ++ g ∷ []) c.reserve.ensures.items,
-      ap (λ (l : Layout). put_back l g) c.finish-group.ensures.now ∙ c.finish-group.ensures.back
+      c.in_ok-push-in-Ok.ensures.items ∙ ap (λ (gs : List Group). gs ++ g ∷ []) c.reserve.ensures.items,
+      ap (λ (l : Layout). put_back l g) c.finish.ensures.now ∙ c.in-Ok.ensures.back
           ∙ c.assign.ensures.start ∙ c.requires.rest,
-      subst (λ (l : Layout). FitsIn g l) (sym c.finish-group.ensures.now) c.finish-group.ensures.fits,
+      subst (λ (l : Layout). FitsIn g l) (sym c.finish.ensures.now) c.in-Ok.ensures.fits,
     )

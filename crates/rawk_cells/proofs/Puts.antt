@@ -1,0 +1,83 @@
+-- Values that are put into a slot and taken out of it again.
+use Rattle.std.proofs.Common.{◌≡◌, ◌≤◌, ◌<◌, ◌+◌, ◌++◌, ◌∙◌, ℕ, List, ap, sym, subst, refl, inl, inr, length, get_or, set, Some, None, Option, take, arith}
+use Rattle.std.specs.Prelude.{slice_get, slice_set, slice_index_or}
+use Rattle.std.proofs.lemmas.List.{set-set, set-get_or, set_past, get_or-set_same, take-append-le, take_all, length-append, length-set}
+use Rattle.std.proofs.lemmas.Option.{get_or_from_slice_get, slice_get_cases}
+use Rattle.rawk_value.specs.declared.value.Value.{Value}
+use Rattle.rawk_value.specs.declared.value.Value.TheVariants.{Uninitialized, String}
+use Rattle.rawk_value.specs.Values.{Bytes, text_of}
+use Rattle.rawk_slots.specs.Journaled.{Journaled, at_rest}
+use Rattle.rawk_cells.specs.declared.cells.Grown.{Grown}
+use Rattle.rawk_cells.specs.Cells.{Grew, GrewAlone, before_growth, longer_at, own_length, shortened}
+
+pub same_set : (xs : List Value) (p : ℕ) (v : Value) → slice_get xs p ≡ Some v → slice_set xs p v ≡ xs
+same_set xs p v h = ap (λ w. slice_set xs p w) (sym (get_or_from_slice_get xs p v v h)) ∙ set-get_or xs p v
+
+pub put_again : (xs : List Value) (p : ℕ) (v u : Value) → slice_get xs p ≡ Some v → slice_set (slice_set xs p u) p v ≡ xs
+put_again xs p v u h = set-set xs p u v ∙ same_set xs p v h
+
+pub rested : (slots : Journaled (List Value)) → slots.start ≡ slots.now → at_rest slots.now ≡ slots
+rested slots rest = ap (λ (xs : List Value). let j : Journaled (List Value) = record { now = slots.now; start = xs } in j) (sym rest)
+
+-- what stood there stands there again
+pub same_again : (slots mid new : Journaled (List Value)) (p : ℕ) (v u : Value) → slice_get slots.now p ≡ Some v → slots.start ≡ slots.now → mid ≡ at_rest (slice_set slots.now p u) → new ≡ at_rest (slice_set mid.now p v) → new ≡ slots
+same_again slots mid new p v u h rest m n =
+    n ∙ (ap (λ (j : Journaled (List Value)). at_rest (slice_set j.now p v)) m ∙ (ap (λ (xs : List Value). at_rest xs) (put_again slots.now p v u h) ∙ rested slots rest))
+
+-- a longer text stands there
+pub grew : (slots mid new : Journaled (List Value)) (p n : ℕ) (text text2 more : Bytes) → slice_get slots.now p ≡ Some (String text) → mid ≡ at_rest (slice_set slots.now p Uninitialized) →
+    new ≡ at_rest (slice_set mid.now p (String text2)) → text2 ≡ text ++ more → n ≡ length text → Grew p more slots.now new (Some n)
+grew slots mid new p n text text2 more h m e t k =
+    let v : slice_index_or slots.now p Uninitialized ≡ String text = get_or_from_slice_get slots.now p (String text) Uninitialized h in
+    let is : new ≡ at_rest (longer_at p more slots.now) =
+    e ∙ (ap (λ (j : Journaled (List Value)). at_rest (slice_set j.now p (String text2))) m
+    ∙ (ap (λ (xs : List Value). at_rest xs) (set-set slots.now p Uninitialized (String text2))
+    ∙ (ap (λ (b : Bytes). at_rest (slice_set slots.now p (String b))) t
+    ∙ ap (λ (w : Value). at_rest (slice_set slots.now p (String (text_of w ++ more)))) (sym v)))) in
+    (ap (λ j. j.start) is, ap (λ j. j.now) is, ap own_length v ∙ sym k, v ∙ ap (λ (w : Value). String (text_of w)) (sym v))
+
+-- the text of a global that grew again is still as long at least as it was at first, and leads back there
+pub grew_on : (g : Grown) (slots new : Journaled (List Value)) (more : Bytes) (n : ℕ) → GrewAlone g slots → Grew g.place more slots.now new (Some n) → GrewAlone g new
+grew_on g slots new more n a w =
+    let t = text_of (slice_index_or slots.now g.place Uninitialized) in
+    let size : length new.now ≡ length slots.now = ap length w.1 ∙ length-set slots.now g.place (String (t ++ more)) in
+    let at : slice_index_or new.now g.place Uninitialized ≡ String (t ++ more) =
+    ap (λ (xs : List Value). slice_index_or xs g.place Uninitialized) w.1 ∙ get_or-set_same slots.now g.place (String (t ++ more)) Uninitialized a.within in
+    let own : own_length (slice_index_or slots.now g.place Uninitialized) ≡ length t = ap own_length w.3 in
+    let longer : own_length (slice_index_or new.now g.place Uninitialized) ≡ length t + length more = ap own_length at ∙ length-append t more in
+    record { within = omega (arith, a.within); rest = w.0 ∙ sym w.1; count = omega (arith, a.count) }
+
+pub before_on : (g : Grown) (slots new : Journaled (List Value)) (more : Bytes) (n : ℕ) → GrewAlone g slots → Grew g.place more slots.now new (Some n) → before_growth (Some g) new.start ≡ before_growth (Some g) slots.start
+before_on g slots new more n a w =
+    let p = g.place in
+    let t = text_of (slice_index_or slots.now p Uninitialized) in
+    let own : g.count ≤ length t = subst (λ k. g.count ≤ k) (ap own_length w.3) a.count in
+    let back = λ (xs : List Value). slice_set xs p (shortened g.count (slice_index_or xs p Uninitialized)) in
+    let at : slice_index_or (longer_at p more slots.now) p Uninitialized ≡ String (t ++ more) = get_or-set_same slots.now p (String (t ++ more)) Uninitialized a.within in
+    ap back w.0
+    ∙ (ap (λ (v : Value). slice_set (longer_at p more slots.now) p (shortened g.count v)) at
+    ∙ (set-set slots.now p (String (t ++ more)) (String (take g.count (t ++ more)))
+    ∙ (ap (λ (b : Bytes). slice_set slots.now p (String b)) (take-append-le g.count t more own)
+    ∙ (ap (λ (v : Value). slice_set slots.now p (shortened g.count v)) (sym w.3)
+    ∙ ap back (sym a.rest)))))
+
+-- a text that grew first leads back
+pub grew_first : (slots new : Journaled (List Value)) (p n : ℕ) (more : Bytes) → p < length slots.now → slots.start ≡ slots.now → Grew p more slots.now new (Some n) →
+    GrewAlone (record { place = p; count = n }) slots × (before_growth (Some (record { place = p; count = n })) slots.start ≡ slots.start)
+grew_first slots new p n more h rest w =
+    let t = text_of (slice_index_or slots.now p Uninitialized) in
+    let own : length t ≡ n = ap own_length (sym w.3) ∙ w.2 in
+    let back = λ (xs : List Value). slice_set xs p (shortened n (slice_index_or xs p Uninitialized)) in (
+      record { within = h; rest = rest; count = omega (arith, w.2) },
+      ap back rest
+          ∙ (ap (λ (v : Value). slice_set slots.now p (shortened n v)) w.3
+          ∙ (ap (λ (b : Bytes). slice_set slots.now p (String b)) (take_all n t (omega arith))
+          ∙ (ap (λ (v : Value). slice_set slots.now p v) (sym w.3) ∙ (set-get_or slots.now p Uninitialized ∙ sym rest)))),
+    )
+
+past_from_none : (xs : List Value) (p : ℕ) → slice_get xs p ≡ None → length xs ≤ p
+past_from_none xs p h = elim ((slice_get_cases xs p).1) [ inl a ↦ absurd (let e = a.2 in cc) | inr b ↦ b.0 ]
+
+-- no global has this number
+pub longer_past : (xs : List Value) (p : ℕ) (more : Bytes) → slice_get xs p ≡ None → longer_at p more xs ≡ xs
+longer_past xs p more h = set_past xs p (String (text_of (slice_index_or xs p Uninitialized) ++ more)) (past_from_none xs p h)
