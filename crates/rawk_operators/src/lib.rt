@@ -7,7 +7,7 @@ mod made;
 mod ordered;
 mod parts;
 
-pub use borrowed::{Borrowed, copy, join, number, push_borrowed, text_borrowed, truth};
+pub use borrowed::{Borrowed, copy, join, number, text_borrowed, truth};
 pub use formats::format;
 pub use made::{flag, make, make_unary};
 pub use ordered::{compare, compare_numbers};
