@@ -25,7 +25,7 @@ pub struct Grown {
 
 /// Globals, of which a number names one, from 0, beside what they were when the step began.
 ///
-/// A text that grows in place, where the step has changed nothing else, is not kept as it was: how many bytes it had leads back.
+/// A text that grows in place, where the step has changed no other global, is not kept as it was: how many bytes it had leads back.
 #[derive(Drop)]
 pub struct Cells {
     alloc: Global,
@@ -197,7 +197,7 @@ impl Cells {
         self.slots.add(value)
     }
 
-    /// Puts bytes behind the text of a global, in place where the step has changed nothing else and nobody shares the text; a number that no global has changes nothing. It fails
+    /// Puts bytes behind the text of a global, in place where the step has changed no other global and nobody shares the text; a number that no global has changes nothing. It fails
     /// where memory is refused, and then nothing has changed.
     pub fn append(&mut self, alloc: Global, place: usize, more: &[u8]) -> Result<(), AllocError>
         ensures did { OnOk result (self.new.now ≡ longer_at place more.now self.old.now) }
