@@ -7,3 +7,4 @@ pub mod Spans
 pub mod Found
 pub mod CutsOf
 pub mod Laws
+pub mod Patterns

@@ -3,12 +3,14 @@
 
 pub mod cached;
 pub mod laws;
+pub mod pattern;
 pub mod reading;
 pub mod replace;
 pub mod search;
 pub mod span;
 
 pub use cached::CachedExpression;
+pub use pattern::Pattern;
 pub use reading::expression;
 pub use replace::next_cut;
 pub use search::{next_match, next_nonempty, next_open, skip_to};
