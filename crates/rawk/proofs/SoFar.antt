@@ -1,5 +1,5 @@
 -- How a run that is written step by step follows its trace.
-use Rattle.std.proofs.Common.{◌≡◌, ℕ, ◌+◌, ◌-◌, ◌<◌, ◌≤◌, List, [], ◌∷◌, ◌++◌, ◌↔◌, length, take, drop, Option, None, Some, inl, arith, refl, sym, ◌∙◌, ap, subst, append_assoc, length-append, add-one}
+use Rattle.std.proofs.Common.{◌≡◌, ℕ, ◌+◌, ◌-◌, ◌<◌, ◌≤◌, List, [], ◌∷◌, ◌++◌, ◌↔◌, length, take, drop, Option, None, Some, arith, refl, sym, ◌∙◌, ap, subst, append_assoc, length-append, add-one}
 use Rattle.std.specs.Prelude.{slice_get}
 use Rattle.std.proofs.lemmas.Option.{slice_get_past}
 use Rattle.std.proofs.lemmas.List.{append-nil, take-append-drop, length-take-le}

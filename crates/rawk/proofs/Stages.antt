@@ -1,5 +1,5 @@
 -- A machine and its program go on being a stage.
-use Rattle.std.proofs.Common.{◌≡◌, ℕ, ◌+◌, ◌-◌, ◌≤◌, Bool, true, false, List, [], ◌∷◌, ◌++◌, length, Option, None, Some, refl, sym, ap, ◌∙◌, subst, arith, rules, IsTrue, if◌then◌else◌}
+use Rattle.std.proofs.Common.{◌≡◌, ℕ, ◌+◌, ◌-◌, ◌≤◌, Bool, true, false, List, [], ◌∷◌, ◌++◌, length, Option, None, Some, Result, Ok, Err, IfOk, OnErr, refl, sym, ap, ◌∙◌, subst, arith, rules, IsTrue, if◌then◌else◌}
 use Rattle.std.specs.Prelude.{nat_lt, nat_le, nat_eq, ◌||◌, slice_get, slice_index_or, unwrap_or, is_some}
 use Rattle.rawk_value.specs.declared.value.Value.{Value}
 use Rattle.rawk_value.specs.declared.value.Value.TheVariants.{Uninitialized}
@@ -12,11 +12,17 @@ use Rattle.rawk_history.specs.Keeping.{keeps_any}
 use Rattle.rawk_code.specs.Actions.{SetAt, Ending, sets_at}
 use Rattle.rawk_code.specs.Trace.{Trace, trace, number, site_at_end}
 use Rattle.rawk_code.specs.Correct.{CodeOf}
-use Rattle.rawk_machine.specs.Standing.{Standing, Earlier, Past, MayCome, Stood, LastMade, given_of, gone_back, taken_back}
+use Rattle.rawk_machine.specs.Standing.{Standing, Earlier, Past, MayCome, Stood, LastMade, given_of, gone_back, taken_back, set_made}
 use Rattle.rawk_machine.specs.Kept.{AllBelow, Few}
 use Rattle.rawk_machine.specs.InTrace.{exactly_by}
 use Rattle.rawk_debug.specs.Positions.{Snapshot, Stands, at, held_or, upto, raised, has_set_at, trace_under}
-use Rattle.rawk.specs.Staged.{IsStage, held_of, position_of}
+use Rattle.rawk_value.specs.declared.fault.Fault.{Fault}
+use Rattle.rawk_store.specs.State.{Target}
+use Rattle.rawk_tape.specs.Inputs.{before}
+use Rattle.rawk_tape.specs.declared.source.Ending.{Ending as End}
+use Rattle.rawk_travel.specs.Asking as asking
+use Rattle.rawk_debug.specs.Works.{Draws}
+use Rattle.rawk.specs.Staged.{IsStage, held_of, position_of, work_of}
 
 pub stage_kept : {S : Type 0} (may_give : S → Input → Type 0) (p : Program) (old new : Standing S) → IsStage may_give p old → new.code ≡ old.code → new.limit ≡ old.limit → ((input : Input) → MayCome may_give new [] input → MayCome may_give old [] input) →
     ((input : Input) → MayCome may_give new [] input → Stood old input → Stood new input) → IsStage may_give p new
@@ -41,6 +47,28 @@ unset_code (e ∷ es) m = refl
 pub unset_limit : {S : Type 0} (es : List Earlier) (m : Standing S) → (taken_back es m).limit ≡ m.limit
 unset_limit [] m = refl
 unset_limit (e ∷ es) m = refl
+
+pub back_work : {S : Type 0} (ps : List Past) (m : Standing S) → work_of (gone_back ps m) ≡ work_of m
+back_work [] m = refl
+back_work (p ∷ ps) m = refl
+
+pub unset_work : {S : Type 0} (es : List Earlier) (m : Standing S) → work_of (taken_back es m) ≡ work_of m
+unset_work [] m = refl
+unset_work (e ∷ es) m = refl
+
+-- a set does nothing else
+pub set_work : {S E : Type 0} (result : Result (Option Fault) E) (target : Target) (value : Value) (old new : Standing S) → IfOk result (λ fault. (fault ≡ None) × (saved : ℕ) × (new ≡ set_made saved target value old)) → OnErr result (new ≡ old)
+    → work_of new ≡ work_of old
+set_work (Ok fault) target value old new made same = ap work_of made.2
+set_work (Err refused) target value old new made same = ap work_of same
+
+-- what an advance draws
+pub draws_is : {S : Type 0} (over : S → Option End) (handed : S → ℕ) (old new : Standing S) → asking.Draws over handed old.tape new.tape → Draws over handed (work_of old) (work_of new)
+draws_is over handed old new d = record { longer = d.longer; counted = d.counted; closed = d.closed }
+
+-- what may still come behind what was read
+pub comes_behind : {S : Type 0} (may_give : S → Input → Type 0) (m : Standing S) (rest : Input) → may_give m.tape.source rest → MayCome may_give m [] (before m.tape.bytes rest)
+comes_behind may_give m rest come = record { kept = before m.tape.bytes rest; may = record { rest = rest; comes = come; whole = refl }; whole = refl }
 
 pub raised_few : (limit : Option ℕ) (point n : ℕ) → Few limit n → raised limit point (point - n) ≡ point - n
 raised_few None point n h = refl

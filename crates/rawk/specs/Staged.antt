@@ -8,6 +8,7 @@ use Rattle.rawk_machine.specs.Standing as machine
 use Rattle.rawk_machine.specs.Standing.{Standing, MayCome, Stood}
 use Rattle.rawk_debug.specs.Positions.{Position, Snapshot}
 use Rattle.rawk_debug.specs.Watching.{Observed}
+use Rattle.rawk_debug.specs.Works.{Work}
 
 -- a machine and its program
 pub record Staged (S : Type 0) : Type 0 where
@@ -18,8 +19,15 @@ pub record Staged (S : Type 0) : Type 0 where
 abbrev pub position_of : {S : Type 0} → Program → Standing S → Position
 position_of p m = record { program = p; settings = m.settings; steps = m.steps; history = m.limit; point = m.point; sets = m.sets; oldest = m.point - length m.history }
 
+abbrev pub stage_position : {S : Type 0} → Staged S → Position
+stage_position stage = position_of stage.program stage.machine
+
 abbrev pub held_of : {S : Type 0} → Standing S → Snapshot
 held_of m = record { over = m.ending; site = m.site; state = m.state }
+
+-- what it has done up to now
+abbrev pub work_of : {S : Type 0} → Standing S → Work S
+work_of m = record { executed = m.executed; read = m.tape.bytes; source = m.tape.source }
 
 -- what was seen before the last step; nothing where there was none
 abbrev pub seen_or : Option machine.Seen → Observed

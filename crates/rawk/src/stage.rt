@@ -57,7 +57,9 @@ impl<R: Source + Drop, K: Keeper> Stage<R, K> {
 impl<R: Source + Drop, K: Keeper> Stepper for Stage<R, K> {
     ghost use Rattle.std.specs.Prelude.{[], is_some};
     ghost use Rattle.rawk_machine.specs.Standing.{MayCome};
-    ghost use Rattle.rawk.specs.Staged.{position_of, held_of, seen_or};
+    ghost use Rattle.rawk.specs.Staged.{position_of, held_of, seen_or, work_of};
+
+    type Device = R;
 
     ghost position = { λ s. position_of s.program s.machine };
 
@@ -65,12 +67,15 @@ impl<R: Source + Drop, K: Keeper> Stepper for Stage<R, K> {
 
     ghost held = { λ s. held_of s.machine };
 
+    ghost work = { λ s. work_of s.machine };
+
     ghost before = { λ s. seen_or s.machine.before };
 
     ghost fresh = { λ s. is_some s.machine.before };
 
     fn known(&self) {
         self.machine.known();
+        self.machine.step();
     }
 
     fn program(&self) -> &Program {
@@ -181,6 +186,12 @@ impl<R: Source + Drop, K: Keeper> Stepper for Stage<R, K> {
     fn take_back(&mut self) -> bool {
         self.machine.known();
         self.machine.take_back()
+    }
+
+    fn into_source(self) -> R {
+        let Stage { program, machine } = self;
+        drop(program);
+        machine.into_source()
     }
 }
 

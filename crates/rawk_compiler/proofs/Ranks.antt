@@ -17,18 +17,20 @@ use Rattle.rawk_tree.specs.declared.tree.Rule.{Rule}
 use Rattle.rawk_tree.specs.declared.tree.Function.{Function}
 use Rattle.rawk_tree.specs.declared.tree.Program.{Program}
 use Rattle.rawk_value.specs.declared.operator.Arithmetic.{Arithmetic}
-use Rattle.rawk_parsing.specs.declared.tree.Logic.{Logic}
+use Rattle.rawk_words.specs.declared.operator.Logic.{Logic}
 use Rattle.rawk_compiler.specs.declared.loops.Around.{Around}
 use Rattle.rawk_code.specs.declared.code.Simple.{Simple}
 use Rattle.rawk_code.specs.declared.code.Simple.TheVariants as simple
 use Rattle.rawk_code.specs.declared.code.Operand.{Operand}
 use Rattle.rawk_code.specs.declared.code.Operand.TheVariants as operand
-use Rattle.rawk_code.specs.declared.code.Destination.{Destination}
+use Rattle.rawk_tree.specs.declared.tree.Destination.{Destination}
 use Rattle.rawk_code.specs.declared.code.Entry.{Entry}
 use Rattle.rawk_code.specs.declared.code.Instr.{Instr}
+use Rattle.rawk_code.specs.declared.code.Op.{Op}
+use Rattle.rawk_code.specs.declared.code.Op.TheVariants as does
 use Rattle.rawk_code.specs.declared.code.Instr.TheVariants as instr
 use Rattle.rawk_code.specs.Trace.{reads}
-use Rattle.rawk_compiler.specs.Code.{simple_field, operand_of, unless_ready, pushed, joined, assign_code, store_code, choice_code, decide_code, change_code, step_code, expr_code, expr_codes, effect_code, place_code, link_code, link_codes, front_of, simples_behind, Piece, nowhere, always, in_turn, when_code, Arm, then_to, branch_to, if_code, step_around, body_around, loop_code, jump_code, test_code, stmt_code, stmt_codes, arms_of, added, appended, added_code, closing_code, opened_code, guard_code, rule_code, records_code, main_code, begin_code, record_at_of, end_at_of, functions_at_of, function_code, functions_code, entries_of, program_code, HasAt, variable_of}
+use Rattle.rawk_compiler.specs.Code.{appending, simple_field, operand_of, unless_ready, pushed, joined, choice_code, decide_code, expr_code, expr_codes, effect_code, place_code, link_code, link_codes, front_of, simples_behind, Piece, nowhere, always, in_turn, when_code, Arm, then_to, branch_to, if_code, step_around, body_around, loop_code, jump_code, test_code, stmt_code, stmt_codes, arms_of, added, appended, closing_code, opened_code, guard_code, rule_code, records_code, main_code, begin_code, record_at_of, end_at_of, functions_at_of, function_code, functions_code, entries_of, program_code, HasAt}
 use Rattle.rawk_code.specs.Valid.{rank_of, rank, IsEntry, Descends, IsValid}
 use Rattle.rawk_compiler.proofs.Follows.{has_front, has_back, has_all}
 use Rattle.rawk_compiler.proofs.Statements.{branches_length}
@@ -87,11 +89,7 @@ module _ (code : List Instr) where
 
   pushed_fine : (o : Option Simple) (c : List Instr) → Fine c → Fine (pushed o c)
   pushed_fine None c f = f
-  pushed_fine (Some from) c f = fine_last [] (instr.Push from) (λ pc. tt) fine_none
-
-  assign_fine : (t : Option Destination) (instruction : Destination → Operand → Instr) (o : Operand) (c : List Instr) → ((x : Destination) (from : Operand) (pc : ℕ) → BackAt pc (instruction x from)) → Fine c → Fine (assign_code t instruction o c)
-  assign_fine None instruction o c h f = f
-  assign_fine (Some x) instruction o c h f = fine_last (unless_ready o c) (instruction x o) (h x o) (unless_fine o c f)
+  pushed_fine (Some from) c f = fine_last [] (instr.Do (does.Push from)) (λ pc. tt) fine_none
 
   choice_fine : (test : List Instr) (from : Operand) (first second : List Instr) → Fine test → Fine first → Fine second → Fine (choice_code test from first second)
   choice_fine test from first second ft fy fn =
@@ -100,80 +98,65 @@ module _ (code : List Instr) where
       fine_append test (instr.SkipIfFalse (length first + 1) from ∷ (first ++ (instr.GoOn (length second) ∷ second))) ft (fine_cons (instr.SkipIfFalse (length first + 1) from) (first ++ (instr.GoOn (length second) ∷ second)) (λ pc. tt) both)
 
   decide_fine : (l : Logic) (test : List Instr) (from : Operand) → Fine test → Fine (decide_code l test from)
-  decide_fine l test from ft = fine_cons (instr.Decide l (length test + 1)) (test ++ instr.Truth from ∷ []) (λ pc. tt) (fine_last test (instr.Truth from) (λ pc. tt) ft)
-
-  change_fine : (op : Arithmetic) (t : Option Destination) (read : List Instr) → Fine read → Fine (change_code op t read)
-  change_fine op None read f = f
-  change_fine op (Some x) read f = fine_last [] (instr.After op x) (λ pc. tt) fine_none
-
-  step_fine : (op : Arithmetic) (t : Option Destination) (read : List Instr) → Fine read → Fine (step_code op t read)
-  step_fine op None read f = fine_last read instr.Pop (λ pc. tt) f
-  step_fine op (Some x) read f = fine_last [] (instr.StoreUpdate op x _) (λ pc. tt) fine_none
+  decide_fine l test from ft = fine_cons (instr.Decide l (length test + 1)) (test ++ instr.Do (does.Truth from) ∷ []) (λ pc. tt) (fine_last test (instr.Do (does.Truth from)) (λ pc. tt) ft)
 
   mutual
     expr_fine : (e : Expr) → Fine (expr_code e)
-    expr_fine (expr.Number n) = fine_last [] (instr.Push _) (λ pc. tt) fine_none
-    expr_fine (expr.Text text) = fine_last [] (instr.Push _) (λ pc. tt) fine_none
+    expr_fine (expr.Number n) = fine_last [] (instr.Do (does.Push _)) (λ pc. tt) fine_none
+    expr_fine (expr.Text text) = fine_last [] (instr.Do (does.Push _)) (λ pc. tt) fine_none
     expr_fine (expr.Read p) = place_fine p
-    expr_fine (expr.Unary' u p e) = fine_last (unless_ready (operand_of e) (expr_code e)) (instr.Unary u (operand_of e)) (λ pc. tt) (unless_fine (operand_of e) (expr_code e) (expr_fine e))
+    expr_fine (expr.Unary' u p e) = fine_last (unless_ready (operand_of e) (expr_code e)) (instr.Do (does.Unary u (operand_of e))) (λ pc. tt) (unless_fine (operand_of e) (expr_code e) (expr_fine e))
     expr_fine (expr.Chain' p first shape more) = fine_append (expr_code first) (joined (link_codes more)) (expr_fine first) (joined_fine (link_codes more) (links_fine more))
     expr_fine (expr.Choice' p a q b r c) = choice_fine (unless_ready (operand_of a) (expr_code a)) (operand_of a) (expr_code b) (expr_code c) (unless_fine (operand_of a) (expr_code a) (expr_fine a)) (expr_fine b) (expr_fine c)
-    expr_fine (expr.After op p) = change_fine op (variable_of p) (place_code p) (place_fine p)
-    expr_fine (expr.Assign' t p e) = assign_fine (variable_of t) instr.Assign (operand_of e) (expr_code e) (λ x from pc. tt) (expr_fine e)
-    expr_fine (expr.Update' op t p e) = assign_fine (variable_of t) (instr.Update op) (operand_of e) (expr_code e) (λ x from pc. tt) (expr_fine e)
+    expr_fine (expr.After op x) = fine_last [] (instr.Do (does.After op x)) (λ pc. tt) fine_none
+    expr_fine (expr.Assign' x p e) = fine_last (unless_ready (operand_of e) (expr_code e)) (instr.Do (does.Assign x (operand_of e))) (λ pc. tt) (unless_fine (operand_of e) (expr_code e) (expr_fine e))
+    expr_fine (expr.Update' op x p e) = fine_last (unless_ready (operand_of e) (expr_code e)) (instr.Do (does.Update op x (operand_of e))) (λ pc. tt) (unless_fine (operand_of e) (expr_code e) (expr_fine e))
     expr_fine (expr.Call' f shape args) = fine_last (joined (expr_codes args)) (instr.Call f (length (expr_codes args))) (λ pc. tt) (joined_fine (expr_codes args) (exprs_fine args))
     expr_fine (expr.Part' p e q from r count) =
-        fine_append (expr_code e) (expr_code from ++ (expr_code count ++ instr.Part ∷ [])) (expr_fine e) (fine_append (expr_code from) (expr_code count ++ instr.Part ∷ []) (expr_fine from) (fine_last (expr_code count) instr.Part (λ pc. tt) (expr_fine count)))
+        fine_append (expr_code e) (expr_code from ++ (expr_code count ++ instr.Do does.Part ∷ [])) (expr_fine e) (fine_append (expr_code from) (expr_code count ++ instr.Do does.Part ∷ []) (expr_fine from) (fine_last (expr_code count) (instr.Do does.Part) (λ pc. tt) (expr_fine count)))
     expr_fine (expr.Sprintf' p f shape args) =
-        fine_append (expr_code f) (joined (expr_codes args) ++ instr.Sprintf (length (expr_codes args)) ∷ []) (expr_fine f) (fine_last (joined (expr_codes args)) (instr.Sprintf (length (expr_codes args))) (λ pc. tt) (joined_fine (expr_codes args) (exprs_fine args)))
+        fine_append (expr_code f) (joined (expr_codes args) ++ instr.Do (does.Sprintf (length (expr_codes args))) ∷ []) (expr_fine f) (fine_last (joined (expr_codes args)) (instr.Do (does.Sprintf (length (expr_codes args)))) (λ pc. tt) (joined_fine (expr_codes args) (exprs_fine args)))
 
     exprs_fine : {m : _} → (row : Row_of-Expr m) → AllFine (expr_codes row)
     exprs_fine end_of-Expr = tt
     exprs_fine (more_of-Expr e rest) = (expr_fine e, exprs_fine rest)
 
     place_fine : (p : Place) → Fine (place_code p)
-    place_fine (place.Global x) = fine_last [] (instr.Push _) (λ pc. tt) fine_none
-    place_fine (place.Local i) = fine_last [] (instr.Push _) (λ pc. tt) fine_none
-    place_fine place.FieldCount = fine_last [] (instr.Push _) (λ pc. tt) fine_none
-    place_fine (place.Field' p e) = pushed_fine (simple_field e) (expr_code e ++ instr.FieldAt ∷ []) (fine_last (expr_code e) instr.FieldAt (λ pc. tt) (expr_fine e))
+    place_fine (place.Global x) = fine_last [] (instr.Do (does.Push _)) (λ pc. tt) fine_none
+    place_fine (place.Local i) = fine_last [] (instr.Do (does.Push _)) (λ pc. tt) fine_none
+    place_fine place.FieldCount = fine_last [] (instr.Do (does.Push _)) (λ pc. tt) fine_none
+    place_fine (place.Field' p e) = pushed_fine (simple_field e) (expr_code e ++ instr.Do does.FieldAt ∷ []) (fine_last (expr_code e) (instr.Do does.FieldAt) (λ pc. tt) (expr_fine e))
 
     link_fine : (l : Link) → Fine (link_code l)
-    link_fine (link.Combine op e) = fine_last (unless_ready (operand_of e) (expr_code e)) (instr.Combine op (operand_of e)) (λ pc. tt) (unless_fine (operand_of e) (expr_code e) (expr_fine e))
+    link_fine (link.Combine op e) = fine_last (unless_ready (operand_of e) (expr_code e)) (instr.Do (does.Combine op (operand_of e))) (λ pc. tt) (unless_fine (operand_of e) (expr_code e) (expr_fine e))
     link_fine (link.Decide l e) = decide_fine l (unless_ready (operand_of e) (expr_code e)) (operand_of e) (unless_fine (operand_of e) (expr_code e) (expr_fine e))
 
     links_fine : {m : _} → (row : Row_of-Link m) → AllFine (link_codes row)
     links_fine end_of-Link = tt
     links_fine (more_of-Link l rest) = (link_fine l, links_fine rest)
 
-  store_fine : (t : Option Destination) (instruction : Destination → Operand → Instr) (o : Operand) (c : List Instr) → ((x : Destination) (from : Operand) (pc : ℕ) → BackAt pc (instruction x from)) → Fine c → Fine (store_code t instruction o c)
-  store_fine None instruction o c h f = fine_last c instr.Pop (λ pc. tt) f
-  store_fine (Some x) instruction o c h f = fine_last (unless_ready o c) (instruction x o) (h x o) (unless_fine o c f)
-
-  appends_fine : (x : Destination) (froms : List Simple) → Fine (map (instr.Append x) froms)
+  appends_fine : (x : Destination) (froms : List Simple) → Fine (map (appending x) froms)
   appends_fine x [] = fine_none
-  appends_fine x (from ∷ froms) = fine_cons (instr.Append x from) (map (instr.Append x) froms) (λ pc. tt) (appends_fine x froms)
+  appends_fine x (from ∷ froms) = fine_cons (instr.Do (does.Append x from)) (map (appending x) froms) (λ pc. tt) (appends_fine x froms)
 
   appended_fine : (x : Destination) (froms : List Simple) (other : List Instr) → Fine other → Fine (appended x froms other)
   appended_fine x [] other f = f
   appended_fine x (from ∷ froms) other f = appends_fine x (from ∷ froms)
 
-  added_fine : (t : Option Destination) (e : Expr) (other : List Instr) → Fine other → Fine (added_code t e other)
-  added_fine None e other f = f
-  added_fine (Some x) e other f = appended_fine x (added x e) other f
-
   effect_fine : (e : Expr) → Fine (effect_code e)
-  effect_fine (expr.Number n) = fine_last _ instr.Pop (λ pc. tt) (expr_fine (expr.Number n))
-  effect_fine (expr.Text text) = fine_last _ instr.Pop (λ pc. tt) (expr_fine (expr.Text text))
-  effect_fine (expr.Read p) = fine_last _ instr.Pop (λ pc. tt) (expr_fine (expr.Read p))
-  effect_fine (expr.Unary' u p e) = fine_last _ instr.Pop (λ pc. tt) (expr_fine (expr.Unary' u p e))
-  effect_fine (expr.Chain' p first shape more) = fine_last _ instr.Pop (λ pc. tt) (expr_fine (expr.Chain' p first shape more))
-  effect_fine (expr.Choice' p a q b r c) = fine_last _ instr.Pop (λ pc. tt) (expr_fine (expr.Choice' p a q b r c))
-  effect_fine (expr.After op p) = step_fine op (variable_of p) (place_code p) (place_fine p)
-  effect_fine (expr.Assign' t p e) = added_fine (variable_of t) e (store_code (variable_of t) instr.Store (operand_of e) (expr_code e)) (store_fine (variable_of t) instr.Store (operand_of e) (expr_code e) (λ x from pc. tt) (expr_fine e))
-  effect_fine (expr.Update' op t p e) = store_fine (variable_of t) (instr.StoreUpdate op) (operand_of e) (expr_code e) (λ x from pc. tt) (expr_fine e)
-  effect_fine (expr.Call' f shape args) = fine_last _ instr.Pop (λ pc. tt) (expr_fine (expr.Call' f shape args))
-  effect_fine (expr.Part' p e q from r count) = fine_last _ instr.Pop (λ pc. tt) (expr_fine (expr.Part' p e q from r count))
-  effect_fine (expr.Sprintf' p f shape args) = fine_last _ instr.Pop (λ pc. tt) (expr_fine (expr.Sprintf' p f shape args))
+  effect_fine (expr.Number n) = fine_last _ (instr.Do does.Pop) (λ pc. tt) (expr_fine (expr.Number n))
+  effect_fine (expr.Text text) = fine_last _ (instr.Do does.Pop) (λ pc. tt) (expr_fine (expr.Text text))
+  effect_fine (expr.Read p) = fine_last _ (instr.Do does.Pop) (λ pc. tt) (expr_fine (expr.Read p))
+  effect_fine (expr.Unary' u p e) = fine_last _ (instr.Do does.Pop) (λ pc. tt) (expr_fine (expr.Unary' u p e))
+  effect_fine (expr.Chain' p first shape more) = fine_last _ (instr.Do does.Pop) (λ pc. tt) (expr_fine (expr.Chain' p first shape more))
+  effect_fine (expr.Choice' p a q b r c) = fine_last _ (instr.Do does.Pop) (λ pc. tt) (expr_fine (expr.Choice' p a q b r c))
+  effect_fine (expr.After op x) = fine_last [] (instr.Do (does.StoreUpdate op x _)) (λ pc. tt) fine_none
+  effect_fine (expr.Assign' x p e) =
+      appended_fine x (added x e) _ (fine_last (unless_ready (operand_of e) (expr_code e)) (instr.Do (does.Store x (operand_of e))) (λ pc. tt) (unless_fine (operand_of e) (expr_code e) (expr_fine e)))
+  effect_fine (expr.Update' op x p e) = fine_last (unless_ready (operand_of e) (expr_code e)) (instr.Do (does.StoreUpdate op x (operand_of e))) (λ pc. tt) (unless_fine (operand_of e) (expr_code e) (expr_fine e))
+  effect_fine (expr.Call' f shape args) = fine_last _ (instr.Do does.Pop) (λ pc. tt) (expr_fine (expr.Call' f shape args))
+  effect_fine (expr.Part' p e q from r count) = fine_last _ (instr.Do does.Pop) (λ pc. tt) (expr_fine (expr.Part' p e q from r count))
+  effect_fine (expr.Sprintf' p f shape args) = fine_last _ (instr.Do does.Pop) (λ pc. tt) (expr_fine (expr.Sprintf' p f shape args))
 
   list_fine : (es : List Expr) → AllFine (map expr_code es)
   list_fine [] = tt
@@ -304,10 +287,10 @@ module _ (code : List Instr) where
     stmt_fine : (s : Stmt) → FinePiece (stmt_code s)
     stmt_fine (stmt.Do site e) = always_fine _ (fine_cons (instr.Point (Some site)) _ (λ pc. tt) (effect_fine e))
     stmt_fine (stmt.Print site es) =
-        always_fine _ (fine_cons (instr.Point (Some site)) _ (λ pc. tt) (fine_last (joined (map expr_code (front_of es.items))) (instr.Print (length (front_of es.items)) (simples_behind es.items)) (λ pc. tt) (joined_fine _ (list_fine (front_of es.items)))))
+        always_fine _ (fine_cons (instr.Point (Some site)) _ (λ pc. tt) (fine_last (joined (map expr_code (front_of es.items))) (instr.Do (does.Print (length (front_of es.items)) (simples_behind es.items))) (λ pc. tt) (joined_fine _ (list_fine (front_of es.items)))))
     stmt_fine (stmt.Printf site f es) =
         let d = joined (map expr_code es.items) in
-        let i = instr.Printf (length es.items) in
+        let i = instr.Do (does.Printf (length es.items)) in
         always_fine _ (fine_cons (instr.Point (Some site)) _ (λ pc. tt) (fine_append (expr_code f) (d ++ i ∷ []) (expr_fine f) (fine_last d i (λ pc. tt) (joined_fine _ (list_fine es.items)))))
     stmt_fine (stmt.Block' shape all) = in_turn_fine (stmt_codes all) (stmts_fine all)
     stmt_fine (stmt.If' shape branches p other) = if_fine (arms_of branches) (stmt_code other) (arms_fine branches) (stmt_fine other)
@@ -321,7 +304,7 @@ module _ (code : List Instr) where
     stmt_fine (stmt.Next site) = always_fine _ (fine_cons (instr.Point (Some site)) _ (λ pc. tt) (fine_cons instr.NextRecord [] (λ pc. tt) fine_none))
     stmt_fine (stmt.Exit site) = always_fine _ (fine_cons (instr.Point (Some site)) _ (λ pc. tt) (fine_cons instr.Quit [] (λ pc. tt) fine_none))
     stmt_fine (stmt.ExitWith site e) =
-        always_fine _ (fine_append (test_code site e) _ (fine_cons (instr.Point (Some site)) _ (λ pc. tt) (tested_fine e)) (fine_cons (instr.SetStatus (operand_of e)) _ (λ pc. tt) (fine_cons instr.Quit [] (λ pc. tt) fine_none)))
+        always_fine _ (fine_append (test_code site e) _ (fine_cons (instr.Point (Some site)) _ (λ pc. tt) (tested_fine e)) (fine_cons (instr.Do (does.SetStatus (operand_of e))) _ (λ pc. tt) (fine_cons instr.Quit [] (λ pc. tt) fine_none)))
     stmt_fine (stmt.Return site) = always_fine _ (fine_cons (instr.Point (Some site)) _ (λ pc. tt) (fine_cons (instr.Return (operand.Given simple.Uninitialized)) [] (λ pc. tt) fine_none))
     stmt_fine (stmt.ReturnWith site e) = always_fine _ (fine_append (test_code site e) _ (fine_cons (instr.Point (Some site)) _ (λ pc. tt) (tested_fine e)) (fine_cons (instr.Return (operand_of e)) [] (λ pc. tt) fine_none))
 
@@ -342,7 +325,7 @@ module _ (code : List Instr) where
       when_fine (instr.Point (Some site) ∷ unless_ready (operand_of e) (expr_code e)) (operand_of e) piece (fine_cons (instr.Point (Some site)) _ (λ pc. tt) (unless_fine (operand_of e) (expr_code e) (expr_fine e))) f
   guard_fine (Between range first last) site piece f =
       let closes = closing_code range last in
-      let closes_fine = fine_append (unless_ready (operand_of last) (expr_code last)) _ (tested_fine last) (fine_cons (instr.SkipIfFalse 1 (operand_of last)) _ (λ pc. tt) (fine_cons (instr.SetRange range false) [] (λ pc. tt) fine_none)) in
+      let closes_fine = fine_append (unless_ready (operand_of last) (expr_code last)) _ (tested_fine last) (fine_cons (instr.SkipIfFalse 1 (operand_of last)) _ (λ pc. tt) (fine_cons (instr.Do (does.SetRange range false)) [] (λ pc. tt) fine_none)) in
       let opened : FinePiece (opened_code range last piece) = record {
         by = λ w pc to has le safe.
             let a = piece w (pc + 1 + length closes) in
@@ -480,30 +463,13 @@ module _ (code : List Instr) where
   descends again entries ready begins pc (Some (instr.Call f m)) h back = ready f
   descends again entries ready begins pc (Some (instr.Return from)) h back = tt
   descends again entries ready begins pc (Some (instr.SkipIfOn range k)) h back = (onward pc (instr.SkipIfOn range k) h refl (pc + 1) (omega arith), onward pc (instr.SkipIfOn range k) h refl (pc + 1 + k) (omega arith))
-  descends again entries ready begins pc (Some (instr.SetRange range on)) h back = onward pc (instr.SetRange range on) h refl (pc + 1) (omega arith)
+  descends again entries ready begins pc (Some (instr.Do o)) h back = onward pc (instr.Do o) h refl (pc + 1) (omega arith)
   descends again entries ready begins pc (Some instr.NextRecord) h back = next_down again pc begins h
-  descends again entries ready begins pc (Some (instr.SetStatus from)) h back = onward pc (instr.SetStatus from) h refl (pc + 1) (omega arith)
   descends again entries ready begins pc (Some (instr.SkipIfFalse k from)) h back = (onward pc (instr.SkipIfFalse k from) h refl (pc + 1) (omega arith), onward pc (instr.SkipIfFalse k from) h refl (pc + 1 + k) (omega arith))
   descends again entries ready begins pc (Some (instr.ReadRecord k)) h back = (onward pc (instr.ReadRecord k) h refl (pc + 1) (omega arith), onward pc (instr.ReadRecord k) h refl (pc + 1 + k) (omega arith))
   descends again entries ready begins pc (Some (instr.GoOn k)) h back = jumps_on pc k h
   descends again entries ready begins pc (Some (instr.GoTo p)) h back = lands pc (instr.GoTo p) h refl p (slice_get code p) refl (back (instr.GoTo p) refl)
-  descends again entries ready begins pc (Some (instr.Push from)) h back = onward pc (instr.Push from) h refl (pc + 1) (omega arith)
-  descends again entries ready begins pc (Some instr.Pop) h back = onward pc instr.Pop h refl (pc + 1) (omega arith)
-  descends again entries ready begins pc (Some instr.FieldAt) h back = onward pc instr.FieldAt h refl (pc + 1) (omega arith)
-  descends again entries ready begins pc (Some (instr.Combine op from)) h back = onward pc (instr.Combine op from) h refl (pc + 1) (omega arith)
-  descends again entries ready begins pc (Some (instr.Unary u from)) h back = onward pc (instr.Unary u from) h refl (pc + 1) (omega arith)
   descends again entries ready begins pc (Some (instr.Decide l k)) h back = (onward pc (instr.Decide l k) h refl (pc + 1) (omega arith), onward pc (instr.Decide l k) h refl (pc + 1 + k) (omega arith))
-  descends again entries ready begins pc (Some (instr.Truth from)) h back = onward pc (instr.Truth from) h refl (pc + 1) (omega arith)
-  descends again entries ready begins pc (Some (instr.After op x)) h back = onward pc (instr.After op x) h refl (pc + 1) (omega arith)
-  descends again entries ready begins pc (Some (instr.Assign x from)) h back = onward pc (instr.Assign x from) h refl (pc + 1) (omega arith)
-  descends again entries ready begins pc (Some (instr.Update op x from)) h back = onward pc (instr.Update op x from) h refl (pc + 1) (omega arith)
-  descends again entries ready begins pc (Some (instr.Store x from)) h back = onward pc (instr.Store x from) h refl (pc + 1) (omega arith)
-  descends again entries ready begins pc (Some (instr.StoreUpdate op x from)) h back = onward pc (instr.StoreUpdate op x from) h refl (pc + 1) (omega arith)
-  descends again entries ready begins pc (Some (instr.Append x from)) h back = onward pc (instr.Append x from) h refl (pc + 1) (omega arith)
-  descends again entries ready begins pc (Some (instr.Print m simples)) h back = onward pc (instr.Print m simples) h refl (pc + 1) (omega arith)
-  descends again entries ready begins pc (Some (instr.Printf m)) h back = onward pc (instr.Printf m) h refl (pc + 1) (omega arith)
-  descends again entries ready begins pc (Some (instr.Sprintf m)) h back = onward pc (instr.Sprintf m) h refl (pc + 1) (omega arith)
-  descends again entries ready begins pc (Some instr.Part) h back = onward pc instr.Part h refl (pc + 1) (omega arith)
   descends again entries ready begins pc (Some instr.BeginMain) h back = onward pc instr.BeginMain h refl (pc + 1) (omega arith)
   descends again entries ready begins pc (Some instr.BeginEnd) h back = onward pc instr.BeginEnd h refl (pc + 1) (omega arith)
 

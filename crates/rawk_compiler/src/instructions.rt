@@ -3,7 +3,8 @@
 ghost use Rattle.std.specs.Prelude.{◌≡◌, [], ◌∷◌, ◌++◌, ◌-◌, ◌<◌, Some, pos, OnOk, length};
 ghost use Rattle.rawk_compiler.specs.Written.{over, led};
 
-use rawk_code::{Destination, Instr, Operand, Simple};
+use rawk_code::{Instr, Op, Operand, Simple};
+use rawk_tree::Destination;
 use rawk_value::{Arithmetic, Bytes};
 use std::alloc::{AllocError, Global};
 
@@ -24,14 +25,14 @@ pub(crate) fn put_point(code: &mut Vec<Instr>, site: usize) -> Result<(), AllocE
 
 // What has its value at once goes onto the operands.
 pub(crate) fn put_push(code: &mut Vec<Instr>, from: Simple) -> Result<(), AllocError>
-    ensures { OnOk result (code.new.items ≡ code.old.items ++ Instr.Push from ∷ []) }
+    ensures { OnOk result (code.new.items ≡ code.old.items ++ Instr.Do (Op.Push from) ∷ []) }
 {
-    put(code, Instr::Push(from))
+    put(code, Instr::Do(Op::Push(from)))
 }
 
 // A text goes onto the operands.
 pub(crate) fn put_text(alloc: Global, code: &mut Vec<Instr>, text: &Bytes) -> Result<(), AllocError>
-    ensures { OnOk result (code.new.items ≡ code.old.items ++ Instr.Push (Simple.Text text.now) ∷ []) }
+    ensures { OnOk result (code.new.items ≡ code.old.items ++ Instr.Do (Op.Push (Simple.Text text.now)) ∷ []) }
 {
     let copy = text.copy()?;
     put_push(code, Simple::Text(copy))
@@ -43,9 +44,9 @@ pub(crate) fn put_after(
     op: Arithmetic,
     x: Destination,
 ) -> Result<(), AllocError>
-    ensures { OnOk result (code.new.items ≡ code.old.items ++ Instr.After op x ∷ []) }
+    ensures { OnOk result (code.new.items ≡ code.old.items ++ Instr.Do (Op.After op x) ∷ []) }
 {
-    put(code, Instr::After(op, x))
+    put(code, Instr::Do(Op::After(op, x)))
 }
 
 // A change of a variable, which leaves no value.
@@ -54,10 +55,10 @@ pub(crate) fn put_step(
     op: Arithmetic,
     x: Destination,
 ) -> Result<(), AllocError>
-    ensures { OnOk result (code.new.items ≡ code.old.items ++ Instr.StoreUpdate op x (Operand.Given (Simple.Number (pos 1))) ∷ []) }
+    ensures { OnOk result (code.new.items ≡ code.old.items ++ Instr.Do (Op.StoreUpdate op x (Operand.Given (Simple.Number (pos 1)))) ∷ []) }
 {
     let one = Operand::Given(Simple::Number(1));
-    put(code, Instr::StoreUpdate(op, x, one))
+    put(code, Instr::Do(Op::StoreUpdate(op, x, one)))
 }
 
 // A call of a function with so many arguments.
@@ -73,23 +74,23 @@ pub(crate) fn put_call(
 
 // The text that a format makes of so many arguments.
 pub(crate) fn put_sprintf(code: &mut Vec<Instr>, count: usize) -> Result<(), AllocError>
-    ensures { OnOk result (code.new.items ≡ code.old.items ++ Instr.Sprintf count ∷ []) }
+    ensures { OnOk result (code.new.items ≡ code.old.items ++ Instr.Do (Op.Sprintf count) ∷ []) }
 {
-    put(code, Instr::Sprintf(count))
+    put(code, Instr::Do(Op::Sprintf(count)))
 }
 
 // A part of a text.
 pub(crate) fn put_part(code: &mut Vec<Instr>) -> Result<(), AllocError>
-    ensures { OnOk result (code.new.items ≡ code.old.items ++ Instr.Part ∷ []) }
+    ensures { OnOk result (code.new.items ≡ code.old.items ++ Instr.Do Op.Part ∷ []) }
 {
-    put(code, Instr::Part)
+    put(code, Instr::Do(Op::Part))
 }
 
 // What a range's flag becomes.
 pub(crate) fn put_range(code: &mut Vec<Instr>, range: usize, on: bool) -> Result<(), AllocError>
-    ensures { OnOk result (code.new.items ≡ code.old.items ++ Instr.SetRange range on ∷ []) }
+    ensures { OnOk result (code.new.items ≡ code.old.items ++ Instr.Do (Op.SetRange range on) ∷ []) }
 {
-    put(code, Instr::SetRange(range, on))
+    put(code, Instr::Do(Op::SetRange(range, on)))
 }
 
 // A jump to a place.

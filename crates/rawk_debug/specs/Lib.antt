@@ -1,5 +1,6 @@
 pub mod Positions
 pub mod Watching
+pub mod Works
 pub mod Moves
 pub mod Activations
 pub mod Naming

@@ -6,8 +6,6 @@ use Rattle.rawk_value.specs.declared.value.Value.{Value}
 use Rattle.rawk_value.specs.declared.fault.Fault.{Fault}
 use Rattle.rawk_tape.specs.Records.{Input}
 use Rattle.rawk_store.specs.State.{State, Target}
-use Rattle.rawk_store.specs.declared.registers.Ending.{Ending as Registered}
-use Rattle.rawk_store.specs.declared.registers.Ending.TheVariants as registered
 use Rattle.rawk_code.specs.Actions.{Point, SetAt, Ending, Ended, Faulted, Limited}
 use Rattle.rawk_code.specs.Trace.{FirstValue, Trace, trace, number, site_at_end}
 
@@ -95,9 +93,3 @@ pub record IsPosition (m : Position) : Type 0 where
 pub record Stands (input : Input) (m : Position) (held : Snapshot) : Type 0 where
   pub within : m.point ≤ number (trace_of input m)
   pub holds : held ≡ here input m
-
--- how a run ended, as the store's registers say it
-abbrev pub ending_of : Registered → Ending
-ending_of registered.Ended = Ended
-ending_of (registered.Faulted fault) = Faulted fault
-ending_of (registered.Limited site) = Limited site

@@ -5,6 +5,7 @@ ghost use Rattle.rawk_tape.specs.Records.{Input};
 ghost use Rattle.rawk_debug.specs.Moves.{hits, stops_at, sought, Goes, Halts, Returns, is_found, from_below, from_above};
 ghost use Rattle.rawk_debug.specs.Commands.{Forwards, Backwards, Does, IsReady, leaves_none, rewound};
 ghost use Rattle.rawk_debug.specs.Sessions.{stand};
+ghost use Rattle.rawk_debug.specs.Works.{Draws};
 
 use crate::answer::Answer;
 use crate::session::Session;
@@ -60,6 +61,7 @@ impl<M: Stepper> Session<M> {
         ensures fresh { OnOk result (IsTrue (M.fresh self.new.machine)) }
         ensures err { OnErr result ((input : Input) → M.may_be self.new.machine input → Halts input goal (stand M.position self.old) (stand M.position self.new)) }
         ensures narrows { (input : Input) → M.may_be self.new.machine input → M.may_be self.old.machine input }
+        ensures draws { Draws M.Device.over M.Device.handed (M.work self.old.machine) (M.work self.new.machine) }
     {
         self.machine.known();
         let depth = self.machine.depth();
@@ -85,6 +87,7 @@ impl<M: Stepper> Session<M> {
             → result ≡ is_found input goal (stand M.position self.old) (M.position self.new.machine).point }
         ensures narrows { (input : Input) → M.may_be self.new.machine input → M.may_be self.old.machine input }
         ensures reads_nothing { (input : Input) → M.may_be self.old.machine input → M.may_be self.new.machine input }
+        ensures idle { M.work self.new.machine ≡ M.work self.old.machine }
     {
         laws::sets_below();
         self.machine.known();
@@ -108,6 +111,7 @@ impl<M: Stepper> Session<M> {
         ensures rewound { stand M.position self.new ≡ rewound (stand M.position self.old) }
         ensures narrows { (input : Input) → M.may_be self.new.machine input → M.may_be self.old.machine input }
         ensures reads_nothing { (input : Input) → M.may_be self.old.machine input → M.may_be self.new.machine input }
+        ensures idle { M.work self.new.machine ≡ M.work self.old.machine }
     {
         self.machine.known();
         'all: loop {
@@ -124,6 +128,7 @@ impl<M: Stepper> Session<M> {
             → Forwards input goal (stand M.position self.old) result (M.before self.new.machine) (stand M.position self.new) }
         ensures ready { IsReady (M.fresh self.new.machine) result }
         ensures narrows { (input : Input) → M.may_be self.new.machine input → M.may_be self.old.machine input }
+        ensures draws { Draws M.Device.over M.Device.handed (M.work self.old.machine) (M.work self.new.machine) }
     {
         self.machine.known();
         let from = self.machine.output().len();
@@ -140,6 +145,7 @@ impl<M: Stepper> Session<M> {
         ensures ready { IsReady (M.fresh self.new.machine) result }
         ensures narrows { (input : Input) → M.may_be self.new.machine input → M.may_be self.old.machine input }
         ensures reads_nothing { (input : Input) → M.may_be self.old.machine input → M.may_be self.new.machine input }
+        ensures idle { M.work self.new.machine ≡ M.work self.old.machine }
     {
         let found = self.back(goal);
         Answer::Returned(found)
@@ -151,6 +157,7 @@ impl<M: Stepper> Session<M> {
             → Does input Command.Run (stand M.position self.old) result (M.before self.new.machine) (stand M.position self.new) }
         ensures ready { IsReady (M.fresh self.new.machine) result }
         ensures narrows { (input : Input) → M.may_be self.new.machine input → M.may_be self.old.machine input }
+        ensures draws { Draws M.Device.over M.Device.handed (M.work self.old.machine) (M.work self.new.machine) }
     {
         self.rewind();
         self.machine.known();

@@ -5,6 +5,7 @@ ghost use Rattle.rawk_tape.specs.Records.{Input};
 ghost use Rattle.rawk_commands.specs.declared.command.C.TheVariants.{OutOfMemory, NoSuchNumber};
 ghost use Rattle.rawk_debug.specs.Commands.{Makes, Removes, Executes, IsReady, goes_forward, needs_memory, entry_of, is_entry, is_kind, lvalue_at, most};
 ghost use Rattle.rawk_debug.specs.Sessions.{stand, machine_of};
+ghost use Rattle.rawk_debug.specs.Works.{Draws};
 
 use crate::answer::Answer;
 use crate::naming::{constant_value, local_names, lvalue_of, place_of, site_of, target_of};
@@ -76,6 +77,15 @@ impl<M: Stepper> Session<M> {
     {
         &self.machine
     }
+
+    /// The machine, where the session left it. The breakpoints and watches are let go.
+    pub fn into_machine(self) -> M
+        ensures { result ≡ machine_of self }
+    {
+        let Session { machine, stops, .. } = self;
+        drop(stops);
+        machine
+    }
 }
 
 impl<M: Stepper> Session<M> {
@@ -107,6 +117,7 @@ impl<M: Stepper> Session<M> {
         ensures ready { IfOk result (λ answer. IsReady (M.fresh self.new.machine) answer) }
         ensures narrows { (input : Input) → M.may_be self.new.machine input → M.may_be self.old.machine input }
         ensures reads_nothing { (input : Input) → M.may_be self.old.machine input → M.may_be self.new.machine input }
+        ensures idle { M.work self.new.machine ≡ M.work self.old.machine }
     {
         if self.made >= MOST {
             return Err(C::BadArgument);
@@ -124,6 +135,7 @@ impl<M: Stepper> Session<M> {
         ensures ready { IfOk result (λ answer. IsReady (M.fresh self.new.machine) answer) }
         ensures narrows { (input : Input) → M.may_be self.new.machine input → M.may_be self.old.machine input }
         ensures reads_nothing { (input : Input) → M.may_be self.old.machine input → M.may_be self.new.machine input }
+        ensures idle { M.work self.new.machine ≡ M.work self.old.machine }
     {
         if self.made >= MOST {
             return Err(C::BadArgument);
@@ -181,6 +193,7 @@ impl<M: Stepper> Session<M> {
         ensures ready { IfOk result (λ answer. IsReady (M.fresh self.new.machine) answer) }
         ensures narrows { (input : Input) → M.may_be self.new.machine input → M.may_be self.old.machine input }
         ensures reads_nothing { (input : Input) → M.may_be self.old.machine input → M.may_be self.new.machine input }
+        ensures idle { M.work self.new.machine ≡ M.work self.old.machine }
     {
         self.machine.known();
         let place = match self.lvalue_at(&place) {
@@ -208,6 +221,8 @@ impl<M: Stepper> Session<M> {
         ensures narrows { (input : Input) → M.may_be self.new.machine input → M.may_be self.old.machine input }
         ensures free { result ≢ Err OutOfMemory }
         ensures reads_nothing { way ≡ Way.Back → (input : Input) → M.may_be self.old.machine input → M.may_be self.new.machine input }
+        ensures idle { way ≡ Way.Back → M.work self.new.machine ≡ M.work self.old.machine }
+        ensures draws { Draws M.Device.over M.Device.handed (M.work self.old.machine) (M.work self.new.machine) }
     {
         self.machine.known();
         match way {
@@ -237,6 +252,7 @@ impl<M: Stepper> Session<M> {
         ensures narrows { (input : Input) → M.may_be self.new.machine input → M.may_be self.old.machine input }
         ensures free { result ≢ Err OutOfMemory }
         ensures reads_nothing { (input : Input) → M.may_be self.old.machine input → M.may_be self.new.machine input }
+        ensures idle { M.work self.new.machine ≡ M.work self.old.machine }
     {
         if self.machine.take_back() {
             Ok(Answer::TakenBack)
@@ -245,7 +261,8 @@ impl<M: Stepper> Session<M> {
         }
     }
 
-    /// Executes a command. What goes back and what takes back takes no memory, and always succeeds; what does not go forward reads nothing.
+    /// Executes a command. What goes back and what takes back takes no memory, and always succeeds; what does not go forward reads nothing and runs
+    /// nothing. A source that is over is asked for nothing.
     pub fn execute(&mut self, alloc: Global, command: Command) -> Result<Answer, C>
         ensures executes { (input : Input) → M.may_be (machine_of self.new) input
             → Executes input command (stand M.position self.old) result (M.before (machine_of self.new)) (stand M.position self.new) }
@@ -253,6 +270,8 @@ impl<M: Stepper> Session<M> {
         ensures narrows { (input : Input) → M.may_be (machine_of self.new) input → M.may_be (machine_of self.old) input }
         ensures free { needs_memory command ≡ false → result ≢ Err OutOfMemory }
         ensures reads_nothing { goes_forward command ≡ false → (input : Input) → M.may_be (machine_of self.old) input → M.may_be (machine_of self.new) input }
+        ensures idle { goes_forward command ≡ false → M.work (machine_of self.new) ≡ M.work (machine_of self.old) }
+        ensures draws { Draws M.Device.over M.Device.handed (M.work (machine_of self.old)) (M.work (machine_of self.new)) }
     {
         match command {
             Command::Break(spot) => self.break_at(spot),

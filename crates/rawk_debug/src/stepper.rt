@@ -1,18 +1,22 @@
 //! What a session asks of a machine.
 
-ghost use Rattle.std.specs.Prelude.{◌≡◌, ◌+◌, ◌-◌, ◌<◌, Bool, length, Ok, None, IfOk, OnOk, OnErr, IsTrue, IsFalse, is_some, option_map, option_copied, slice_get};
+ghost use Rattle.std.specs.Prelude.{◌≡◌, ◌+◌, ◌-◌, ◌<◌, Bool, length, Ok, None, Some, IfOk, OnOk, OnErr, IsTrue, IsFalse, is_some, option_map, option_copied, slice_get};
 ghost use Rattle.rawk_tape.specs.Records.{Input};
+ghost use Rattle.rawk_tape.specs.Inputs.{before as behind};
+ghost use Rattle.rawk_tape.specs.declared.source.Ending.TheVariants.{Failed};
 ghost use Rattle.rawk_record.specs.FieldRefs.{ref_value};
 ghost use Rattle.rawk_frames.specs.Frame.{locals_now};
 ghost use Rattle.rawk_store.specs.State.{assigned};
-ghost use Rattle.rawk_debug.specs.Positions.{Position, Snapshot, IsPosition, Stands, IsTakenBack, ending_of, fault_of, gone_to, back_at, with_set, has_set_at};
+ghost use Rattle.rawk_debug.specs.Positions.{Position, Snapshot, IsPosition, Stands, IsTakenBack, fault_of, gone_to, back_at, with_set, has_set_at};
 ghost use Rattle.rawk_debug.specs.Watching.{Observed, seen, differs};
 ghost use Rattle.rawk_debug.specs.Activations.{call_of};
+ghost use Rattle.rawk_debug.specs.Works.{Work, Draws, read_failed};
 
 use crate::stop::Watched;
 use rawk_frames::Local;
 use rawk_record::FieldRef;
 use rawk_store::{Ending, Target};
+use rawk_tape::Source;
 use rawk_tree::Program;
 use rawk_value::{Fault, Value};
 use std::alloc::{AllocError, Global};
@@ -28,6 +32,9 @@ pub struct Call {
 ///
 /// The whole input is not known beforehand: `may_be` says which ones may still be it. Forward steps read, and so leave fewer of them.
 pub trait Stepper: Drop {
+    /// What its input is read from.
+    type Device: Source + Drop;
+
     /// Where it stands.
     ghost position: { Self → Position };
 
@@ -36,6 +43,9 @@ pub trait Stepper: Drop {
 
     /// What it holds.
     ghost held: { Self → Snapshot };
+
+    /// What it has done up to now, whichever way it went.
+    ghost work: { Self → Work Self.Device };
 
     /// What a watch saw before the last step.
     ghost before: { Self → Observed };
@@ -47,6 +57,8 @@ pub trait Stepper: Drop {
     fn known(&self)
         ensures position { IsPosition (position self.now) }
         ensures some { (input : Input) × may_be self.now input }
+        ensures comes { (rest : Input) → Self.Device.may_give (work self.now).source rest → may_be self.now (behind (work self.now).read rest) }
+        ensures read_failed { (held self.now).over ≡ Some read_failed → Self.Device.over (work self.now).source ≡ Some Failed }
         ensures stands { (input : Input) → may_be self.now input → Stands input (position self.now) (held self.now) };
 
     /// The program.
@@ -63,7 +75,7 @@ pub trait Stepper: Drop {
 
     /// How the run ended, if it stands at the ending.
     fn ending(&self) -> Option<Ending>
-        ensures { option_map ending_of result ≡ (held self.now).over };
+        ensures { result ≡ (held self.now).over };
 
     /// The site of the present point, or that of the ending.
     fn site(&self) -> Option<usize>
@@ -111,17 +123,18 @@ pub trait Stepper: Drop {
         requires { IsTrue (fresh self.now) }
         ensures { result ≡ differs place (before self.now) (seen (held self.now).state) };
 
-    /// Goes to the next point or to the ending. It fails where memory is refused, and then stands as before.
+    /// Goes to the next point or to the ending. It fails where memory is refused, and then stands as before. A source that is over is asked for nothing.
     fn advance(&mut self, alloc: Global) -> Result<(), AllocError>
         requires { (held self.old).over ≡ None }
         ensures moved { OnOk result (position self.new ≡ gone_to ((position self.old).point + 1) (position self.old)) }
         ensures before { OnOk result (before self.new ≡ seen (held self.old).state) }
         ensures fresh { OnOk result (IsTrue (fresh self.new)) }
         ensures err { OnErr result (position self.new ≡ position self.old) }
-        ensures narrows { (input : Input) → may_be self.new input → may_be self.old input };
+        ensures narrows { (input : Input) → may_be self.new input → may_be self.old input }
+        ensures draws { Draws Self.Device.over Self.Device.handed (work self.old) (work self.new) };
 
     /// Goes back to the point before, and takes back the sets made at this one. `false` only at the oldest point kept, and
-    /// then nothing changes. It takes no memory and reads nothing: whatever might have been the input still may.
+    /// then nothing changes. It takes no memory, reads nothing and runs nothing: the source stays as it is, and whatever might have been the input still may.
     fn retreat(&mut self) -> bool
         ensures moved { IsTrue result → position self.new ≡ back_at ((position self.old).point - 1) (position self.old) }
         ensures kept { IsTrue result → (position self.old).oldest < (position self.old).point }
@@ -130,7 +143,8 @@ pub trait Stepper: Drop {
         ensures oldest { IsFalse result → (position self.old).point ≡ (position self.old).oldest }
         ensures same { IsFalse result → position self.new ≡ position self.old }
         ensures narrows { (input : Input) → may_be self.new input → may_be self.old input }
-        ensures reads_nothing { (input : Input) → may_be self.old input → may_be self.new input };
+        ensures reads_nothing { (input : Input) → may_be self.old input → may_be self.new input }
+        ensures idle { work self.new ≡ work self.old };
 
     /// Assigns at this point. A fault changes nothing. It fails where memory is refused, and then nothing changes.
     fn set(
@@ -145,13 +159,19 @@ pub trait Stepper: Drop {
         ensures same { IfOk result (λ fault. IsTrue (is_some fault) → position self.new ≡ position self.old) }
         ensures err { OnErr result (position self.new ≡ position self.old) }
         ensures narrows { (input : Input) → may_be self.new input → may_be self.old input }
-        ensures reads_nothing { (input : Input) → may_be self.old input → may_be self.new input };
+        ensures reads_nothing { (input : Input) → may_be self.old input → may_be self.new input }
+        ensures idle { work self.new ≡ work self.old };
 
-    /// Takes back the last set made at this point. `false`: there is none, and nothing changes. It takes no memory.
+    /// Takes back the last set made at this point. `false`: there is none, and nothing changes. It takes no memory, reads nothing and runs nothing.
     fn take_back(&mut self) -> bool
         ensures result { result ≡ has_set_at (position self.old).point (position self.old).sets }
         ensures taken { IsTrue result → IsTakenBack (position self.old) (position self.new) }
         ensures same { IsFalse result → position self.new ≡ position self.old }
         ensures narrows { (input : Input) → may_be self.new input → may_be self.old input }
-        ensures reads_nothing { (input : Input) → may_be self.old input → may_be self.new input };
+        ensures reads_nothing { (input : Input) → may_be self.old input → may_be self.new input }
+        ensures idle { work self.new ≡ work self.old };
+
+    /// The source, as it was left. All else is let go.
+    fn into_source(self) -> Self::Device
+        ensures { result ≡ (work self).source };
 }

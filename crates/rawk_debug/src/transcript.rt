@@ -4,6 +4,7 @@ ghost use Rattle.std.specs.Prelude.{◌≡◌, Ok};
 ghost use Rattle.rawk_tape.specs.Records.{Input};
 ghost use Rattle.rawk_debug.specs.Commands.{IsReady};
 ghost use Rattle.rawk_debug.specs.Sessions.{stand, machine_of};
+ghost use Rattle.rawk_debug.specs.Works.{Draws};
 ghost use Rattle.rawk_debug.specs.Transcript.{reply_rest, reply_shown, reply_text, Carries, Heard, Obeys, Says, IsReply, lost, quits};
 
 use crate::answer::Answer;
@@ -89,6 +90,7 @@ fn obey<M: Stepper>(alloc: Global, session: &mut Session<M>, command: Command) -
         → Obeys input command (stand M.position session.old) (reply_text (M.held session.new.machine).state.output result) (stand M.position session.new) }
     ensures stays { IsReply result }
     ensures narrows { (input : Input) → M.may_be session.new.machine input → M.may_be session.old.machine input }
+    ensures draws { Draws M.Device.over M.Device.handed (M.work session.old.machine) (M.work session.new.machine) }
 {
     match session.execute(alloc, command) {
         Ok(answer) => told(alloc, session, answer),
@@ -102,6 +104,7 @@ pub fn carry_out<M: Stepper>(alloc: Global, session: &mut Session<M>, line: &[u8
     ensures carries { (input : Input) → M.may_be (machine_of session.new) input
         → Carries input (Heard line.now) (stand M.position session.old) (M.held (machine_of session.new)).state.output result (stand M.position session.new) }
     ensures narrows { (input : Input) → M.may_be (machine_of session.new) input → M.may_be (machine_of session.old) input }
+    ensures draws { Draws M.Device.over M.Device.handed (M.work (machine_of session.old)) (M.work (machine_of session.new)) }
 {
     match Command::read(alloc, line) {
         Ok(None) => Reply::Nothing,

@@ -13,7 +13,7 @@ use Rattle.rawk_expression.specs.declared.operands.Start.{Start}
 use Rattle.rawk_expression.specs.declared.operands.Start.TheVariants as start
 use Rattle.rawk_expression.specs.declared.junctions.Operand.{Operand}
 use Rattle.rawk_parsing.specs.declared.tree.Operator.{Operator}
-use Rattle.rawk_parsing.specs.declared.tree.Sign.{Sign}
+use Rattle.rawk_words.specs.declared.operator.Sign.{Sign}
 use Rattle.rawk_parsing.specs.declared.tree.Change.{Change}
 use Rattle.rawk_parsing.specs.declared.tree.Change.TheVariants as changes
 use Rattle.rawk_parsing.specs.declared.tree.Assignment.{Assignment}

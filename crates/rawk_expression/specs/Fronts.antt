@@ -6,7 +6,7 @@ use Rattle.rawk_lexer.specs.declared.token.Kind.TheVariants as k
 use Rattle.rawk_lexer.specs.Lex.{kind, next, left, skip, ere_len, past_ere}
 use Rattle.rawk_lexer.specs.Moves.{next_shrinks, skip_shrinks, some_left}
 use Rattle.rawk_parsing.specs.declared.tree.Operator.{Operator}
-use Rattle.rawk_parsing.specs.declared.tree.Sign.{Sign}
+use Rattle.rawk_words.specs.declared.operator.Sign.{Sign}
 use Rattle.rawk_parsing.specs.declared.tree.Change.{Change}
 use Rattle.rawk_parsing.specs.declared.tree.Assignment.{Assignment}
 use Rattle.rawk_parsing.specs.declared.tree.Function.{Function}

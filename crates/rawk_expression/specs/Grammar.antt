@@ -6,7 +6,7 @@ use Rattle.rawk_lexer.specs.Escape.{unescaped_of, unquoted}
 use Rattle.rawk_lexer.specs.Lex.{kind, left}
 use Rattle.rawk_parsing.specs.declared.tree.Operator.{Operator}
 use Rattle.rawk_parsing.specs.declared.tree.Operator.TheVariants as op
-use Rattle.rawk_parsing.specs.declared.tree.Sign.{Sign}
+use Rattle.rawk_words.specs.declared.operator.Sign.{Sign}
 use Rattle.rawk_parsing.specs.declared.tree.Change.{Change}
 use Rattle.rawk_parsing.specs.declared.tree.Assignment.{Assignment}
 use Rattle.rawk_parsing.specs.declared.tree.Function.{Function}

@@ -9,7 +9,7 @@ use Rattle.rawk_expression.specs.declared.grammar.Wanted.{Wanted}
 use Rattle.rawk_expression.specs.declared.grammar.Wanted.TheVariants as want
 use Rattle.rawk_parsing.specs.declared.tree.Operator.{Operator}
 use Rattle.rawk_parsing.specs.declared.tree.Operator.TheVariants as op
-use Rattle.rawk_parsing.specs.declared.tree.Sign.{Sign}
+use Rattle.rawk_words.specs.declared.operator.Sign.{Sign}
 use Rattle.rawk_parsing.specs.declared.tree.Change.{Change}
 use Rattle.rawk_parsing.specs.declared.tree.Assignment.{Assignment}
 use Rattle.rawk_parsing.specs.declared.tree.Function.TheVariants as fun

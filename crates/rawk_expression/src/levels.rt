@@ -12,7 +12,8 @@ use rawk_lexer::{Cursor, Kind};
 use rawk_parsing::ParseError;
 use rawk_parsing::tables::{is_alone, is_concat, joins, sign};
 use rawk_parsing::tokens::eat;
-use rawk_parsing::tree::{Expr, Link, Sign};
+use rawk_parsing::tree::{Expr, Link};
+use rawk_words::Sign;
 use std::alloc::Global;
 
 /// An operand, and what is joined to it.

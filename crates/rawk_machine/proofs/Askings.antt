@@ -16,7 +16,7 @@ use Rattle.rawk_code.specs.Actions.{Point, Given, SetAt}
 use Rattle.rawk_code.specs.Trace.{FirstValue}
 use Rattle.rawk_code.specs.Correct.{first, after}
 use Rattle.rawk_travel.specs.Asking.{Asks, Draws, asked_behind}
-use Rattle.rawk_travel.specs.Moving.{Moving, moving_of, going, phase_of, ending_of}
+use Rattle.rawk_travel.specs.Moving.{Moving, moving_of, going}
 use Rattle.rawk_travel.specs.Reading.{run_in}
 use Rattle.rawk_machine.specs.Standing.{Ground, StandsAt, run_at, config_at, whole}
 use Rattle.rawk_machine.specs.Reached.{stands_reached}
@@ -47,7 +47,7 @@ asked_step may_give code settings limit sets point held next l input gone handed
     let last : Point = record { site = l.registers.site; state = s } in
     let r = stands_reached ground sets point (moment_in l) gone handed at in
     let reached : after code settings given r.count ≡ going (moving_of l) l.registers.place (run_in (moving_of l) (at.earlier ++ (last ∷ [])) gone handed) =
-    r.reached ∙ ap (λ (x : Option Ending). config_at (option_map ending_of x) l.registers.place (operands l) (keys l) (returns_of l.frames) (phase_of l.registers.phase) (run_at (option_map ending_of x) (site_for x l.registers.site) at.earlier s)) none in
+    r.reached ∙ ap (λ (x : Option Ending). config_at x l.registers.place (operands l) (keys l) (returns_of l.frames) l.registers.phase (run_at x (site_for x l.registers.site) at.earlier s)) none in
     let number : length (at.earlier ++ (last ∷ [])) ≡ point + 1 = length-append at.earlier (last ∷ []) ∙ ap (λ (k : ℕ). k + 1) at.number in
     asked_on may_give code settings held next (moving_of l) given r.count point (point + 1) (at.earlier ++ (last ∷ [])) gone handed kept reached number (omega arith) asks is may asked
 

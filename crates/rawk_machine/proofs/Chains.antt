@@ -14,7 +14,6 @@ use Rattle.rawk_history.specs.Keeping.{IsFront}
 use Rattle.std.specs.Option.{option_map}
 use Rattle.std.proofs.lemmas.List.{append-nil}
 use Rattle.rawk_code.specs.Actions.{SetAt, sets_at}
-use Rattle.rawk_travel.specs.Moving.{phase_of, ending_of}
 use Rattle.rawk_frames.specs.LaidFrames.{returns_of}
 use Rattle.rawk_frames.specs.FramesLaws.{returns_of-grown}
 use Rattle.rawk_machine.specs.Arrival.{site_for}
@@ -29,8 +28,8 @@ moment_by s vs ks rs r = record {
   keys = ks;
   returns = rs;
   place = r.place;
-  phase = phase_of r.phase;
-  ending = option_map ending_of r.ending;
+  phase = r.phase;
+  ending = r.ending;
   site = site_for r.ending r.site;
 }
 

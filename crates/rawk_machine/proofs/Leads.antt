@@ -19,7 +19,6 @@ use Rattle.rawk_store.specs.GroupBack.{put_back}
 use Rattle.rawk_code.specs.Listing.{Listing}
 use Rattle.rawk_code.specs.Actions.{SetAt, or_same}
 use Rattle.rawk_code.specs.Trace.{FirstValue}
-use Rattle.rawk_travel.specs.Moving.{phase_of, ending_of}
 use Rattle.rawk_machine.specs.Last.{Last}
 use Rattle.rawk_machine.specs.Last as last
 use Rattle.rawk_machine.specs.Standing.{Standing, Earlier, Past, Seen, gone_back, taken_back, set_made}
@@ -28,10 +27,6 @@ use Rattle.rawk_machine.specs.Arrival.{site_for}
 use Rattle.rawk_machine.specs.Written.{IsWritten}
 use Rattle.rawk_machine.specs.Stood.{standing_of}
 use Rattle.rawk_machine.proofs.Chains.{pasts_unset, pasts_set, unsets_set}
-
-pub no_ending : (o : Option Ending) → option_map ending_of o ≡ None → o ≡ None
-no_ending None h = refl
-no_ending (Some e) h = absurd (cc h)
 
 pub gone_is : {S : Type 0} (code : Listing) (settings : List FirstValue) (steps : ℕ) (sets : List SetAt) (point : ℕ) (tape : TapeState S) (l : Layout) (executed : ℕ) (here : List Group) (item : Kept) (newer : Forth) (items : List Kept) (limit : Option ℕ) (before : Last) →
     globals_forth (back (back_in l here item).globals newer.globals) newer.sets ≡ l.globals → record_forth (record_back (back_in l here item).current newer.current) newer.sets ≡ l.current →
@@ -70,8 +65,8 @@ set_is {S} code settings steps sets point tape l n executed g here items limit b
       keys = keys_of ks;
       returns = rs;
       place = r.place;
-      phase = phase_of r.phase;
-      ending = option_map ending_of r.ending;
+      phase = r.phase;
+      ending = r.ending;
       site = site_for r.ending r.site;
       executed = executed;
       unset = us;

@@ -11,7 +11,6 @@ use Rattle.rawk_store.specs.Saving.{saved_in}
 use Rattle.rawk_store.specs.GroupBack.{FitsIn, put_back}
 use Rattle.rawk_frames.specs.LaidFrames.{returns_of}
 use Rattle.rawk_machine.specs.Arrival.{site_for}
-use Rattle.rawk_travel.specs.Moving.{phase_of, ending_of}
 use Rattle.rawk_code.specs.Actions.{SetAt}
 use Rattle.rawk_machine.specs.Last.{Last}
 use Rattle.rawk_machine.specs.Last as last
@@ -25,8 +24,8 @@ moment_in l = record {
   keys = keys l;
   returns = returns_of l.frames;
   place = l.registers.place;
-  phase = phase_of l.registers.phase;
-  ending = option_map ending_of l.registers.ending;
+  phase = l.registers.phase;
+  ending = l.registers.ending;
   site = site_for l.registers.ending l.registers.site;
 }
 

@@ -7,7 +7,6 @@ ghost use Rattle.rawk_frames.specs.Frame.{Frame, IsOf, locals_now};
 ghost use Rattle.rawk_arrays.specs.Elements.{array_at, element_at};
 ghost use Rattle.rawk_tape.specs.Records.{Input};
 ghost use Rattle.rawk_record.specs.FieldRefs.{ref_value};
-ghost use Rattle.rawk_travel.specs.Moving.{ending_of};
 ghost use Rattle.rawk_code.specs.Actions.{SetAt};
 ghost use Rattle.rawk_machine.specs.Kept.{AllBelow, Few};
 ghost use Rattle.rawk_machine.specs.Standing.{Earlier, MayCome, LastMade};
@@ -75,7 +74,7 @@ impl<R: Source + Drop, K: Keeper> Machine<R, K> {
 
     /// How the run ended, if the machine stands at the ending.
     pub fn ending(&self) -> Option<Ending>
-        ensures { option_map ending_of result ≡ self.now.ending }
+        ensures { result ≡ self.now.ending }
     {
         self.store.registers.now.ending
     }

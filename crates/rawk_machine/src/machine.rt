@@ -13,7 +13,6 @@ ghost use Rattle.rawk_machine.specs.Stood.{IsFirst};
 ghost use Rattle.rawk_machine.specs.Standing.{Standing, MayCome, IsAt, Stood, step_of, IsQuietStep, Stays, MovesOn, gone_back, taken_back, set_made, dropped, old_values};
 ghost use Rattle.rawk_machine.specs.Asked.{AskedBy, Unstood};
 ghost use Rattle.rawk_travel.specs.Asking.{Draws};
-ghost use Rattle.rawk_travel.specs.Moving.{ending_of};
 
 use crate::arrival::{site_at, step};
 use crate::back::{go_back, keep_below, write_copy};
@@ -77,7 +76,7 @@ impl<R: Source + Drop, K: Keeper> Model for Machine<R, K> {
 
 /// What registers answer: at a point, or how the run ended.
 fn answer(registers: &Registers) -> Step
-    ensures { result ≡ step_of (option_map ending_of registers.now.ending) registers.now.status }
+    ensures { result ≡ step_of registers.now.ending registers.now.status }
 {
     match registers.ending {
         None => Step::At,

@@ -4,8 +4,8 @@ use Rattle.std.proofs.lemmas.List.{length-map}
 use Rattle.rawk_parsing.specs.declared.tree.Name.{Name}
 use Rattle.rawk_parsing.specs.declared.tree.Function.{Function}
 use Rattle.rawk_parsing.specs.declared.tree.Change.{Change}
-use Rattle.rawk_parsing.specs.declared.tree.Sign.{Sign}
-use Rattle.rawk_parsing.specs.declared.tree.Logic.{Logic}
+use Rattle.rawk_words.specs.declared.operator.Sign.{Sign}
+use Rattle.rawk_words.specs.declared.operator.Logic.{Logic}
 use Rattle.rawk_parsing.specs.declared.tree.Assignment.{Assignment}
 use Rattle.rawk_parsing.specs.declared.tree.Expr.{Expr, fold-roll-Expr, map-Expr, roll-Expr, out-Expr}
 use Rattle.rawk_parsing.specs.declared.tree.Expr.TheOpen.{Expr-F, Place-F}

@@ -6,8 +6,8 @@ use Rattle.rawk_value.specs.declared.fault.Fault.{Fault}
 use Rattle.rawk_value.specs.Values.{Bytes, next_ok, checked, number_of, int_of, text_of, truth_of, flag, order_of, holds, combined}
 use Rattle.rawk_format.specs.Format.{formatted}
 use Rattle.rawk_builtins.specs.Builtins.{place_of, substring, lower, upper}
-use Rattle.rawk_parsing.specs.declared.tree.Sign.{Sign}
-use Rattle.rawk_parsing.specs.declared.tree.Sign.TheVariants as sign
+use Rattle.rawk_words.specs.declared.operator.Sign.{Sign}
+use Rattle.rawk_words.specs.declared.operator.Sign.TheVariants as sign
 use Rattle.rawk_tree.specs.declared.tree.Joiner.{Joiner}
 use Rattle.rawk_tree.specs.declared.tree.Joiner.TheVariants as joiner
 use Rattle.rawk_tree.specs.declared.tree.Unary.{Unary}

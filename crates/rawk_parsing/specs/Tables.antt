@@ -6,10 +6,10 @@ use Rattle.rawk_value.specs.declared.operator.Arithmetic.TheVariants as arithmet
 use Rattle.rawk_value.specs.declared.operator.Comparison.TheVariants as comparison
 use Rattle.rawk_parsing.specs.declared.tree.Operator.{Operator}
 use Rattle.rawk_parsing.specs.declared.tree.Operator.TheVariants as op
-use Rattle.rawk_parsing.specs.declared.tree.Logic.{Logic}
-use Rattle.rawk_parsing.specs.declared.tree.Logic.TheVariants as logical
-use Rattle.rawk_parsing.specs.declared.tree.Sign.{Sign}
-use Rattle.rawk_parsing.specs.declared.tree.Sign.TheVariants as signs
+use Rattle.rawk_words.specs.declared.operator.Logic.{Logic}
+use Rattle.rawk_words.specs.declared.operator.Logic.TheVariants as logical
+use Rattle.rawk_words.specs.declared.operator.Sign.{Sign}
+use Rattle.rawk_words.specs.declared.operator.Sign.TheVariants as signs
 use Rattle.rawk_parsing.specs.declared.tree.Change.{Change}
 use Rattle.rawk_parsing.specs.declared.tree.Change.TheVariants as changes
 use Rattle.rawk_parsing.specs.declared.tree.Assignment.{Assignment}

@@ -3,10 +3,11 @@
 ghost use Rattle.std.specs.Prelude.{◌≡◌};
 ghost use Rattle.rawk_parsing.specs.Tables as spec;
 
-use crate::tree::{Assignment, Change, Expr, Function, Logic, Operator, Place, Sign};
+use crate::tree::{Assignment, Change, Expr, Function, Operator, Place};
 use rawk_items::Boxed;
 use rawk_lexer::Kind;
 use rawk_value::{Arithmetic, Comparison};
+use rawk_words::{Logic, Sign};
 
 /// The operator that a token is between two operands.
 pub fn operator(kind: Kind) -> Option<Operator>

@@ -5,6 +5,7 @@
 
 use rawk_items::{Boxed, Items};
 use rawk_value::{Arithmetic, Bytes, Comparison};
+use rawk_words::{Logic, Sign};
 
 /// A name where it is used.
 #[derive(Drop)]
@@ -25,21 +26,6 @@ pub enum Operator {
     Match,
     /// `!~`
     NotMatch,
-}
-
-/// What joins two tests.
-#[derive(Clone, Copy, PartialEq, Eq)]
-pub enum Logic {
-    And,
-    Or,
-}
-
-/// What stands before an operand.
-#[derive(Clone, Copy, PartialEq, Eq)]
-pub enum Sign {
-    Plus,
-    Minus,
-    Not,
 }
 
 /// What `++` and `--` do.

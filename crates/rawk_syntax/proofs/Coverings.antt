@@ -8,8 +8,8 @@ use Rattle.rawk_parsing.specs.declared.parse_error.ParseError.TheVariants.{OutOf
 use Rattle.rawk_parsing.specs.declared.tree.Assignment.{Assignment}
 use Rattle.rawk_tree.specs.declared.tree.Joiner.{Joiner}
 use Rattle.rawk_parsing.specs.declared.tree.Operator.{Operator}
-use Rattle.rawk_parsing.specs.declared.tree.Sign.{Sign}
-use Rattle.rawk_parsing.specs.declared.tree.Logic.{Logic}
+use Rattle.rawk_words.specs.declared.operator.Sign.{Sign}
+use Rattle.rawk_words.specs.declared.operator.Logic.{Logic}
 use Rattle.rawk_parsing.specs.declared.tree.Change.{Change}
 use Rattle.rawk_parsing.specs.declared.tree.Operator.TheVariants as op
 use Rattle.rawk_parsing.specs.declared.tree.Function.{Function}
@@ -24,9 +24,10 @@ use Rattle.rawk_parsing.specs.declared.tree.Place.{Place, out-Place, roll-Place,
 use Rattle.rawk_parsing.specs.declared.tree.Place.TheVariants as spot
 use Rattle.rawk_tree.specs.declared.tree.Place as spot_place
 use Rattle.rawk_parsing.specs.declared.tree.Place.TheVariants.{rolls-Name, rolls-Field, rolls-Element}
-use Rattle.rawk_special.specs.Special.{is_field_count}
+use Rattle.rawk_tree.specs.declared.tree.Destination.{Destination}
+use Rattle.rawk_tree.specs.declared.tree.Place.TheVariants as spot_variants
 use Rattle.rawk_builtin_trees.specs.Calls.{has_builtin}
-use Rattle.rawk_syntax.specs.Meant.{Sense, is_there}
+use Rattle.rawk_syntax.specs.Meant.{Sense, is_there, assigned_to}
 use Rattle.rawk_grammar.specs.declared.tree.Item.{Item}
 use Rattle.rawk_syntax.specs.Covered.{Judges, Cover, item_gap, gap_from, functions_behind, unless, or_then, first_of, each, can_change, joiner_of, joins, expr_step, place_step, link_step, covers, place_cover, covers_link}
 
@@ -229,7 +230,7 @@ unfolding covers place_cover covers_link
 place_roll m d = fold-roll-Place Bool Cover Bool (expr_step m) (place_step m) link_step d
 
 abbrev named : Sense → word.Name → Cover
-named m n = record { reads = is_there (m.place n.word); sets = not (is_field_count n.word) }
+named m n = record { reads = is_there (m.place n.word); sets = is_there (assigned_to (m.place n.word)) }
 
 pub name_cover : (m : Sense) (p : Place) (n : word.Name) → p ≡ spot.Name n → place_cover m p ≡ named m n
 name_cover m p n is = ap (place_cover m) (is ∙ sym (rolls-Name n)) ∙ place_roll m (expr.Name n)
@@ -237,6 +238,19 @@ name_cover m p n is = ap (place_cover m) (is ∙ sym (rolls-Name n)) ∙ place_r
 -- what a name stands for, or that it stands for nothing
 pub name_reads : (m : Sense) (p : Place) (n : word.Name) (w : List ℕ) (o : Option spot_place.Place) → p ≡ spot.Name n → w ≡ n.word → o ≡ m.place w → (place_cover m p).reads ≡ is_there o
 name_reads m p n w o is same found = ap (λ k. k.reads) (name_cover m p n is) ∙ ap (λ v. is_there (m.place v)) (sym same) ∙ ap is_there (sym found)
+
+-- what can be assigned can be read
+change_by : (o : Option spot_place.Place) → (is_there (assigned_to o) && is_there o) ≡ is_there (assigned_to o)
+change_by None = refl
+change_by (Some (spot_variants.Global x)) = refl
+change_by (Some (spot_variants.Local i)) = refl
+change_by (Some spot_variants.FieldCount) = refl
+change_by (Some (spot_variants.Field' p e)) = refl
+
+-- what a name that is assigned stands for, or that it stands for nothing
+pub target_changes : (m : Sense) (p : Place) (n : word.Name) (w : List ℕ) (o : Option Destination) → p ≡ spot.Name n → w ≡ n.word → o ≡ assigned_to (m.place w) → can_change (place_cover m p) ≡ is_there o
+target_changes m p n w o is same found =
+    ap can_change (name_cover m p n is) ∙ change_by (m.place n.word) ∙ ap (λ v. is_there (assigned_to (m.place v))) (sym same) ∙ ap is_there (sym found)
 
 abbrev numbered : Bool → Cover
 numbered b = record { reads = b; sets = false }

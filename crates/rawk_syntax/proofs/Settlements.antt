@@ -6,8 +6,8 @@ use Rattle.std.proofs.lemmas.Result.{IfOk-at_ok}
 use Rattle.std.specs.Global.{Box, Vec}
 use Rattle.rawk_value.specs.declared.operator.Arithmetic.TheVariants.{Pow}
 use Rattle.rawk_parsing.specs.declared.parse_error.ParseError.{ParseError}
-use Rattle.rawk_parsing.specs.declared.tree.Sign.{Sign}
-use Rattle.rawk_parsing.specs.declared.tree.Logic.{Logic}
+use Rattle.rawk_words.specs.declared.operator.Sign.{Sign}
+use Rattle.rawk_words.specs.declared.operator.Logic.{Logic}
 use Rattle.rawk_parsing.specs.declared.tree.Change.{Change}
 use Rattle.rawk_parsing.specs.declared.tree.Function.{Function}
 use Rattle.rawk_parsing.specs.declared.tree.Name as word
@@ -24,13 +24,14 @@ use Rattle.rawk_tree.specs.declared.tree.Joiner.TheVariants as joiner
 use Rattle.rawk_tree.specs.declared.tree.Unary.TheVariants as unary
 use Rattle.rawk_tree.specs.declared.tree.Link.{Link}
 use Rattle.rawk_tree.specs.declared.tree.Link.TheVariants as tree_link
+use Rattle.rawk_tree.specs.declared.tree.Destination.{Destination}
 use Rattle.rawk_tree.specs.declared.tree.Place.{Place}
 use Rattle.rawk_tree.specs.declared.tree.Place.TheVariants as tree_place
 use Rattle.rawk_builtin_trees.specs.Calls.{Applies}
 use Rattle.rawk_syntax.specs.Covered.{Judges, unless, place_cover, joiner_of}
 use Rattle.rawk_syntax.specs.Settled as spec
-use Rattle.rawk_syntax.specs.Meant.{Sense}
-use Rattle.rawk_syntax.specs.Settled.{AnExpr, APlace, SomeLinks, SomeTests, SomeExprs, Settles, operator_of}
+use Rattle.rawk_syntax.specs.Meant.{Sense, assigned_to}
+use Rattle.rawk_syntax.specs.Settled.{AnExpr, APlace, ATarget, SomeLinks, SomeTests, SomeExprs, Settles, operator_of}
 
 pub number_settles : (m : Sense) {E : Type 0} (r : Result Expr E) (e : parsed.Expr) (n : ℤ) → e ≡ from.Number n → r ≡ Ok (tree.Number n) → IfOk r (λ s. Settles m (AnExpr e s))
 number_settles m r e n is made = rw (made, is) spec.number
@@ -65,17 +66,17 @@ pub power_settles : (m : Sense) (x y : parsed.Expr) (r : Result Expr ParseError)
 power_settles m x y (Ok t) base old powers none bare one h g = spec.power base powers h g (one ∙ ap (λ l. l ++ tree_link.Combine (joiner.Arithmetic Pow) t ∷ []) bare)
 power_settles m x y (Err e) base old powers none bare one h g = cc
 
-pub before_settles : (m : Sense) (e : parsed.Expr) (c : Change) (p : spot.Place) (r : Result Place ParseError) (q : Result Expr ParseError)
+pub before_settles : (m : Sense) (e : parsed.Expr) (c : Change) (p : spot.Place) (r : Result Destination ParseError) (q : Result Expr ParseError)
     → e ≡ from.Before c p → Judges (result_err r) q → IfOk q (λ s. IfOk r (λ t. (one : Box Expr) × (one.value ≡ tree.Number (pos 1)) × (s ≡ tree.Update (operator_of c) t one)))
-    → IfOk r (λ t. (place_cover m p).sets ≡ true) → IfOk r (λ t. Settles m (APlace p t)) → IfOk q (λ s. Settles m (AnExpr e s))
-before_settles m e c p (Ok t) (Ok s) is judged made free h = rw (is, made.2) (spec.before made.0 free h made.1)
-before_settles m e c p (Err f) (Ok s) is judged made free h = cc
-before_settles m e c p r (Err f) is judged made free h = tt
+    → IfOk r (λ t. Settles m (ATarget p t)) → IfOk q (λ s. Settles m (AnExpr e s))
+before_settles m e c p (Ok t) (Ok s) is judged made h = rw (is, made.2) (spec.before made.0 h made.1)
+before_settles m e c p (Err f) (Ok s) is judged made h = cc
+before_settles m e c p r (Err f) is judged made h = tt
 
-pub after_settles : (m : Sense) {E : Type 0} (e : parsed.Expr) (c : Change) (p : spot.Place) (r : Result Place E) (q : Result Expr E)
-    → e ≡ from.After c p → q ≡ result_map_both (tree.After (operator_of c)) (λ z. z) r → IfOk r (λ t. (place_cover m p).sets ≡ true) → IfOk r (λ t. Settles m (APlace p t)) → IfOk q (λ s. Settles m (AnExpr e s))
-after_settles m e c p (Ok t) q is made free h = rw (made, is) (spec.after free h)
-after_settles m e c p (Err f) q is made free h = rw made tt
+pub after_settles : (m : Sense) {E : Type 0} (e : parsed.Expr) (c : Change) (p : spot.Place) (r : Result Destination E) (q : Result Expr E)
+    → e ≡ from.After c p → q ≡ result_map_both (tree.After (operator_of c)) (λ z. z) r → IfOk r (λ t. Settles m (ATarget p t)) → IfOk q (λ s. Settles m (AnExpr e s))
+after_settles m e c p (Ok t) q is made h = rw (made, is) (spec.after h)
+after_settles m e c p (Err f) q is made h = rw made tt
 
 pub test_settles : (m : Sense) (l : Logic) (xs : List parsed.Expr) (i : ℕ) (x y : parsed.Expr) (ys zs : List Link) (r : Result Expr ParseError)
     → i < length xs → x ≡ get_or xs i x → y ≡ x → result_err r ≡ None → IfOk r (λ s. zs ≡ ys ++ tree_link.Decide l s ∷ []) → Settles m (SomeTests l (take i xs) ys) → IfOk r (λ s. Settles m (AnExpr y s)) → Settles m (SomeTests l (take (i + 1) xs) zs)
@@ -84,6 +85,10 @@ test_settles m l xs i x y ys zs (Ok s) h held same none more g f' =
     let t : take (i + 1) xs ≡ take i xs ++ x ∷ [] = take_more xs i x h ∙ ap (λ y. take i xs ++ y ∷ []) (sym held) in
     rw (t, more) (spec.a_test g f)
 test_settles m l xs i x y ys zs (Err e) h held same none more g f' = cc
+
+-- what a name that is assigned stands for
+pub target_settles : (m : Sense) (p : spot.Place) (n : word.Name) (v : List ℕ) (x : Destination) → p ≡ from_place.Name n → v ≡ n.word → Some x ≡ assigned_to (m.place v) → Settles m (ATarget p x)
+target_settles m p n v x is same h = rw is (spec.target (ap (λ w. assigned_to (m.place w)) (sym same) ∙ sym h))
 
 pub name_settles : (m : Sense) (p : spot.Place) (n : word.Name) (v : List ℕ) (s : Place) → p ≡ from_place.Name n → v ≡ n.word → Some s ≡ m.place v → Settles m (APlace p s)
 name_settles m p n v s is same h = rw is (spec.name (ap m.place (sym same) ∙ sym h))

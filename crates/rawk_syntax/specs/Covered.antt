@@ -1,5 +1,5 @@
 -- What of the parser's tree the settled tree has, and where the rest is refused.
-use Rattle.std.specs.Prelude.{◌≡◌, ◌≢◌, ℕ, suc, Bool, true, false, not, ◌&&◌, List, [], ◌∷◌, length, Option, Some, None, Result, Ok, Err}
+use Rattle.std.specs.Prelude.{◌≡◌, ◌≢◌, ℕ, suc, Bool, true, false, ◌&&◌, List, [], ◌∷◌, length, Option, Some, None, Result, Ok, Err}
 use Rattle.rawk_parsing.specs.declared.refusal.RefusalKind.TheVariants.{LeftOut}
 use Rattle.rawk_parsing.specs.declared.parse_error.ParseError.{ParseError}
 use Rattle.rawk_parsing.specs.declared.parse_error.ParseError.TheVariants.{OutOfMemory, Here}
@@ -27,11 +27,10 @@ use Rattle.rawk_grammar.specs.declared.tree.Action.{Action}
 use Rattle.rawk_grammar.specs.declared.tree.Action.TheVariants as does
 use Rattle.rawk_grammar.specs.declared.tree.Item.{Item}
 use Rattle.rawk_grammar.specs.declared.tree.Item.TheVariants as part
-use Rattle.rawk_special.specs.Special.{is_field_count}
 use Rattle.rawk_builtin_trees.specs.Calls.{has_builtin}
 use Rattle.rawk_tree.specs.declared.tree.Joiner.{Joiner}
 use Rattle.rawk_tree.specs.declared.tree.Joiner.TheVariants as joiner
-use Rattle.rawk_syntax.specs.Meant.{Sense, is_there}
+use Rattle.rawk_syntax.specs.Meant.{Sense, assigned_to, is_there}
 
 -- an answer of what is refused so, or not: memory may also be refused
 abbrev pub Judges : {A : Type 0} → Option ParseError → Result A ParseError → Type 0
@@ -104,9 +103,9 @@ expr_step means (expr.Call n es) = is_there (means.function n.word) && each (λ 
 expr_step means (expr.Builtin f es) = has_builtin f (length es) && each (λ b. b) es
 expr_step means _ = false
 
--- what can be assigned is a name other than NF
+-- what can be assigned is a name of a variable
 abbrev pub place_step : Sense → Place-F Bool Cover Bool → Cover
-place_step means (expr.Name n) = record { reads = is_there (means.place n.word); sets = not (is_field_count n.word) }
+place_step means (expr.Name n) = record { reads = is_there (means.place n.word); sets = is_there (assigned_to (means.place n.word)) }
 place_step means (expr.Field e) = record { reads = e; sets = false }
 place_step means (expr.Element n es) = record { reads = false; sets = false }
 

@@ -5,9 +5,9 @@ use Rattle.rawk_value.specs.declared.operator.Arithmetic.{Arithmetic}
 use Rattle.rawk_value.specs.declared.operator.Arithmetic.TheVariants.{Add, Sub, Pow}
 use Rattle.rawk_parsing.specs.declared.tree.Assignment.TheVariants as setting
 use Rattle.rawk_parsing.specs.declared.tree.Operator.{Operator}
-use Rattle.rawk_parsing.specs.declared.tree.Sign.{Sign}
-use Rattle.rawk_parsing.specs.declared.tree.Logic.{Logic}
-use Rattle.rawk_parsing.specs.declared.tree.Logic.TheVariants as logic
+use Rattle.rawk_words.specs.declared.operator.Sign.{Sign}
+use Rattle.rawk_words.specs.declared.operator.Logic.{Logic}
+use Rattle.rawk_words.specs.declared.operator.Logic.TheVariants as logic
 use Rattle.rawk_parsing.specs.declared.tree.Change.{Change}
 use Rattle.rawk_parsing.specs.declared.tree.Change.TheVariants as change
 use Rattle.rawk_parsing.specs.declared.tree.Function.{Function}
@@ -25,16 +25,18 @@ use Rattle.rawk_tree.specs.declared.tree.Joiner.TheVariants as joiner
 use Rattle.rawk_tree.specs.declared.tree.Unary.TheVariants as unary
 use Rattle.rawk_tree.specs.declared.tree.Link.{Link}
 use Rattle.rawk_tree.specs.declared.tree.Link.TheVariants as tree_link
+use Rattle.rawk_tree.specs.declared.tree.Destination.{Destination}
 use Rattle.rawk_tree.specs.declared.tree.Place.{Place}
 use Rattle.rawk_tree.specs.declared.tree.Place.TheVariants as tree_place
 use Rattle.rawk_builtin_trees.specs.Calls.{Applies}
-use Rattle.rawk_syntax.specs.Meant.{Sense}
-use Rattle.rawk_syntax.specs.Covered.{place_cover, joiner_of}
+use Rattle.rawk_syntax.specs.Meant.{Sense, assigned_to}
+use Rattle.rawk_syntax.specs.Covered.{joiner_of}
 
 -- a part of the parser's tree, and what it is settled as
 pub data Pair : Type 0 where
   AnExpr : parsed.Expr → Expr → Pair
   APlace : spot.Place → Place → Pair
+  ATarget : spot.Place → Destination → Pair
   SomeLinks : List join.Link → List Link → Pair
   SomeTests : Logic → List parsed.Expr → List Link → Pair
   SomeExprs : List parsed.Expr → List Expr → Pair
@@ -67,16 +69,17 @@ pub data Settles (means : Sense) : Pair → Type 0 where
   choice : {e f g : parsed.Expr} (s t u : Box Expr)
       → Settles means (AnExpr e s.value) → Settles means (AnExpr f t.value) → Settles means (AnExpr g u.value) → Settles means (AnExpr (from.Choice e f g) (tree.Choice s t u))
   -- `++` and `--` before a place are an assignment with 1
-  before : {c : Change} {p : spot.Place} {q : Place} (one : Box Expr)
-      → (place_cover means p).sets ≡ true → Settles means (APlace p q) → one.value ≡ tree.Number (pos 1) → Settles means (AnExpr (from.Before c p) (tree.Update (operator_of c) q one))
-  after : {c : Change} {p : spot.Place} {q : Place} → (place_cover means p).sets ≡ true → Settles means (APlace p q) → Settles means (AnExpr (from.After c p) (tree.After (operator_of c) q))
-  -- what is assigned is a name other than NF
-  assign : {p : spot.Place} {q : Place} {e : parsed.Expr} (s : Box Expr)
-      → (place_cover means p).sets ≡ true → Settles means (APlace p q) → Settles means (AnExpr e s.value) → Settles means (AnExpr (from.Assign setting.Plain p e) (tree.Assign q s))
-  update : {operator : Arithmetic} {p : spot.Place} {q : Place} {e : parsed.Expr} (s : Box Expr)
-      → (place_cover means p).sets ≡ true → Settles means (APlace p q) → Settles means (AnExpr e s.value) → Settles means (AnExpr (from.Assign (setting.Update operator) p e) (tree.Update operator q s))
+  before : {c : Change} {p : spot.Place} {x : Destination} (one : Box Expr)
+      → Settles means (ATarget p x) → one.value ≡ tree.Number (pos 1) → Settles means (AnExpr (from.Before c p) (tree.Update (operator_of c) x one))
+  after : {c : Change} {p : spot.Place} {x : Destination} → Settles means (ATarget p x) → Settles means (AnExpr (from.After c p) (tree.After (operator_of c) x))
+  assign : {p : spot.Place} {x : Destination} {e : parsed.Expr} (s : Box Expr)
+      → Settles means (ATarget p x) → Settles means (AnExpr e s.value) → Settles means (AnExpr (from.Assign setting.Plain p e) (tree.Assign x s))
+  update : {operator : Arithmetic} {p : spot.Place} {x : Destination} {e : parsed.Expr} (s : Box Expr)
+      → Settles means (ATarget p x) → Settles means (AnExpr e s.value) → Settles means (AnExpr (from.Assign (setting.Update operator) p e) (tree.Update operator x s))
   call : {n : word.Name} {es : List parsed.Expr} {f : ℕ} (ss : Vec Expr) → means.function n.word ≡ Some f → Settles means (SomeExprs es ss.items) → Settles means (AnExpr (from.Call n es) (tree.Call f ss))
   builtin : {f : Function} {es : List parsed.Expr} {ss : List Expr} {s : Expr} → Settles means (SomeExprs es ss) → Applies f ss s → Settles means (AnExpr (from.Builtin f es) s)
+  -- what is assigned is a name of a variable
+  target : {n : word.Name} {x : Destination} → assigned_to (means.place n.word) ≡ Some x → Settles means (ATarget (from_place.Name n) x)
   name : {n : word.Name} {q : Place} → means.place n.word ≡ Some q → Settles means (APlace (from_place.Name n) q)
   field : {e : parsed.Expr} (s : Box Expr) → Settles means (AnExpr e s.value) → Settles means (APlace (from_place.Field e) (tree_place.Field s))
   no_links : Settles means (SomeLinks [] [])

@@ -15,17 +15,17 @@ ghost use Rattle.rawk_builtin_trees.specs.Calls.{Applies, has_builtin};
 ghost use Rattle.rawk_syntax.specs.Covered as cover;
 ghost use Rattle.rawk_syntax.specs.Covered.{Judges, unless};
 ghost use Rattle.rawk_syntax.specs.Meant.{Sense, sense_of};
-ghost use Rattle.rawk_syntax.specs.Settled.{Settles, AnExpr, APlace, SomeLinks, SomeTests, SomeExprs, Prints, operator_of, neutral};
+ghost use Rattle.rawk_syntax.specs.Settled.{Settles, AnExpr, APlace, ATarget, SomeLinks, SomeTests, SomeExprs, Prints, operator_of, neutral};
 
 use crate::growth::{boxed, boxed_if, push, push_if};
-use crate::scope::{Scope, called, meant};
+use crate::scope::{Scope, assigned, called, meant};
 use rawk_builtin_trees::{apply, format_and_arguments};
 use rawk_items::Boxed;
-use rawk_parsing::tree::{Assignment, Change, Function, Logic, Operator, Sign};
+use rawk_parsing::tree::{Assignment, Change, Function, Operator};
 use rawk_parsing::{ParseError, RefusalKind, tree as parsed};
-use rawk_special::is_field_count;
-use rawk_tree::{Expr, Joiner, Link, Place, Unary};
+use rawk_tree::{Destination, Expr, Joiner, Link, Place, Unary};
 use rawk_value::{Arithmetic, Bytes};
+use rawk_words::{Logic, Sign};
 use std::alloc::{AllocError, Global};
 
 /// The refusal of what the settled tree does not have yet, at a place.
@@ -69,19 +69,22 @@ fn settle_name(scope: &Scope<'_>, left: usize, name: &parsed::Name) -> Result<Pl
     }
 }
 
-/// A place that can be assigned: a name other than NF.
-fn settle_target(scope: &Scope<'_>, left: usize, place: &parsed::Place) -> Result<Place, ParseError>
-    ensures settled { IfOk result (λ s. Settles (sense_of scope.now) (APlace place.now s)) }
-    ensures sets { IfOk result (λ s. (cover.place_cover (sense_of scope.now) place.now).sets ≡ true) }
+/// What can be assigned: a name of a variable.
+fn settle_target(
+    scope: &Scope<'_>,
+    left: usize,
+    place: &parsed::Place,
+) -> Result<Destination, ParseError>
+    ensures settled { IfOk result (λ x. Settles (sense_of scope.now) (ATarget place.now x)) }
     ensures judged { Judges (unless (cover.can_change (cover.place_cover (sense_of scope.now) place.now)) left) result }
 {
     let parsed::Place::Name(name) = place else {
         return Err(left_out(left));
     };
-    if is_field_count(name.word.as_slice()) {
-        return Err(left_out(left));
+    match assigned(scope, name.word.as_slice()) {
+        Some(destination) => Ok(destination),
+        None => Err(left_out(left)),
     }
-    settle_name(scope, left, name)
 }
 
 /// One more test at the end, if it was settled.
@@ -232,7 +235,7 @@ fn signed_of(sign: Sign, operand: Result<Box<Expr>, ParseError>) -> Result<Expr,
 fn before_of(
     alloc: Global,
     change: Change,
-    place: Result<Place, ParseError>,
+    place: Result<Destination, ParseError>,
 ) -> Result<Expr, ParseError>
     ensures settled { IfOk result (λ s. IfOk place (λ p. (one : Box settled.Expr) × (one.value ≡ tree.Number (pos 1)) × (s ≡ tree.Update (operator_of change) p one))) }
     ensures judged { Judges (result_err place) result }
@@ -247,7 +250,7 @@ fn before_of(
 }
 
 /// `++` or `--` behind a place, if that was settled.
-fn after_of(change: Change, place: Result<Place, ParseError>) -> Result<Expr, ParseError>
+fn after_of(change: Change, place: Result<Destination, ParseError>) -> Result<Expr, ParseError>
     ensures { result ≡ result_map_both (tree.After (operator_of change)) (λ e. e) place }
 {
     match place {

@@ -4,5 +4,7 @@
 mod lines;
 pub mod tree;
 
-pub use rawk_parsing::tree::{Logic, Sign};
-pub use tree::{Branch, Expr, Function, Guard, Joiner, Link, Place, Program, Rule, Stmt, Unary};
+pub use rawk_words::{Logic, Sign};
+pub use tree::{
+    Branch, Destination, Expr, Function, Guard, Joiner, Link, Place, Program, Rule, Stmt, Unary,
+};

@@ -1,7 +1,7 @@
 //! The tree of a program. Names are numbers, what the text leaves out is filled in, and each place where a point is reached has its site.
 
-use rawk_parsing::tree::{Logic, Sign};
 use rawk_value::{Arithmetic, Bytes, Comparison};
+use rawk_words::{Logic, Sign};
 
 /// What joins two values.
 #[derive(Clone, Copy, PartialEq, Eq)]
@@ -42,11 +42,11 @@ pub enum Expr {
     Chain(Box<Expr>, Vec<Link>),
     /// the second where the first is true, and else the third
     Choice(Box<Expr>, Box<Expr>, Box<Expr>),
-    Assign(Place, Box<Expr>),
+    Assign(Destination, Box<Expr>),
     /// `+=`
-    Update(Arithmetic, Place, Box<Expr>),
-    /// `++` and `--` behind a place, which add 1 or take it away
-    After(Arithmetic, Place),
+    Update(Arithmetic, Destination, Box<Expr>),
+    /// `++` and `--` behind what is assigned, which add 1 or take it away
+    After(Arithmetic, Destination),
     /// a call of a function, by its number from 0 in the order of the text, with its arguments
     Call(usize, Vec<Expr>),
     /// the bytes of a text from a place on, so many: `substr` with three arguments
@@ -64,7 +64,16 @@ pub enum Link {
     Decide(Logic, Expr),
 }
 
-/// What can be read and assigned.
+/// What can be assigned: a variable.
+#[derive(Clone, Copy, PartialEq, Eq)]
+pub enum Destination {
+    /// a global scalar, by its number from 0; the special variables but NF have the first numbers
+    Global(usize),
+    /// a local of the function around, by its number from 0: its parameters come first
+    Local(usize),
+}
+
+/// What can be read.
 #[cycle(expressions)]
 #[derive(Drop)]
 pub enum Place {

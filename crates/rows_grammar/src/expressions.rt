@@ -1,10 +1,9 @@
 //! Expressions as answers show them: each operator before its operands, in parentheses, behind a blank.
 
 use rawk_items::Boxed;
-use rawk_parsing::tree::{
-    Assignment, Change, Expr, Function, Link, Logic, Name, Operator, Place, Sign,
-};
+use rawk_parsing::tree::{Assignment, Change, Expr, Function, Link, Name, Operator, Place};
 use rawk_value::{Arithmetic, Comparison, push_number};
+use rawk_words::{Logic, Sign};
 use std::alloc::AllocError;
 
 /// Adds bytes.

@@ -1,4 +1,4 @@
-use Rattle.std.proofs.Common.{◌≡◌, [], false, rules}
+use Rattle.std.proofs.Common.{◌≡◌, false, rules}
 use Rattle.std.proofs.lemmas.Bool.{OnFalse_at}
 use Rattle.rawk.proofs.SoFar.{hands_nothing}
 use Rattle.rawk.proofs.running.hand_on.Goals as goal

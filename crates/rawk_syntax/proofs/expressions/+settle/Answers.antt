@@ -54,7 +54,7 @@ settle_expr-returns-in-Signed-clause-judged t c =
 
 pub settle_expr-returns-in-Before-clause-settled : goal.settle_expr-returns-in-Before-clause-settled
 settle_expr-returns-in-Before-clause-settled t c =
-    before_settles (sense_of c.args.scope.now) c.args.e.now c.in-Before.change c.in-Before.place c.settle_target.result c.before_of.result c.in-Before.is c.before_of.ensures.judged c.before_of.ensures.settled c.settle_target.ensures.sets c.settle_target.ensures.settled
+    before_settles (sense_of c.args.scope.now) c.args.e.now c.in-Before.change c.in-Before.place c.settle_target.result c.before_of.result c.in-Before.is c.before_of.ensures.judged c.before_of.ensures.settled c.settle_target.ensures.settled
 
 pub settle_expr-returns-in-Before-clause-judged : goal.settle_expr-returns-in-Before-clause-judged
 settle_expr-returns-in-Before-clause-judged t c =
@@ -62,7 +62,7 @@ settle_expr-returns-in-Before-clause-judged t c =
 
 pub settle_expr-returns-in-After-clause-settled : goal.settle_expr-returns-in-After-clause-settled
 settle_expr-returns-in-After-clause-settled t c =
-    after_settles (sense_of c.args.scope.now) c.args.e.now c.in-After.change c.in-After.place c.settle_target-in-After.result c.after_of.result c.in-After.is c.after_of.ensures c.settle_target-in-After.ensures.sets c.settle_target-in-After.ensures.settled
+    after_settles (sense_of c.args.scope.now) c.args.e.now c.in-After.change c.in-After.place c.settle_target-in-After.result c.after_of.result c.in-After.is c.after_of.ensures c.settle_target-in-After.ensures.settled
 
 pub settle_expr-returns-in-After-clause-judged : goal.settle_expr-returns-in-After-clause-judged
 settle_expr-returns-in-After-clause-judged t c =
@@ -182,7 +182,7 @@ settle_assign-returns-in_err-value-clause-judged t c =
 
 pub settle_assign-returns-in-Plain-clause-settled : goal.settle_assign-returns-in-Plain-clause-settled
 settle_assign-returns-in-Plain-clause-settled t c =
-    rw c.in-Plain.is (spec.assign c.in_ok-value.value c.in_ok-place.ensures.sets c.in_ok-place.ensures.settled c.in_ok-value.ensures.settled)
+    rw c.in-Plain.is (spec.assign c.in_ok-value.value c.in_ok-place.ensures.settled c.in_ok-value.ensures.settled)
 
 pub settle_assign-returns-in-Plain-clause-judged : goal.settle_assign-returns-in-Plain-clause-judged
 settle_assign-returns-in-Plain-clause-judged t c =
@@ -190,7 +190,7 @@ settle_assign-returns-in-Plain-clause-judged t c =
 
 pub settle_assign-returns-in-Update-clause-settled : goal.settle_assign-returns-in-Update-clause-settled
 settle_assign-returns-in-Update-clause-settled t c =
-    rw c.in-Update.is (spec.update c.in_ok-value.value c.in_ok-place.ensures.sets c.in_ok-place.ensures.settled c.in_ok-value.ensures.settled)
+    rw c.in-Update.is (spec.update c.in_ok-value.value c.in_ok-place.ensures.settled c.in_ok-value.ensures.settled)
 
 pub settle_assign-returns-in-Update-clause-judged : goal.settle_assign-returns-in-Update-clause-judged
 settle_assign-returns-in-Update-clause-judged t c =

@@ -1,9 +1,12 @@
-use Rattle.std.proofs.Common.{[], length, sym, subst, arith}
-use Rattle.rawk_machine.specs.Standing.{MayCome}
+use Rattle.std.proofs.Common.{◌≡◌, ◌∙◌, [], length, Option, Some, ap, sym, subst, arith}
+use Rattle.rawk_machine.specs.Standing.{MayCome, step_of}
 use Rattle.rawk_machine.specs.InTrace.{exactly_in_trace}
 use Rattle.rawk_debug.specs.Positions.{IsPosition, Stands}
 use Rattle.rawk.specs.Staged.{Staged, position_of, held_of}
-use Rattle.rawk.proofs.Stages.{raised_few, upto_all, stands_in}
+use Rattle.rawk_tape.specs.declared.source.Ending.TheVariants.{Failed}
+use Rattle.rawk_code.specs.Actions.{Ending}
+use Rattle.rawk_debug.specs.Works.{read_failed}
+use Rattle.rawk.proofs.Stages.{raised_few, upto_all, stands_in, comes_behind}
 use Rattle.rawk.proofs.stage.StageStepper.known.Goals as goal
 
 pub returns-clause-position : goal.returns-clause-position
@@ -28,3 +31,13 @@ returns-clause-stands g c = λ input may.
     let come = subst (λ (s : Staged g.row.R.Denot). MayCome g.R.Source.may_give s.machine [] input) (sym c.self.view_is) may in
     subst (λ (s : Staged g.row.R.Denot). Stands input (position_of s.program s.machine) (held_of s.machine)) c.self.view_is
     (stands_in p m input (exactly_in_trace p m input c.self.invariant.compiled (c.self.invariant.stood input come).now))
+
+pub returns-clause-comes : goal.returns-clause-comes
+returns-clause-comes g c = λ rest come. comes_behind g.R.Source.may_give c.args.self.now.machine rest come
+
+pub returns-clause-read_failed : goal.returns-clause-read_failed
+returns-clause-read_failed g c = λ is.
+    let m = c.self.inside.machine in
+    let same : m.ending ≡ Some read_failed = ap (λ (s : Staged g.row.R.Denot). s.machine.ending) c.self.view_is ∙ is in
+    subst (λ (s : Staged g.row.R.Denot). g.R.Source.over s.machine.tape.source ≡ Some Failed) c.self.view_is
+    (c.step.ensures.read_failed (c.step.ensures.answer ∙ ap (λ (o : Option Ending). step_of o m.state.status) same))

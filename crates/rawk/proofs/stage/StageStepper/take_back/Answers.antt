@@ -1,8 +1,8 @@
 use Rattle.std.proofs.Common.{◌∙◌, [], ap}
 use Rattle.rawk_machine.specs.Standing.{Standing}
 use Rattle.rawk_debug.specs.Positions.{has_set_at}
-use Rattle.rawk.specs.Staged.{Staged}
-use Rattle.rawk.proofs.Stages.{stage_kept, unset_code, unset_limit, has_by}
+use Rattle.rawk.specs.Staged.{Staged, work_of}
+use Rattle.rawk.proofs.Stages.{stage_kept, unset_work, unset_code, unset_limit, has_by}
 use Rattle.rawk.proofs.stage.StageStepper.take_back.Goals as goal
 
 pub invariant_of-self : goal.invariant_of-self
@@ -17,3 +17,8 @@ pub returns-clause-result : goal.returns-clause-result
 returns-clause-result g c =
     let m = c.self.inside.machine in
     c.take_back.ensures.taken ∙ has_by m.point m.sets m.unset c.known.ensures.made ∙ ap (λ (s : Staged g.row.R.Denot). has_set_at s.machine.point s.machine.sets) c.self.view_is
+
+pub returns-clause-idle : goal.returns-clause-idle
+returns-clause-idle g c =
+    let m = c.self.inside.machine in
+    ap work_of c.take_back.ensures.back ∙ unset_work m.unset m ∙ ap (λ (s : Staged g.row.R.Denot). work_of s.machine) c.self.view_is

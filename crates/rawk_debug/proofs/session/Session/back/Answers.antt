@@ -1,4 +1,4 @@
-use Rattle.std.proofs.Common.{refl, true, false}
+use Rattle.std.proofs.Common.{refl, true, false, ◌∙◌}
 use Rattle.rawk_debug.specs.Sessions.{stand}
 use Rattle.rawk_debug.proofs.Searches.{returns_found, found_is, backs_on}
 use Rattle.rawk_debug.proofs.session.Session.back.Goals as goal
@@ -43,6 +43,7 @@ search-preserved g c =
           (record { depth_is = c.search.invariant.depth; asked_is = c.is_sought.ensures }) _ _ c.if-is_sought.false (moved.kept refl) (moved.moved refl) refl refl (moved.before refl);
       narrows = λ input may. c.search.invariant.narrows input (moved.narrows input may);
       reads_nothing = λ input may. moved.reads_nothing input (c.search.invariant.reads_nothing input may);
+      idle = moved.idle ∙ c.search.invariant.idle;
       fresh = moved.fresh refl;
       depth = c.search.invariant.depth;
     }

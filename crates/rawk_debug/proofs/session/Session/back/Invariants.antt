@@ -15,6 +15,7 @@ invariant-search g l =
       so_far : (input : Input) → may_be now input → Backs input l.goal (stand position l.fn.self) (stand position l.self) (g.M.Stepper.before now);
       narrows : (input : Input) → may_be now input → may_be first input;
       reads_nothing : (input : Input) → may_be first input → may_be now input;
+      idle : g.M.Stepper.work now ≡ g.M.Stepper.work first;
       fresh : IsTrue (g.M.Stepper.fresh now);
       depth : l.depth ≡ depth_of (g.M.Stepper.held first);
     }

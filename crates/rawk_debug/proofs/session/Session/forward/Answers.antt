@@ -1,5 +1,6 @@
 use Rattle.std.proofs.Common.{refl, sym, ◌∙◌}
 use Rattle.rawk_debug.specs.Sessions.{stand}
+use Rattle.rawk_debug.specs.Works.{draws_on}
 use Rattle.rawk_debug.proofs.Searches.{halts_on, none_is}
 use Rattle.rawk_debug.proofs.session.Session.forward.Goals as goal
 
@@ -17,6 +18,7 @@ search-preserved g c =
           (record { machine = moved.moved; stops = refl; made = refl; came = moved.before }) (c.known-in-search.ensures.stands input may)
           (record { depth_is = c.search.invariant.depth; asked_is = c.is_sought.ensures }) c.if-is_sought.false open_still;
       narrows = λ input may. c.search.invariant.narrows input (moved.narrows input may);
+      draws = λ old h. draws_on g.M.Device.Source.over g.M.Device.Source.handed old (g.M.Stepper.work c.search.self.machine) (g.M.Stepper.work c.advance.new.self) (c.search.invariant.draws old h) moved.draws;
       stands = c.known-in-search.ensures.stands;
       open_still = none_is _ open_still;
       depth = c.search.invariant.depth;

@@ -1,4 +1,4 @@
-use Rattle.std.proofs.Common.{refl}
+use Rattle.std.proofs.Common.{refl, ◌∙◌}
 use Rattle.rawk_debug.specs.Sessions.{stand}
 use Rattle.rawk_debug.proofs.Searches.{back_twice, back_keeps}
 use Rattle.rawk_debug.proofs.session.Session.rewind.Goals as goal
@@ -13,4 +13,5 @@ all-preserved g c =
       kept = back_keeps old mid _ c.all.invariant.same (moved.moved refl) (moved.kept refl);
       narrows = λ input may. c.all.invariant.narrows input (moved.narrows input may);
       reads_nothing = λ input may. moved.reads_nothing input (c.all.invariant.reads_nothing input may);
+      idle = moved.idle ∙ c.all.invariant.idle;
     }

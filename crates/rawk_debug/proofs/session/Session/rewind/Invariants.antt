@@ -13,6 +13,7 @@ invariant-all g l =
       kept : first.machine.oldest ≤ now.machine.point;
       narrows : (input : Input) → g.M.Stepper.may_be l.self.machine input → g.M.Stepper.may_be l.fn.self.machine input;
       reads_nothing : (input : Input) → g.M.Stepper.may_be l.fn.self.machine input → g.M.Stepper.may_be l.self.machine input;
+      idle : g.M.Stepper.work l.self.machine ≡ g.M.Stepper.work l.fn.self.machine;
     }
 
 abbrev pub decreases-all : goal.decreases-all

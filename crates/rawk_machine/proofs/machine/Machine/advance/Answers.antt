@@ -6,7 +6,6 @@ use Rattle.rawk_history.specs.Steps.{Kept}
 use Rattle.rawk_store.specs.declared.registers.Registers.{Registers}
 use Rattle.rawk_store.specs.Stores.{now_of}
 use Rattle.rawk_machine.specs.Last.{Last, On, last_of}
-use Rattle.rawk_travel.specs.Moving.{ending_of}
 use Rattle.std.specs.Option.{option_map}
 use Rattle.rawk_machine.specs.Standing.{Standing, Moment, Past, IsAt, StandsAt, MovesOn, ground_of, given_of, moment_of}
 use Rattle.rawk_machine.specs.Kept.{IsPlaced, unsets, pasts, before_of, Chain, Few}
@@ -61,7 +60,7 @@ pub returns-in_ok-journaled-in-None-clause-stood : goal.returns-in_ok-journaled-
 returns-in_ok-journaled-in-None-clause-stood g c = λ input may stood.
     let i = c.self.inside in
     let n = now_of c.journaled.new.store in
-    let going : c.args.self.now.ending ≡ None = sym (ap (λ (m : Standing g.row.R.Denot). m.ending) c.self.view_is) ∙ ap (option_map ending_of) c.in-None.is in
+    let going : c.args.self.now.ending ≡ None = sym (ap (λ (m : Standing g.row.R.Denot). m.ending) c.self.view_is) ∙ c.in-None.is in
     let on = returns-in_ok-journaled-in-None-clause-moves g c going in
     let new : Standing g.row.R.Denot =
     standing_of i.code i.settings i.steps i.sets.items (i.point + 1) c.journaled.new.tape n c.journaled.new.executed (reverse c.journaled.new.here.items) (g.K.Keeper.kept c.journaled.new.keeper) (g.K.Keeper.limit c.journaled.new.keeper) On in

@@ -12,7 +12,7 @@ use Rattle.rawk_machine.specs.Stood.{standing_of, IsBelow}
 use Rattle.rawk_machine.specs.Written.{IsWritten}
 use Rattle.rawk_machine.specs.Arrival.{ends_quietly}
 use Rattle.rawk_machine.proofs.Chains.{chain_set}
-use Rattle.rawk_machine.proofs.Leads.{no_ending, set_is}
+use Rattle.rawk_machine.proofs.Leads.{set_is}
 use Rattle.rawk_machine.proofs.Stands.{stood_set}
 use Rattle.rawk_machine.proofs.machine.Machine.set.Goals as goal
 
@@ -28,7 +28,7 @@ invariant_of-self-2 g c =
     let w = c.in-Ok.ensures in
     let x = w.back.0 in
     let e : SetAt = record { point = i.point; target = c.args.target; value = c.args.value } in
-    let going = no_ending i.store.registers.now.ending (ap (λ (m : Standing g.row.R.Denot). m.ending) c.self.view_is ∙ c.requires) in
+    let going = ap (λ (m : Standing g.row.R.Denot). m.ending) c.self.view_is ∙ c.requires in
     let placed : IsPlaced l i.point size = record { goes = going; here = (v.below going).0; consumed = omega (arith, v.consumed, c.consumed-consumed.ensures.in_range, c.consumed-consumed.ensures.value) } in
     let last : reverse c.write_copy.new.here.items ≡ x ∷ here = ap (λ (gs : List Group). reverse gs) w.back.1 ∙ reverse-append i.here.items (x ∷ []) in
     let chain : Chain n i.point size (i.sets.items ++ e ∷ []) (x ∷ here) kept = chain_set l n i.point size i.sets.items e x here kept placed w.back.2 w.back.3 refl v.chain in
