@@ -30,7 +30,7 @@ use Rattle.rawk_code.specs.declared.code.Op.{Op}
 use Rattle.rawk_code.specs.declared.code.Op.TheVariants as does
 use Rattle.rawk_code.specs.declared.code.Instr.TheVariants as instr
 use Rattle.rawk_code.specs.Trace.{reads}
-use Rattle.rawk_compiler.specs.Code.{appending, simple_field, operand_of, unless_ready, pushed, joined, choice_code, decide_code, expr_code, expr_codes, effect_code, place_code, link_code, link_codes, front_of, simples_behind, Piece, nowhere, always, in_turn, when_code, Arm, then_to, branch_to, if_code, step_around, body_around, loop_code, jump_code, test_code, stmt_code, stmt_codes, arms_of, added, appended, closing_code, opened_code, guard_code, rule_code, records_code, main_code, begin_code, record_at_of, end_at_of, functions_at_of, function_code, functions_code, entries_of, program_code, HasAt}
+use Rattle.rawk_compiler.specs.Code.{appending, simple_field, operand_of, right_operand, unless_ready, pushed, joined, choice_code, decide_code, expr_code, expr_codes, effect_code, place_code, link_code, link_codes, front_of, simples_behind, Piece, nowhere, always, in_turn, when_code, Arm, then_to, branch_to, if_code, step_around, body_around, loop_code, jump_code, test_code, stmt_code, stmt_codes, arms_of, added, appended, closing_code, opened_code, guard_code, rule_code, records_code, main_code, begin_code, record_at_of, end_at_of, functions_at_of, function_code, functions_code, entries_of, program_code, HasAt}
 use Rattle.rawk_code.specs.Valid.{rank_of, rank, IsEntry, Descends, IsValid}
 use Rattle.rawk_compiler.proofs.Follows.{has_front, has_back, has_all}
 use Rattle.rawk_compiler.proofs.Statements.{branches_length}
@@ -128,7 +128,7 @@ module _ (code : List Instr) where
     place_fine (place.Field' p e) = pushed_fine (simple_field e) (expr_code e ++ instr.Do does.FieldAt ∷ []) (fine_last (expr_code e) (instr.Do does.FieldAt) (λ pc. tt) (expr_fine e))
 
     link_fine : (l : Link) → Fine (link_code l)
-    link_fine (link.Combine op e) = fine_last (unless_ready (operand_of e) (expr_code e)) (instr.Do (does.Combine op (operand_of e))) (λ pc. tt) (unless_fine (operand_of e) (expr_code e) (expr_fine e))
+    link_fine (link.Combine op e) = fine_last (unless_ready (right_operand op e) (expr_code e)) (instr.Do (does.Combine op (right_operand op e))) (λ pc. tt) (unless_fine (right_operand op e) (expr_code e) (expr_fine e))
     link_fine (link.Decide l e) = decide_fine l (unless_ready (operand_of e) (expr_code e)) (operand_of e) (unless_fine (operand_of e) (expr_code e) (expr_fine e))
 
     links_fine : {m : _} → (row : Row_of-Link m) → AllFine (link_codes row)

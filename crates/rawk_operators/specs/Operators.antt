@@ -1,11 +1,13 @@
 -- What operators and functions make of values, after POSIX.1-2017, utility awk, sections `Expressions in awk`, `Arithmetic Functions`, `String Functions`.
-use Rattle.std.specs.Prelude.{pos, neg_ℤ, not, List, ◌++◌, length, map, Some, None, Result, Ok}
+use Rattle.std.specs.Prelude.{pos, neg_ℤ, Bool, not, List, ◌++◌, length, map, Option, Some, None, Result, Ok, Err}
 use Rattle.rawk_value.specs.declared.value.Value.{Value}
 use Rattle.rawk_value.specs.declared.value.Value.TheVariants.{Number, String}
 use Rattle.rawk_value.specs.declared.fault.Fault.{Fault}
+use Rattle.rawk_value.specs.declared.fault.Fault.TheVariants.{BadEre}
 use Rattle.rawk_value.specs.Values.{Bytes, next_ok, checked, number_of, int_of, text_of, truth_of, flag, order_of, holds, combined}
 use Rattle.rawk_format.specs.Format.{formatted}
 use Rattle.rawk_builtins.specs.Builtins.{place_of, substring, lower, upper}
+use Rattle.rawk_search.specs.Patterns.{is_found}
 use Rattle.rawk_words.specs.declared.operator.Sign.{Sign}
 use Rattle.rawk_words.specs.declared.operator.Sign.TheVariants as sign
 use Rattle.rawk_tree.specs.declared.tree.Joiner.{Joiner}
@@ -13,13 +15,23 @@ use Rattle.rawk_tree.specs.declared.tree.Joiner.TheVariants as joiner
 use Rattle.rawk_tree.specs.declared.tree.Unary.{Unary}
 use Rattle.rawk_tree.specs.declared.tree.Unary.TheVariants as unary
 
--- what two values make: a number; 1 where a comparison holds, and else 0; their texts side by side; the place of a text in another; the part of a text from a place on
+-- whether the text of a value has a match of the expression that the text of another one is; a text that is no expression is a fault (Regular Expressions)
+abbrev pub found_or : Option Bool → Result Bool Fault
+found_or None = Err BadEre
+found_or (Some b) = Ok b
+
+abbrev pub matched : Value → Value → Result Bool Fault
+matched v w = found_or (is_found (text_of w) (text_of v))
+
+-- what two values make: a number; 1 where a comparison holds, and else 0; their texts side by side; the place of a text in another; the part of a text from a place on; 1 where the one text has a match of the other, and else 0, or the other way round
 abbrev pub both_make : Joiner → Value → Value → Result Value Fault
 both_make (joiner.Arithmetic op) v w = next_ok (number_of v) (λ x. next_ok (number_of w) (λ y. next_ok (combined op x y) (λ z. Ok (Number z))))
 both_make (joiner.Comparison comparison) v w = next_ok (order_of v w) (λ order. Ok (flag (holds comparison order)))
 both_make joiner.Concat v w = Ok (String (text_of v ++ text_of w))
 both_make joiner.Index v w = Ok (Number (pos (place_of (text_of v) (text_of w))))
 both_make joiner.Substr v w = next_ok (number_of w) (λ m. Ok (String (substring (text_of v) m None)))
+both_make joiner.Matches v w = next_ok (matched v w) (λ b. Ok (flag b))
+both_make joiner.NotMatches v w = next_ok (matched v w) (λ b. Ok (flag (not b)))
 
 -- what a sign makes of a value: its number, that number with the other sign, or 1 where the value is false, and else 0
 abbrev pub signed : Sign → Value → Result Value Fault

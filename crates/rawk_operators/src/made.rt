@@ -8,6 +8,7 @@ ghost use Rattle.rawk_operators.specs.Operators.{both_make, one_makes, signed};
 use crate::borrowed::{Borrowed, number, text_borrowed, truth, whole};
 use crate::ordered::compare;
 use crate::parts::{part, place};
+use crate::searches::matches;
 use itoa::Buffer;
 use rawk_tree::{Joiner, Sign, Unary};
 use rawk_value::{Arithmetic, Bytes, Comparison, Fault, Value, neg};
@@ -67,7 +68,35 @@ fn part_from(
     }
 }
 
-/// What two operands make, or a fault. It fails where memory for a text is refused.
+/// 1 where the left text has a match of the expression that the right one is, and else 0, or the fault of a text that is none. An error: memory was refused.
+fn sought(
+    alloc: Global,
+    left: Borrowed<'_>,
+    right: Borrowed<'_>,
+) -> Result<Result<Value, Fault>, AllocError>
+    ensures { IfOk result (λ r. r ≡ both_make Joiner.Matches (borrowed_value left.entry) (borrowed_value right.entry)) }
+{
+    match matches(alloc, left, right)? {
+        Err(fault) => Ok(Err(fault)),
+        Ok(found) => Ok(Ok(flag(found))),
+    }
+}
+
+/// The other way round.
+fn missed(
+    alloc: Global,
+    left: Borrowed<'_>,
+    right: Borrowed<'_>,
+) -> Result<Result<Value, Fault>, AllocError>
+    ensures { IfOk result (λ r. r ≡ both_make Joiner.NotMatches (borrowed_value left.entry) (borrowed_value right.entry)) }
+{
+    match matches(alloc, left, right)? {
+        Err(fault) => Ok(Err(fault)),
+        Ok(found) => Ok(Ok(flag(!found))),
+    }
+}
+
+/// What two operands make, or a fault. It fails where memory for a text, or for a search, is refused.
 pub fn make(
     alloc: Global,
     joiner: Joiner,
@@ -82,6 +111,8 @@ pub fn make(
         Joiner::Concat => Ok(Ok(concat(alloc, left, right)?)),
         Joiner::Index => Ok(Ok(Value::Number(place(left, right)))),
         Joiner::Substr => part_from(alloc, left, right),
+        Joiner::Matches => sought(alloc, left, right),
+        Joiner::NotMatches => missed(alloc, left, right),
     }
 }
 

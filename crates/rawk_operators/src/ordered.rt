@@ -23,6 +23,7 @@ fn number_if_compared(value: Borrowed<'_>) -> Option<Result<i64, Fault>>
         Borrowed::Text(_) => None,
         Borrowed::Input(text) => number_if_numeric(text),
         Borrowed::Kept(value) => number_if_counts(value),
+        Borrowed::Pattern(_) => None,
     }
 }
 

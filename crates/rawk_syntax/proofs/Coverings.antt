@@ -6,17 +6,14 @@ use Rattle.std.proofs.Math.Seq.{drop-cons}
 use Rattle.rawk_parsing.specs.declared.parse_error.ParseError.{ParseError}
 use Rattle.rawk_parsing.specs.declared.parse_error.ParseError.TheVariants.{OutOfMemory}
 use Rattle.rawk_parsing.specs.declared.tree.Assignment.{Assignment}
-use Rattle.rawk_tree.specs.declared.tree.Joiner.{Joiner}
-use Rattle.rawk_parsing.specs.declared.tree.Operator.{Operator}
 use Rattle.rawk_words.specs.declared.operator.Sign.{Sign}
 use Rattle.rawk_words.specs.declared.operator.Logic.{Logic}
 use Rattle.rawk_parsing.specs.declared.tree.Change.{Change}
-use Rattle.rawk_parsing.specs.declared.tree.Operator.TheVariants as op
 use Rattle.rawk_parsing.specs.declared.tree.Function.{Function}
 use Rattle.rawk_parsing.specs.declared.tree.Name as word
 use Rattle.rawk_parsing.specs.declared.tree.Expr.{Expr, out-Expr, roll-Expr, roll-out-Expr, map-Expr, fold-roll-Expr, fold_out-Expr}
 use Rattle.rawk_parsing.specs.declared.tree.Expr.TheVariants as tree
-use Rattle.rawk_parsing.specs.declared.tree.Expr.TheVariants.{rolls-Number, rolls-Text, rolls-Of, rolls-Group, rolls-Signed, rolls-Power, rolls-Chain, rolls-Logic, rolls-Choice, rolls-Before, rolls-After, rolls-Assign, rolls-Call, rolls-Builtin}
+use Rattle.rawk_parsing.specs.declared.tree.Expr.TheVariants.{rolls-Number, rolls-Text, rolls-Ere, rolls-Of, rolls-Group, rolls-Signed, rolls-Power, rolls-Chain, rolls-Logic, rolls-Choice, rolls-Before, rolls-After, rolls-Assign, rolls-Call, rolls-Builtin}
 use Rattle.rawk_parsing.specs.declared.tree.Expr.TheOpen as expr
 use Rattle.rawk_parsing.specs.declared.tree.Expr.TheOpen.{Expr-F, Place-F, Link-F}
 use Rattle.rawk_parsing.specs.declared.tree.Link.{Link, fold_out-Link}
@@ -29,7 +26,7 @@ use Rattle.rawk_tree.specs.declared.tree.Place.TheVariants as spot_variants
 use Rattle.rawk_builtin_trees.specs.Calls.{has_builtin}
 use Rattle.rawk_syntax.specs.Meant.{Sense, is_there, assigned_to}
 use Rattle.rawk_grammar.specs.declared.tree.Item.{Item}
-use Rattle.rawk_syntax.specs.Covered.{Judges, Cover, item_gap, gap_from, functions_behind, unless, or_then, first_of, each, can_change, joiner_of, joins, expr_step, place_step, link_step, covers, place_cover, covers_link}
+use Rattle.rawk_syntax.specs.Covered.{Judges, Cover, item_gap, gap_from, functions_behind, unless, or_then, first_of, each, can_change, expr_step, place_step, link_step, covers, place_cover, covers_link}
 
 -- ---- tests and refusals
 
@@ -143,6 +140,9 @@ number_covers m e n is = ap (covers m) (is ∙ sym (rolls-Number n)) ∙ covers_
 pub text_covers : (m : Sense) (e : Expr) (w : List ℕ) → e ≡ tree.Text w → covers m e ≡ true
 text_covers m e w is = ap (covers m) (is ∙ sym (rolls-Text w)) ∙ covers_roll m (expr.Text w)
 
+pub ere_covers : (m : Sense) (e : Expr) (left : ℕ) (w : List ℕ) → e ≡ tree.Ere left w → covers m e ≡ true
+ere_covers m e left w is = ap (covers m) (is ∙ sym (rolls-Ere left w)) ∙ covers_roll m (expr.Ere left w)
+
 pub of_covers : (m : Sense) (e : Expr) (p : Place) → e ≡ tree.Of p → covers m e ≡ (place_cover m p).reads
 of_covers m e p is = ap (covers m) (is ∙ sym (rolls-Of p)) ∙ covers_roll m (expr.Of p)
 
@@ -201,14 +201,15 @@ unfolding covers place_cover covers_link
 covers_out m e = fold_out-Expr Bool Cover Bool (expr_step m) (place_step m) link_step e
 
 -- no other expression is covered
-pub other_covers : (m : Sense) (e : Expr) → ((n : ℤ) → e ≡ tree.Number n → ⊥) → ((w : List ℕ) → e ≡ tree.Text w → ⊥) → ((p : Place) → e ≡ tree.Of p → ⊥) → ((x : Expr) → e ≡ tree.Group x → ⊥)
+pub other_covers : (m : Sense) (e : Expr) → ((n : ℤ) → e ≡ tree.Number n → ⊥) → ((w : List ℕ) → e ≡ tree.Text w → ⊥) → ((left : ℕ) (w : List ℕ) → e ≡ tree.Ere left w → ⊥) → ((p : Place) → e ≡ tree.Of p → ⊥) → ((x : Expr) → e ≡ tree.Group x → ⊥)
     → ((s : Sign) (x : Expr) → e ≡ tree.Signed s x → ⊥) → ((x y : Expr) → e ≡ tree.Power x y → ⊥) → ((x : Expr) (xs : List Link) → e ≡ tree.Chain x xs → ⊥) → ((l : Logic) (xs : List Expr) → e ≡ tree.Logic l xs → ⊥) → ((x y z : Expr) → e ≡ tree.Choice x y z → ⊥) → ((c : Change) (p : Place) → e ≡ tree.Before c p → ⊥) → ((c : Change) (p : Place) → e ≡ tree.After c p → ⊥)
     → ((how : Assignment) (p : Place) (x : Expr) → e ≡ tree.Assign how p x → ⊥) → ((n : word.Name) (xs : List Expr) → e ≡ tree.Call n xs → ⊥) → ((f : Function) (xs : List Expr) → e ≡ tree.Builtin f xs → ⊥) → covers m e ≡ false
-other_covers m e number text place group signed power chain logic choice before after assign call builtin = covers_out m e ∙ go (out-Expr e) (sym (roll-out-Expr e))
+other_covers m e number text ere place group signed power chain logic choice before after assign call builtin = covers_out m e ∙ go (out-Expr e) (sym (roll-out-Expr e))
   where
     go : (d : Expr-F Expr Place Link) → e ≡ roll-Expr d → expr_step m (map-Expr Expr Place Link Bool Cover Bool (covers m) (place_cover m) (covers_link m) d) ≡ false
     go (expr.Number n) q = absurd (number n (q ∙ rolls-Number n))
     go (expr.Text w) q = absurd (text w (q ∙ rolls-Text w))
+    go (expr.Ere left w) q = absurd (ere left w (q ∙ rolls-Ere left w))
     go (expr.Of p) q = absurd (place p (q ∙ rolls-Of p))
     go (expr.Group x) q = absurd (group x (q ∙ rolls-Group x))
     go (expr.Signed s x) q = absurd (signed s x (q ∙ rolls-Signed s x))
@@ -276,21 +277,9 @@ other_cover m p name = ap (λ c. c.sets) (place_out m p) ∙ go (out-Place p) (s
 
 -- ---- links
 
-pub link_covers : (m : Sense) (l : Link) → covers_link m l ≡ (joins l.operator && covers m l.operand)
+pub link_covers : (m : Sense) (l : Link) → covers_link m l ≡ covers m l.operand
 unfolding covers place_cover covers_link
 link_covers m l = fold_out-Link Bool Cover Bool (expr_step m) (place_step m) link_step l
-
-pub joiner_joins : (o : Operator) (j : Joiner) → joiner_of o ≡ Some j → joins o ≡ true
-joiner_joins (op.Arithmetic x) operator h = refl
-joiner_joins (op.Comparison x) operator h = refl
-joiner_joins op.Concat operator h = refl
-joiner_joins _ operator h = cc
-
-pub joiner_not : (o : Operator) → ((j : Joiner) → joiner_of o ≡ Some j → ⊥) → joins o ≡ false
-joiner_not (op.Arithmetic x) h = absurd (h _ refl)
-joiner_not (op.Comparison x) h = absurd (h _ refl)
-joiner_not op.Concat h = absurd (h _ refl)
-joiner_not _ h = refl
 
 pub none_uncovered : (m : Sense) (es : List Expr) (left : ℕ) → length es ≡ 0 → unless (each (covers m) es) left ≡ None
 none_uncovered m [] left h = refl

@@ -28,10 +28,10 @@ use Rattle.rawk_tree.specs.declared.tree.Destination.{Destination}
 use Rattle.rawk_tree.specs.declared.tree.Place.{Place}
 use Rattle.rawk_tree.specs.declared.tree.Place.TheVariants as tree_place
 use Rattle.rawk_builtin_trees.specs.Calls.{Applies}
-use Rattle.rawk_syntax.specs.Covered.{Judges, unless, place_cover, joiner_of}
+use Rattle.rawk_syntax.specs.Covered.{Judges, unless, place_cover}
 use Rattle.rawk_syntax.specs.Settled as spec
 use Rattle.rawk_syntax.specs.Meant.{Sense, assigned_to}
-use Rattle.rawk_syntax.specs.Settled.{AnExpr, APlace, ATarget, SomeLinks, SomeTests, SomeExprs, Settles, operator_of}
+use Rattle.rawk_syntax.specs.Settled.{AnExpr, APlace, ASought, ATarget, IsMatchOf, IsRecord, SomeLinks, SomeTests, SomeExprs, Settles, joiner_of, operator_of, right_of}
 
 pub number_settles : (m : Sense) {E : Type 0} (r : Result Expr E) (e : parsed.Expr) (n : ℤ) → e ≡ from.Number n → r ≡ Ok (tree.Number n) → IfOk r (λ s. Settles m (AnExpr e s))
 number_settles m r e n is made = rw (made, is) spec.number
@@ -103,13 +103,37 @@ link_is x = refl
 
 -- one more link
 pub link_settles : (m : Sense) (xs : List join.Link) (i : ℕ) (x : join.Link) (j : Joiner) (e : parsed.Expr) (ys zs : List Link) (r : Result Expr ParseError)
-    → i < length xs → x ≡ get_or xs i x → Some j ≡ joiner_of x.operator → e ≡ x.operand → result_err r ≡ None → IfOk r (λ s. zs ≡ ys ++ tree_link.Combine j s ∷ [])
-    → Settles m (SomeLinks (take i xs) ys) → IfOk r (λ s. Settles m (AnExpr e s)) → Settles m (SomeLinks (take (i + 1) xs) zs)
+    → i < length xs → x ≡ get_or xs i x → j ≡ joiner_of x.operator → e ≡ x.operand → result_err r ≡ None → IfOk r (λ s. zs ≡ ys ++ tree_link.Combine j s ∷ [])
+    → Settles m (SomeLinks (take i xs) ys) → IfOk r (λ s. Settles m (right_of j e s)) → Settles m (SomeLinks (take (i + 1) xs) zs)
 link_settles m xs i x j e ys zs (Ok s) h at joins is none more g f =
     let same : x ≡ link x.operator e = link_is x ∙ ap (link x.operator) (sym is) in
     let t : take (i + 1) xs ≡ take i xs ++ link x.operator e ∷ [] = take_more xs i x h ∙ ap (λ y. take i xs ++ y ∷ []) (sym at ∙ same) in
-    rw (t, more) (spec.a_link x.operator j e (sym joins) g f)
+    let right : Settles m (right_of (joiner_of x.operator) e s) = subst (λ (k : Joiner). Settles m (right_of k e s)) joins f in
+    let last : zs ≡ ys ++ tree_link.Combine (joiner_of x.operator) s ∷ [] = more ∙ ap (λ (k : Joiner). ys ++ tree_link.Combine k s ∷ []) joins in
+    rw (t, last) (spec.a_link x.operator e s g right)
 link_settles m xs i x j e ys zs (Err d) h at joins is none more g f = cc
+
+-- a regular expression by itself, and one that is sought
+pub ere_settles : (m : Sense) {E : Type 0} (r : Result Expr E) (e : parsed.Expr) (left : ℕ) (v w : List ℕ) → e ≡ from.Ere left v → w ≡ v → IfOk r (λ s. IsMatchOf w s) → IfOk r (λ s. Settles m (AnExpr e s))
+ere_settles m (Ok s) e left v w is same made = rw is (spec.matched (subst (λ (x : List ℕ). IsMatchOf x s) same made))
+ere_settles m (Err f) e left v w is same made = tt
+
+pub sought_settles : (m : Sense) {E : Type 0} (r : Result Expr E) (e : parsed.Expr) (left : ℕ) (v w : List ℕ) → e ≡ from.Ere left v → w ≡ v → IfOk r (λ s. s ≡ tree.Text w) → IfOk r (λ s. Settles m (ASought e s))
+sought_settles m (Ok s) e left v w is same made = rw (is, made, same) spec.sought
+sought_settles m (Err f) e left v w is same made = tt
+
+pub made_settles : (m : Sense) {E : Type 0} (r : Result Expr E) (e : parsed.Expr) → ((left : ℕ) (w : List ℕ) → e ≡ from.Ere left w → ⊥) → IfOk r (λ s. Settles m (AnExpr e s)) → IfOk r (λ s. Settles m (ASought e s))
+made_settles m (Ok s) e not h = spec.made not h
+made_settles m (Err f) e not h = tt
+
+pub right_settles : (m : Sense) {E : Type 0} (r : Result Expr E) (e : parsed.Expr) (j : Joiner) → (j ≡ joiner.Matches → ⊥) → (j ≡ joiner.NotMatches → ⊥) → IfOk r (λ s. Settles m (AnExpr e s)) → IfOk r (λ s. Settles m (right_of j e s))
+right_settles m r e (joiner.Arithmetic op) first second h = h
+right_settles m r e (joiner.Comparison c) first second h = h
+right_settles m r e joiner.Concat first second h = h
+right_settles m r e joiner.Index first second h = h
+right_settles m r e joiner.Substr first second h = h
+right_settles m r e joiner.Matches first second h = absurd (first refl)
+right_settles m r e joiner.NotMatches first second h = absurd (second refl)
 
 pub expr_settles : (m : Sense) (xs : List parsed.Expr) (i : ℕ) (x y : parsed.Expr) (ys zs : List Expr) (r : Result Expr ParseError)
     → i < length xs → x ≡ get_or xs i x → y ≡ x → result_err r ≡ None → IfOk r (λ s. zs ≡ ys ++ s ∷ []) → Settles m (SomeExprs (take i xs) ys) → IfOk r (λ s. Settles m (AnExpr y s)) → Settles m (SomeExprs (take (i + 1) xs) zs)
@@ -139,6 +163,6 @@ pub all_printed : (m : Sense) (es : List parsed.Expr) (ss : List Expr) → lengt
 all_printed m [] ss h g = absurd (h refl)
 all_printed m (e ∷ es) ss h g = spec.all g
 
-pub record_printed : (m : Sense) (es : List parsed.Expr) (ss : List Expr) (number : Box Expr) → length es ≡ 0 → ss ≡ tree.Read (tree_place.Field number) ∷ [] → number.value ≡ tree.Number (pos 0) → spec.Prints m es ss
-record_printed m [] ss number h is held = rw is (spec.record_alone number held)
-record_printed m (e ∷ es) ss number h is held = absurd (let no : suc (length es) ≡ 0 = h in omega arith)
+pub record_printed : (m : Sense) (es : List parsed.Expr) (ss : List Expr) (s : Expr) → length es ≡ 0 → ss ≡ s ∷ [] → IsRecord s → spec.Prints m es ss
+record_printed m [] ss s h is held = rw is (spec.record_alone held)
+record_printed m (e ∷ es) ss s h is held = absurd (let no : suc (length es) ≡ 0 = h in omega arith)

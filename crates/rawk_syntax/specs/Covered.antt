@@ -3,8 +3,6 @@ use Rattle.std.specs.Prelude.{◌≡◌, ◌≢◌, ℕ, suc, Bool, true, false,
 use Rattle.rawk_parsing.specs.declared.refusal.RefusalKind.TheVariants.{LeftOut}
 use Rattle.rawk_parsing.specs.declared.parse_error.ParseError.{ParseError}
 use Rattle.rawk_parsing.specs.declared.parse_error.ParseError.TheVariants.{OutOfMemory, Here}
-use Rattle.rawk_parsing.specs.declared.tree.Operator.{Operator}
-use Rattle.rawk_parsing.specs.declared.tree.Operator.TheVariants as op
 use Rattle.rawk_parsing.specs.declared.tree.Expr.{Expr, fold-Expr}
 use Rattle.rawk_parsing.specs.declared.tree.Expr.TheOpen as expr
 use Rattle.rawk_parsing.specs.declared.tree.Expr.TheOpen.{Expr-F, Place-F, Link-F}
@@ -28,8 +26,6 @@ use Rattle.rawk_grammar.specs.declared.tree.Action.TheVariants as does
 use Rattle.rawk_grammar.specs.declared.tree.Item.{Item}
 use Rattle.rawk_grammar.specs.declared.tree.Item.TheVariants as part
 use Rattle.rawk_builtin_trees.specs.Calls.{has_builtin}
-use Rattle.rawk_tree.specs.declared.tree.Joiner.{Joiner}
-use Rattle.rawk_tree.specs.declared.tree.Joiner.TheVariants as joiner
 use Rattle.rawk_syntax.specs.Meant.{Sense, assigned_to, is_there}
 
 -- an answer of what is refused so, or not: memory may also be refused
@@ -68,19 +64,6 @@ pub record Cover : Type 0 where
   pub reads : Bool
   pub sets : Bool
 
--- the operator of a link, where the settled tree has it: matches are left out
-abbrev pub joiner_of : Operator → Option Joiner
-joiner_of (op.Arithmetic o) = Some (joiner.Arithmetic o)
-joiner_of (op.Comparison c) = Some (joiner.Comparison c)
-joiner_of op.Concat = Some joiner.Concat
-joiner_of _ = None
-
-abbrev pub joins : Operator → Bool
-joins (op.Arithmetic o) = true
-joins (op.Comparison c) = true
-joins op.Concat = true
-joins _ = false
-
 -- whether the settled tree has a place that `++`, `--` or an assignment changes
 abbrev pub can_change : Cover → Bool
 can_change p = p.sets && p.reads
@@ -89,6 +72,7 @@ can_change p = p.sets && p.reads
 abbrev pub expr_step : Sense → Expr-F Bool Cover Bool → Bool
 expr_step means (expr.Number n) = true
 expr_step means (expr.Text w) = true
+expr_step means (expr.Ere left w) = true
 expr_step means (expr.Of p) = p.reads
 expr_step means (expr.Group e) = e
 expr_step means (expr.Signed s e) = e
@@ -110,7 +94,7 @@ place_step means (expr.Field e) = record { reads = e; sets = false }
 place_step means (expr.Element n es) = record { reads = false; sets = false }
 
 abbrev pub link_step : Link-F Bool Cover Bool → Bool
-link_step l = joins l.operator && l.operand
+link_step l = l.operand
 
 -- whether the settled tree has the expression
 unfoldable pub covers : Sense → Expr → Bool

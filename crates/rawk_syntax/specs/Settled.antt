@@ -5,6 +5,7 @@ use Rattle.rawk_value.specs.declared.operator.Arithmetic.{Arithmetic}
 use Rattle.rawk_value.specs.declared.operator.Arithmetic.TheVariants.{Add, Sub, Pow}
 use Rattle.rawk_parsing.specs.declared.tree.Assignment.TheVariants as setting
 use Rattle.rawk_parsing.specs.declared.tree.Operator.{Operator}
+use Rattle.rawk_parsing.specs.declared.tree.Operator.TheVariants as op
 use Rattle.rawk_words.specs.declared.operator.Sign.{Sign}
 use Rattle.rawk_words.specs.declared.operator.Logic.{Logic}
 use Rattle.rawk_words.specs.declared.operator.Logic.TheVariants as logic
@@ -30,16 +31,45 @@ use Rattle.rawk_tree.specs.declared.tree.Place.{Place}
 use Rattle.rawk_tree.specs.declared.tree.Place.TheVariants as tree_place
 use Rattle.rawk_builtin_trees.specs.Calls.{Applies}
 use Rattle.rawk_syntax.specs.Meant.{Sense, assigned_to}
-use Rattle.rawk_syntax.specs.Covered.{joiner_of}
 
 -- a part of the parser's tree, and what it is settled as
 pub data Pair : Type 0 where
   AnExpr : parsed.Expr → Expr → Pair
   APlace : spot.Place → Place → Pair
   ATarget : spot.Place → Destination → Pair
+  -- a text that is sought in others
+  ASought : parsed.Expr → Expr → Pair
   SomeLinks : List join.Link → List Link → Pair
   SomeTests : Logic → List parsed.Expr → List Link → Pair
   SomeExprs : List parsed.Expr → List Expr → Pair
+
+-- the operator of a link
+abbrev pub joiner_of : Operator → Joiner
+joiner_of (op.Arithmetic o) = joiner.Arithmetic o
+joiner_of (op.Comparison c) = joiner.Comparison c
+joiner_of op.Concat = joiner.Concat
+joiner_of op.Match = joiner.Matches
+joiner_of op.NotMatch = joiner.NotMatches
+
+-- the right operand of a joiner, and what it is settled as: behind `~` and `!~` it is sought
+abbrev pub right_of : Joiner → parsed.Expr → Expr → Pair
+right_of joiner.Matches e s = ASought e s
+right_of joiner.NotMatches e s = ASought e s
+right_of j e s = AnExpr e s
+
+-- `$0`
+pub record IsRecord (e : Expr) : Type 0 where
+  pub number : Box Expr
+  pub zero : number.value ≡ tree.Number (pos 0)
+  pub is : e ≡ tree.Read (tree_place.Field number)
+
+-- whether `$0` has a match of a regular expression (POSIX awk, Regular Expressions)
+pub record IsMatchOf (w : List ℕ) (e : Expr) : Type 0 where
+  pub first : Box Expr
+  pub more : Vec Link
+  pub whole : IsRecord first.value
+  pub link : more.items ≡ tree_link.Combine joiner.Matches (tree.Text w) ∷ []
+  pub is : e ≡ tree.Chain first more
 
 -- what `++` and `--` do with 1
 abbrev pub operator_of : Change → Arithmetic
@@ -55,6 +85,11 @@ neutral logic.Or = pos 0
 pub data Settles (means : Sense) : Pair → Type 0 where
   number : {n : ℤ} → Settles means (AnExpr (from.Number n) (tree.Number n))
   text : {w : List ℕ} → Settles means (AnExpr (from.Text w) (tree.Text w))
+  -- a regular expression by itself
+  matched : {left : ℕ} {w : List ℕ} {s : Expr} → IsMatchOf w s → Settles means (AnExpr (from.Ere left w) s)
+  -- what is sought: a regular expression stands for its text, and anything else for its value
+  sought : {left : ℕ} {w : List ℕ} → Settles means (ASought (from.Ere left w) (tree.Text w))
+  made : {e : parsed.Expr} {s : Expr} → ((left : ℕ) (w : List ℕ) → e ≡ from.Ere left w → ⊥) → Settles means (AnExpr e s) → Settles means (ASought e s)
   read : {p : spot.Place} {q : Place} → Settles means (APlace p q) → Settles means (AnExpr (from.Of p) (tree.Read q))
   group : {e : parsed.Expr} {s : Expr} → Settles means (AnExpr e s) → Settles means (AnExpr (from.Group e) s)
   signed : {sign : Sign} {e : parsed.Expr} (s : Box Expr) → Settles means (AnExpr e s.value) → Settles means (AnExpr (from.Signed sign e) (tree.Unary (unary.Sign sign) s))
@@ -83,8 +118,8 @@ pub data Settles (means : Sense) : Pair → Type 0 where
   name : {n : word.Name} {q : Place} → means.place n.word ≡ Some q → Settles means (APlace (from_place.Name n) q)
   field : {e : parsed.Expr} (s : Box Expr) → Settles means (AnExpr e s.value) → Settles means (APlace (from_place.Field e) (tree_place.Field s))
   no_links : Settles means (SomeLinks [] [])
-  a_link : {xs : List join.Link} {ys : List Link} {s : Expr} (operator : Operator) (j : Joiner) (e : parsed.Expr)
-      → joiner_of operator ≡ Some j → Settles means (SomeLinks xs ys) → Settles means (AnExpr e s) → Settles means (SomeLinks (xs ++ link operator e ∷ []) (ys ++ tree_link.Combine j s ∷ []))
+  a_link : {xs : List join.Link} {ys : List Link} (operator : Operator) (e : parsed.Expr) (s : Expr)
+      → Settles means (SomeLinks xs ys) → Settles means (right_of (joiner_of operator) e s) → Settles means (SomeLinks (xs ++ link operator e ∷ []) (ys ++ tree_link.Combine (joiner_of operator) s ∷ []))
   no_tests : {l : Logic} → Settles means (SomeTests l [] [])
   a_test : {l : Logic} {es : List parsed.Expr} {ys : List Link} {e : parsed.Expr} {s : Expr}
       → Settles means (SomeTests l es ys) → Settles means (AnExpr e s) → Settles means (SomeTests l (es ++ e ∷ []) (ys ++ tree_link.Decide l s ∷ []))
@@ -94,5 +129,5 @@ pub data Settles (means : Sense) : Pair → Type 0 where
 
 -- what is printed: a missing list is the record, `$0`
 pub data Prints (means : Sense) : List parsed.Expr → List Expr → Type 0 where
-  record_alone : (s : Box Expr) → s.value ≡ tree.Number (pos 0) → Prints means [] (tree.Read (tree_place.Field s) ∷ [])
+  record_alone : {s : Expr} → IsRecord s → Prints means [] (s ∷ [])
   all : {e : parsed.Expr} {es : List parsed.Expr} {ss : List Expr} → Settles means (SomeExprs (e ∷ es) ss) → Prints means (e ∷ es) ss

@@ -15,7 +15,7 @@ ghost use Rattle.rawk_builtin_trees.specs.Calls.{Applies, has_builtin};
 ghost use Rattle.rawk_syntax.specs.Covered as cover;
 ghost use Rattle.rawk_syntax.specs.Covered.{Judges, unless};
 ghost use Rattle.rawk_syntax.specs.Meant.{Sense, sense_of};
-ghost use Rattle.rawk_syntax.specs.Settled.{Settles, AnExpr, APlace, ATarget, SomeLinks, SomeTests, SomeExprs, Prints, operator_of, neutral};
+ghost use Rattle.rawk_syntax.specs.Settled.{Settles, AnExpr, APlace, ASought, ATarget, IsMatchOf, IsRecord, SomeLinks, SomeTests, SomeExprs, Prints, joiner_of, operator_of, neutral, right_of};
 
 use crate::growth::{boxed, boxed_if, push, push_if};
 use crate::scope::{Scope, assigned, called, meant};
@@ -35,16 +35,16 @@ pub fn left_out(left: usize) -> ParseError
     ParseError::Here(RefusalKind::LeftOut, left)
 }
 
-/// The operator of a link, where the settled tree has it.
-fn joiner_of(operator: Operator) -> Option<Joiner>
-    ensures { result ≡ cover.joiner_of operator }
+/// The operator of a link.
+fn joiner_of(operator: Operator) -> Joiner
+    ensures { result ≡ joiner_of operator }
 {
     match operator {
-        Operator::Arithmetic(arithmetic) => Some(Joiner::Arithmetic(arithmetic)),
-        Operator::Comparison(comparison) => Some(Joiner::Comparison(comparison)),
-        Operator::Concat => Some(Joiner::Concat),
-        Operator::Match => None,
-        Operator::NotMatch => None,
+        Operator::Arithmetic(arithmetic) => Joiner::Arithmetic(arithmetic),
+        Operator::Comparison(comparison) => Joiner::Comparison(comparison),
+        Operator::Concat => Joiner::Concat,
+        Operator::Match => Joiner::Matches,
+        Operator::NotMatch => Joiner::NotMatches,
     }
 }
 
@@ -186,10 +186,8 @@ fn settle_links(
 {
     let mut settled = Vec::new(alloc);
     for link in links {
-        let Some(operator) = joiner_of(link.operator) else {
-            return Err(left_out(left));
-        };
-        let operand = settle_expr(alloc, scope, left, link.operand.get());
+        let operator = joiner_of(link.operator);
+        let operand = settle_right(alloc, scope, left, operator, link.operand.get());
         push_link(&mut settled, operator, operand)?;
     }
     Ok(settled)
@@ -209,6 +207,62 @@ fn settle_text(alloc: Global, text: &[u8]) -> Result<Expr, ParseError>
 {
     let text = Bytes::from_slice(alloc, text)?;
     Ok(Expr::Text(text))
+}
+
+/// `$0`.
+fn record(alloc: Global) -> Result<Expr, AllocError>
+    ensures { IfOk result (λ s. IsRecord s) }
+{
+    let number = number(alloc, 0)?;
+    Ok(Expr::Read(Place::Field(number)))
+}
+
+/// A regular expression by itself: whether `$0` has a match of it.
+fn settle_ere(alloc: Global, text: &[u8]) -> Result<Expr, ParseError>
+    ensures settled { IfOk result (λ s. IsMatchOf text.now s) }
+    ensures judged { Judges None result }
+{
+    let whole = record(alloc)?;
+    let first = boxed(alloc, whole)?;
+    let text = Bytes::from_slice(alloc, text)?;
+    let mut more = Vec::new(alloc);
+    push(&mut more, Link::Combine(Joiner::Matches, Expr::Text(text)))?;
+    Ok(Expr::Chain(first, more))
+}
+
+/// A text that is sought: a regular expression stands for its text, and anything else for its value.
+#[cycle(settle)]
+fn settle_sought(
+    alloc: Global,
+    scope: &Scope<'_>,
+    left: usize,
+    e: &parsed::Expr,
+) -> Result<Expr, ParseError>
+    ensures settled { IfOk result (λ s. Settles (sense_of scope.now) (ASought e.now s)) }
+    ensures judged { Judges (unless (cover.covers (sense_of scope.now) e.now) left) result }
+{
+    match e {
+        parsed::Expr::Ere(_, text) => settle_text(alloc, text.as_slice()),
+        _ => settle_expr(alloc, scope, left, e),
+    }
+}
+
+/// The right operand of a joiner.
+#[cycle(settle)]
+fn settle_right(
+    alloc: Global,
+    scope: &Scope<'_>,
+    left: usize,
+    joiner: Joiner,
+    e: &parsed::Expr,
+) -> Result<Expr, ParseError>
+    ensures settled { IfOk result (λ s. Settles (sense_of scope.now) (right_of joiner e.now s)) }
+    ensures judged { Judges (unless (cover.covers (sense_of scope.now) e.now) left) result }
+{
+    match joiner {
+        Joiner::Matches | Joiner::NotMatches => settle_sought(alloc, scope, left, e),
+        _ => settle_expr(alloc, scope, left, e),
+    }
 }
 
 /// The value of a place, if that was settled.
@@ -416,6 +470,7 @@ pub fn settle_expr(
     match e {
         parsed::Expr::Number(n) => settle_number(n),
         parsed::Expr::Text(bytes) => settle_text(alloc, bytes.as_slice()),
+        parsed::Expr::Ere(_, text) => settle_ere(alloc, text.as_slice()),
         parsed::Expr::Of(place) => read_of(settle_place(alloc, scope, left, place)),
         parsed::Expr::Group(inner) => settle_expr(alloc, scope, left, inner.get()),
         parsed::Expr::Signed(sign, operand) => {
@@ -482,10 +537,10 @@ pub fn settle_printed(
     ensures judged { Judges (unless (cover.each (cover.covers (sense_of scope.now)) list.now) left) result }
 {
     if list.len() == 0 {
-        let mut record = Vec::new(alloc);
-        let number = number(alloc, 0)?;
-        push(&mut record, Expr::Read(Place::Field(number)))?;
-        return Ok(record);
+        let mut list = Vec::new(alloc);
+        let whole = record(alloc)?;
+        push(&mut list, whole)?;
+        return Ok(list);
     }
     settle_list(alloc, scope, left, list)
 }

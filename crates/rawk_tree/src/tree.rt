@@ -14,6 +14,10 @@ pub enum Joiner {
     Index,
     /// the bytes of the left text from the place on that the right number says
     Substr,
+    /// `~`: whether the left text has a match of the expression that the right text is
+    Matches,
+    /// `!~`
+    NotMatches,
 }
 
 /// What makes a value of one (POSIX awk, Expressions in awk, Arithmetic Functions, String Functions).

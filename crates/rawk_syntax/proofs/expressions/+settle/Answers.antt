@@ -4,12 +4,12 @@ use Rattle.rawk_builtin_trees.specs.Calls.{has_builtin}
 use Rattle.rawk_parsing.specs.declared.tree.Expr.TheVariants as from
 use Rattle.rawk_tree.specs.declared.tree.Expr.TheVariants as tree
 use Rattle.rawk_tree.specs.declared.tree.Unary.TheVariants as unary
-use Rattle.rawk_syntax.specs.Covered.{unless, each, can_change, covers, place_cover, covers_link, joins}
+use Rattle.rawk_syntax.specs.Covered.{unless, each, can_change, covers, place_cover, covers_link}
 use Rattle.rawk_syntax.specs.Meant.{is_there, sense_of}
 use Rattle.rawk_syntax.specs.Settled as spec
-use Rattle.rawk_syntax.proofs.Coverings.{exits, passes, holds, sure, fails, both, first_false, second_false, was_settled, was_refused, judges_on, each_more, each_stops, number_covers, text_covers, of_covers, group_covers, signed_covers, power_covers, chain_covers, logic_covers, choice_covers, before_covers, after_covers, assign_covers, call_covers, builtin_covers, builtin_judged, none_there, other_covers, field_cover, element_cover, link_covers, joiner_joins, joiner_not}
+use Rattle.rawk_syntax.proofs.Coverings.{exits, passes, holds, sure, fails, both, first_false, second_false, was_settled, was_refused, judges_on, each_more, each_stops, number_covers, text_covers, ere_covers, of_covers, group_covers, signed_covers, power_covers, chain_covers, logic_covers, choice_covers, before_covers, after_covers, assign_covers, call_covers, builtin_covers, builtin_judged, none_there, other_covers, field_cover, element_cover, link_covers}
 use Rattle.rawk_syntax.proofs.Gaps.{made_judged}
-use Rattle.rawk_syntax.proofs.Settlements.{number_settles, number_judged, text_settles, read_settles, group_settles, boxed_settles, signed_settles, power_settles, before_settles, after_settles, test_settles, field_settles, link_settles, call_settles, builtin_settles, same_count, expr_settles}
+use Rattle.rawk_syntax.proofs.Settlements.{number_settles, number_judged, text_settles, ere_settles, sought_settles, made_settles, right_settles, read_settles, group_settles, boxed_settles, signed_settles, power_settles, before_settles, after_settles, test_settles, field_settles, link_settles, call_settles, builtin_settles, same_count, expr_settles}
 use Rattle.rawk_syntax.proofs.expressions.+settle.Goals as goal
 
 pub settle_expr-returns-in-Number-clause-settled : goal.settle_expr-returns-in-Number-clause-settled
@@ -27,6 +27,28 @@ settle_expr-returns-in-Text-clause-settled t c =
 pub settle_expr-returns-in-Text-clause-judged : goal.settle_expr-returns-in-Text-clause-judged
 settle_expr-returns-in-Text-clause-judged t c =
     rw (holds (covers (sense_of c.args.scope.now) c.args.e.now) c.args.left (text_covers (sense_of c.args.scope.now) c.args.e.now _ c.in-Text.is)) c.settle_text.ensures.judged
+
+pub settle_expr-returns-in-Ere-clause-settled : goal.settle_expr-returns-in-Ere-clause-settled
+settle_expr-returns-in-Ere-clause-settled t c =
+    ere_settles (sense_of c.args.scope.now) c.settle_ere.result _ _ _ _ c.in-Ere.is c.as_slice-in-Ere.ensures c.settle_ere.ensures.settled
+
+pub settle_expr-returns-in-Ere-clause-judged : goal.settle_expr-returns-in-Ere-clause-judged
+settle_expr-returns-in-Ere-clause-judged t c =
+    rw (holds (covers (sense_of c.args.scope.now) c.args.e.now) c.args.left (ere_covers (sense_of c.args.scope.now) c.args.e.now _ _ c.in-Ere.is)) c.settle_ere.ensures.judged
+
+pub settle_sought-returns-in-Ere-clause-settled : goal.settle_sought-returns-in-Ere-clause-settled
+settle_sought-returns-in-Ere-clause-settled t c =
+    sought_settles (sense_of c.args.scope.now) c.settle_text.result _ _ _ _ c.in-Ere.is c.as_slice.ensures c.settle_text.ensures.settled
+
+pub settle_sought-returns-in-Ere-clause-judged : goal.settle_sought-returns-in-Ere-clause-judged
+settle_sought-returns-in-Ere-clause-judged t c =
+    rw (holds (covers (sense_of c.args.scope.now) c.args.e.now) c.args.left (ere_covers (sense_of c.args.scope.now) c.args.e.now _ _ c.in-Ere.is)) c.settle_text.ensures.judged
+
+pub settle_sought-returns-in_default-clause-settled : goal.settle_sought-returns-in_default-clause-settled
+settle_sought-returns-in_default-clause-settled t c = made_settles (sense_of c.args.scope.now) c.settle_expr.result c.args.e.now c.in_default.not-Ere c.settle_expr.ensures.settled
+
+pub settle_right-returns-in_default-clause-settled : goal.settle_right-returns-in_default-clause-settled
+settle_right-returns-in_default-clause-settled t c = right_settles (sense_of c.args.scope.now) c.settle_expr.result c.args.e.now c.args.joiner c.in_default.not-Matches c.in_default.not-NotMatches c.settle_expr.ensures.settled
 
 pub settle_expr-returns-in-Of-clause-settled : goal.settle_expr-returns-in-Of-clause-settled
 settle_expr-returns-in-Of-clause-settled t c =
@@ -86,7 +108,7 @@ pub settle_expr-returns-in_default : goal.settle_expr-returns-in_default
 settle_expr-returns-in_default t c =
     record {
       settled = tt;
-      judged = λ ne. fails (covers (sense_of c.args.scope.now) c.args.e.now) c.args.left (other_covers (sense_of c.args.scope.now) c.args.e.now c.in_default.not-Number c.in_default.not-Text c.in_default.not-Of c.in_default.not-Group c.in_default.not-Signed c.in_default.not-Power c.in_default.not-Chain c.in_default.not-Logic c.in_default.not-Choice c.in_default.not-Before c.in_default.not-After c.in_default.not-Assign c.in_default.not-Call c.in_default.not-Builtin) ∙ ap Some (sym c.left_out.ensures);
+      judged = λ ne. fails (covers (sense_of c.args.scope.now) c.args.e.now) c.args.left (other_covers (sense_of c.args.scope.now) c.args.e.now c.in_default.not-Number c.in_default.not-Text c.in_default.not-Ere c.in_default.not-Of c.in_default.not-Group c.in_default.not-Signed c.in_default.not-Power c.in_default.not-Chain c.in_default.not-Logic c.in_default.not-Choice c.in_default.not-Before c.in_default.not-After c.in_default.not-Assign c.in_default.not-Call c.in_default.not-Builtin) ∙ ap Some (sym c.left_out.ensures);
     }
 
 pub settle_boxed-returns-clause-settled : goal.settle_boxed-returns-clause-settled
@@ -235,22 +257,18 @@ pub settle_links-loop-link-init : goal.settle_links-loop-link-init
 settle_links-loop-link-init t c =
     record { settled = rw c.new-settled.ensures.items spec.no_links; judged = refl }
 
-pub settle_links-returns-in_default-clause-judged : goal.settle_links-returns-in_default-clause-judged
-settle_links-returns-in_default-clause-judged t c =
-    λ ne. fails (each (covers_link (sense_of c.args.scope.now)) c.args.links.now) c.args.left (each_stops (covers_link (sense_of c.args.scope.now)) c.args.links.now c.loop-link.link-index c.link-item.result c.loop-link-test.true c.link-item.is (link_covers (sense_of c.args.scope.now) c.link-item.result ∙ first_false (joins c.link-item.result.operator) (covers (sense_of c.args.scope.now) c.link-item.result.operand) (joiner_not c.link-item.result.operator (λ o h. c.in_default.not-Some o (c.joiner_of.ensures ∙ h))))) ∙ ap Some (sym c.left_out.ensures)
-
 pub settle_links-returns-in_err-push_link-clause-judged : goal.settle_links-returns-in_err-push_link-clause-judged
 settle_links-returns-in_err-push_link-clause-judged t c =
     let p = err_from_is_err_and c.from_residual.result c.from_residual.ensures.1 in
-    exits c.from_residual.result (unless (each (covers_link (sense_of c.args.scope.now)) c.args.links.now) c.args.left) c.in_err-push_link.field-0.0 p.0 p.1 p.2 (passes (covers (sense_of c.args.scope.now) c.get.result.now) (each (covers_link (sense_of c.args.scope.now)) c.args.links.now) c.args.left c.in_err-push_link.field-0.0 (λ h. each_stops (covers_link (sense_of c.args.scope.now)) c.args.links.now c.loop-link.link-index c.link-item.result c.loop-link-test.true c.link-item.is (link_covers (sense_of c.args.scope.now) c.link-item.result ∙ second_false (joins c.link-item.result.operator) (covers (sense_of c.args.scope.now) c.link-item.result.operand) (ap (covers (sense_of c.args.scope.now)) (sym c.get.ensures) ∙ h))) (λ ne. was_refused (unless (covers (sense_of c.args.scope.now) c.get.result.now) c.args.left) c.settle_expr-operand.result c.in_err-push_link.field-0.0 (c.in_err-push_link.ensures.judged ne) c.settle_expr-operand.ensures.judged ne))
+    exits c.from_residual.result (unless (each (covers_link (sense_of c.args.scope.now)) c.args.links.now) c.args.left) c.in_err-push_link.field-0.0 p.0 p.1 p.2 (passes (covers (sense_of c.args.scope.now) c.get.result.now) (each (covers_link (sense_of c.args.scope.now)) c.args.links.now) c.args.left c.in_err-push_link.field-0.0 (λ h. each_stops (covers_link (sense_of c.args.scope.now)) c.args.links.now c.loop-link.link-index c.link-item.result c.loop-link-test.true c.link-item.is (link_covers (sense_of c.args.scope.now) c.link-item.result ∙ ap (covers (sense_of c.args.scope.now)) (sym c.get.ensures) ∙ h)) (λ ne. was_refused (unless (covers (sense_of c.args.scope.now) c.get.result.now) c.args.left) c.settle_right-operand.result c.in_err-push_link.field-0.0 (c.in_err-push_link.ensures.judged ne) c.settle_right-operand.ensures.judged ne))
 
 pub settle_links-loop-link-preserved : goal.settle_links-loop-link-preserved
 settle_links-loop-link-preserved t c =
     record {
-      settled = link_settles (sense_of c.args.scope.now) c.args.links.now c.loop-link.link-index c.link-item.result c.in-Some.operator c.get.result.now c.loop-link.settled.items c.push_link.new.links.items c.settle_expr-operand.result
-          c.loop-link-test.true c.link-item.is c.in-Some.ensures c.get.ensures c.in_ok-push_link.ensures.judged c.in_ok-push_link.ensures.pushed c.loop-link.invariant.settled c.settle_expr-operand.ensures.settled;
+      settled = link_settles (sense_of c.args.scope.now) c.args.links.now c.loop-link.link-index c.link-item.result c.joiner_of-operator.result c.get.result.now c.loop-link.settled.items c.push_link.new.links.items c.settle_right-operand.result
+          c.loop-link-test.true c.link-item.is c.joiner_of-operator.ensures c.get.ensures c.in_ok-push_link.ensures.judged c.in_ok-push_link.ensures.pushed c.loop-link.invariant.settled c.settle_right-operand.ensures.settled;
       judged = each_more (covers_link (sense_of c.args.scope.now)) c.args.links.now c.loop-link.link-index c.link-item.result c.loop-link-test.true c.link-item.is c.loop-link.invariant.judged
-          (link_covers (sense_of c.args.scope.now) c.link-item.result ∙ both (joins c.link-item.result.operator) (covers (sense_of c.args.scope.now) c.link-item.result.operand) (joiner_joins c.link-item.result.operator c.in-Some.operator (sym c.in-Some.ensures)) (ap (covers (sense_of c.args.scope.now)) (sym c.get.ensures) ∙ sure (covers (sense_of c.args.scope.now) c.get.result.now) c.args.left (was_settled (unless (covers (sense_of c.args.scope.now) c.get.result.now) c.args.left) c.settle_expr-operand.result c.in_ok-push_link.ensures.judged c.settle_expr-operand.ensures.judged)));
+          (link_covers (sense_of c.args.scope.now) c.link-item.result ∙ ap (covers (sense_of c.args.scope.now)) (sym c.get.ensures) ∙ sure (covers (sense_of c.args.scope.now) c.get.result.now) c.args.left (was_settled (unless (covers (sense_of c.args.scope.now) c.get.result.now) c.args.left) c.settle_right-operand.result c.in_ok-push_link.ensures.judged c.settle_right-operand.ensures.judged));
     }
 
 pub settle_place-returns-in_err-number-in-Field-clause-judged : goal.settle_place-returns-in_err-number-in-Field-clause-judged

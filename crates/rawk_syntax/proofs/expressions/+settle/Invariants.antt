@@ -33,6 +33,12 @@ decreases-settle_expr l = 3 * goal.size-settle_expr l + 0
 abbrev pub decreases-settle_boxed : goal.decreases-settle_boxed
 decreases-settle_boxed l = 3 * goal.size-settle_boxed l + 1
 
+abbrev pub decreases-settle_sought : goal.decreases-settle_sought
+decreases-settle_sought l = 3 * expr.the_size l.e.now + 1
+
+abbrev pub decreases-settle_right : goal.decreases-settle_right
+decreases-settle_right l = 3 * expr.the_size l.e.now + 2
+
 abbrev pub decreases-settle_place : goal.decreases-settle_place
 decreases-settle_place l = 3 * goal.size-settle_place l + 0
 

@@ -2,8 +2,6 @@ use Rattle.std.proofs.Common.{◌≢◌, List, Result, Ok, Err, IfOk, [], ◌∷
 use Rattle.std.specs.Global.{Vec}
 use Rattle.rawk_parsing.specs.declared.tree.Expr as parsed
 use Rattle.rawk_tree.specs.declared.tree.Expr.{Expr}
-use Rattle.rawk_tree.specs.declared.tree.Expr.TheVariants as tree
-use Rattle.rawk_tree.specs.declared.tree.Place.TheVariants as tree_place
 use Rattle.rawk_syntax.specs.Meant.{Sense, sense_of}
 use Rattle.rawk_syntax.specs.Settled.{Settles, SomeExprs, Prints}
 use Rattle.rawk_syntax.proofs.Coverings.{none_uncovered}
@@ -16,8 +14,8 @@ all_if (Err e) means es some h = tt
 
 pub returns-then-list-eq0-clause-settled : goal.returns-then-list-eq0-clause-settled
 returns-then-list-eq0-clause-settled c =
-    record_printed (sense_of c.args.scope.now) c.args.list.now c.push.new.values.items c.in_ok-number.number c.if-list-eq0.true
-    (c.in_ok-push.ensures ∙ ap (λ xs. xs ++ tree.Read (tree_place.Field c.in_ok-number.number) ∷ []) c.new-record.ensures.items) c.in_ok-number.ensures
+    record_printed (sense_of c.args.scope.now) c.args.list.now c.push.new.values.items c.in_ok-whole.whole c.if-list-eq0.true
+    (c.in_ok-push.ensures ∙ ap (λ xs. xs ++ c.in_ok-whole.whole ∷ []) c.new-list.ensures.items) c.in_ok-whole.ensures
 
 pub returns-then-list-eq0-clause-judged : goal.returns-then-list-eq0-clause-judged
 returns-then-list-eq0-clause-judged c = none_uncovered (sense_of c.args.scope.now) c.args.list.now c.args.left c.if-list-eq0.true
