@@ -12,7 +12,7 @@ use Rattle.rawk_history.specs.Keeping.{keeps_any}
 use Rattle.rawk_code.specs.Actions.{SetAt, Ending, sets_at}
 use Rattle.rawk_code.specs.Trace.{Trace, trace, number, site_at_end}
 use Rattle.rawk_code.specs.Correct.{CodeOf}
-use Rattle.rawk_machine.specs.Standing.{Standing, Earlier, Past, MayCome, Stood, LastMade, given_of, gone_back, taken_back, set_made}
+use Rattle.rawk_machine.specs.Standing.{Standing, Earlier, Past, MayCome, Stood, LastMade, given_of, IsSet, gone_back, taken_back}
 use Rattle.rawk_machine.specs.Kept.{AllBelow, Few}
 use Rattle.rawk_machine.specs.InTrace.{exactly_by}
 use Rattle.rawk_debug.specs.Positions.{Snapshot, Stands, at, held_or, upto, raised, has_set_at, trace_under}
@@ -57,9 +57,10 @@ unset_work [] m = refl
 unset_work (e ∷ es) m = refl
 
 -- a set does nothing else
-pub set_work : {S E : Type 0} (result : Result (Option Fault) E) (target : Target) (value : Value) (old new : Standing S) → IfOk result (λ fault. (fault ≡ None) × (saved : ℕ) × (new ≡ set_made saved target value old)) → OnErr result (new ≡ old)
+pub set_work : {S E : Type 0} (result : Result (Option Fault) E) (target : Target) (value : Value) (old new : Standing S) → IfOk result (λ fault. IsSet fault target value old new) → OnErr result (new ≡ old)
     → work_of new ≡ work_of old
-set_work (Ok fault) target value old new made same = ap work_of made.2
+set_work (Ok None) target value old new made same = ap work_of made.1
+set_work (Ok (Some fault)) target value old new made same = ap work_of made
 set_work (Err refused) target value old new made same = ap work_of same
 
 -- what an advance draws

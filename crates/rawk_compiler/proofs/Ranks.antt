@@ -1,5 +1,5 @@
 -- Compiled code goes back only to points.
-use Rattle.std.proofs.Common.{◌≡◌, ℕ, zero, suc, ◌+◌, ◌-◌, ◌*◌, ◌<◌, ◌≤◌, ◌⊎◌, inl, inr, Bool, true, false, List, [], ◌∷◌, ◌++◌, length, map, Option, Some, None, refl, sym, ap, ◌∙◌, subst, arith, length-append}
+use Rattle.std.proofs.Common.{◌≡◌, ℕ, pos, zero, suc, ◌+◌, ◌-◌, ◌*◌, ◌<◌, ◌≤◌, ◌⊎◌, inl, inr, Bool, true, false, List, [], ◌∷◌, ◌++◌, length, map, Option, Some, None, refl, sym, ap, ◌∙◌, subst, arith, length-append}
 use Rattle.std.specs.Prelude.{slice_get, nat_lt, ◌||◌}
 use Rattle.std.proofs.lemmas.Option.{slice_get_past}
 use Rattle.std.proofs.lemmas.Bool.{cases_lt, lt-ltb}
@@ -116,6 +116,7 @@ module _ (code : List Instr) where
         fine_append (expr_code e) (expr_code from ++ (expr_code count ++ instr.Do does.Part ∷ [])) (expr_fine e) (fine_append (expr_code from) (expr_code count ++ instr.Do does.Part ∷ []) (expr_fine from) (fine_last (expr_code count) (instr.Do does.Part) (λ pc. tt) (expr_fine count)))
     expr_fine (expr.Sprintf' p f shape args) =
         fine_append (expr_code f) (joined (expr_codes args) ++ instr.Do (does.Sprintf (length (expr_codes args))) ∷ []) (expr_fine f) (fine_last (joined (expr_codes args)) (instr.Do (does.Sprintf (length (expr_codes args)))) (λ pc. tt) (joined_fine (expr_codes args) (exprs_fine args)))
+    expr_fine expr.Getline = fine_cons (instr.ReadRecord 2) _ (λ pc. tt) (fine_cons (instr.Do (does.Push (simple.Number (pos 1)))) _ (λ pc. tt) (fine_cons (instr.GoOn 1) _ (λ pc. tt) (fine_cons (instr.Do (does.Push (simple.Number (pos 0)))) [] (λ pc. tt) fine_none)))
 
     exprs_fine : {m : _} → (row : Row_of-Expr m) → AllFine (expr_codes row)
     exprs_fine end_of-Expr = tt
@@ -157,6 +158,7 @@ module _ (code : List Instr) where
   effect_fine (expr.Call' f shape args) = fine_last _ (instr.Do does.Pop) (λ pc. tt) (expr_fine (expr.Call' f shape args))
   effect_fine (expr.Part' p e q from r count) = fine_last _ (instr.Do does.Pop) (λ pc. tt) (expr_fine (expr.Part' p e q from r count))
   effect_fine (expr.Sprintf' p f shape args) = fine_last _ (instr.Do does.Pop) (λ pc. tt) (expr_fine (expr.Sprintf' p f shape args))
+  effect_fine expr.Getline = fine_last _ (instr.Do does.Pop) (λ pc. tt) (expr_fine expr.Getline)
 
   list_fine : (es : List Expr) → AllFine (map expr_code es)
   list_fine [] = tt

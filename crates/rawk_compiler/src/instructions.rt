@@ -1,6 +1,7 @@
 // Instructions, one behind another; and jumps forward, which are left open until their ends are known.
 
 ghost use Rattle.std.specs.Prelude.{◌≡◌, [], ◌∷◌, ◌++◌, ◌-◌, ◌<◌, Some, pos, OnOk, length};
+ghost use Rattle.rawk_compiler.specs.Code.{getline_code};
 ghost use Rattle.rawk_compiler.specs.Written.{over, led};
 
 use rawk_code::{Instr, Op, Operand, Simple};
@@ -77,6 +78,16 @@ pub(crate) fn put_sprintf(code: &mut Vec<Instr>, count: usize) -> Result<(), All
     ensures { OnOk result (code.new.items ≡ code.old.items ++ Instr.Do (Op.Sprintf count) ∷ []) }
 {
     put(code, Instr::Do(Op::Sprintf(count)))
+}
+
+// A reading, and behind it whether there was a record.
+pub(crate) fn put_getline(code: &mut Vec<Instr>) -> Result<(), AllocError>
+    ensures { OnOk result (code.new.items ≡ code.old.items ++ getline_code) }
+{
+    put(code, Instr::ReadRecord(2))?;
+    put_push(code, Simple::Number(1))?;
+    put(code, Instr::GoOn(1))?;
+    put_push(code, Simple::Number(0))
 }
 
 // A part of a text.

@@ -92,4 +92,4 @@ set_undone old mid new x set taken same =
     same ∙ ap (λ (s : Stand). record s { machine = new.machine }) set ∙ ap (λ (p : Position). record old { machine = p }) m
 
 pub set_and_back : SetLaw
-set_and_back input place constant old mid new shown answer came last there back = set_undone old mid new _ there.1.5 back.1.1 back.1.2
+set_and_back input place constant old mid new shown answer came last there back = set_undone old mid new _ there.1.3 back.1.1 back.1.2

@@ -128,8 +128,8 @@ Does input Run old answer came new =
     MatchBool (is_some (here input (rewound old).machine).over) ((answer ≡ Stayed) × (new ≡ rewound old)) (Forwards input StopOnly (rewound old) answer came new)
 Does input (Print place) old answer came new = (l : Lvalue) × (lvalue_at old (here input old.machine) place ≡ Ok l) × (answer ≡ Shown l) × (new ≡ old)
 Does input (Set place constant) old answer came new =
-    (l : Lvalue) × (t : Target) × (lvalue_at old (here input old.machine) place ≡ Ok l) × (target_of l ≡ Some t)
-    × (answer ≡ Shown l) × (new ≡ record old { machine = with_set t (constant_value constant) old.machine })
+    (l : Lvalue) × (lvalue_at old (here input old.machine) place ≡ Ok l)
+    × (answer ≡ Shown l) × (new ≡ record old { machine = with_set (target_of l) (constant_value constant) old.machine })
 Does input ReverseSet old answer came new = (answer ≡ TakenBack) × IsTakenBack old.machine new.machine × (new ≡ record old { machine = new.machine })
 Does input Backtrace old answer came new = (answer ≡ Traced) × (new ≡ old)
 Does input Quit old answer came new = (answer ≡ Left) × (new ≡ old)

@@ -21,7 +21,7 @@ use Rattle.rawk_debug.specs.declared.stop.Watched.{Watched}
 use Rattle.rawk_debug.specs.declared.stop.Watched.TheVariants as watched
 use Rattle.rawk_debug.specs.declared.stop.Lvalue.{Lvalue}
 use Rattle.rawk_debug.specs.declared.stop.Lvalue.TheVariants.{Local, Shared}
-use Rattle.rawk_debug.specs.Positions.{fault_of}
+use Rattle.rawk_code.specs.Actions.{fault_of}
 
 -- what a name is: NF, a special variable, or a global of the program
 abbrev pub named : List Bytes → Bytes → Option Watched
@@ -57,14 +57,14 @@ abbrev pub site_of : Program → Spot → Option ℕ
 site_of p (Line line) = position (λ at. nat_eq at line) p.lines.items
 site_of p (Function name) = entry_of p.functions.items name
 
--- what can be assigned: NF and fields cannot
-abbrev pub shared_target : Watched → Option Target
-shared_target (watched.Global number) = Some (target.Global number)
-shared_target watched.FieldCount = None
-shared_target (watched.Field number) = None
+-- what is assigned
+abbrev pub shared_target : Watched → Target
+shared_target (watched.Global number) = target.Global number
+shared_target watched.FieldCount = target.FieldCount
+shared_target (watched.Field number) = target.Field number
 
-abbrev pub target_of : Lvalue → Option Target
-target_of (Local number) = Some (target.Local number)
+abbrev pub target_of : Lvalue → Target
+target_of (Local number) = target.Local number
 target_of (Shared place) = shared_target place
 
 abbrev pub constant_value : Constant → Value
@@ -72,6 +72,5 @@ constant_value (constant.Number n) = Number n
 constant_value (constant.Text text) = String text
 
 -- whether an assignment is refused
-abbrev pub is_refused : Option Target → Value → State → Bool
-is_refused None v s = true
-is_refused (Some t) v s = is_some (fault_of (assigned t v s))
+abbrev pub is_refused : Target → Value → State → Bool
+is_refused t v s = is_some (fault_of (assigned t v s))

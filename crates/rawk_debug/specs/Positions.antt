@@ -66,11 +66,6 @@ back_at j m = record m { point = j; sets = upto j m.sets }
 abbrev pub with_set : Target → Value → Position → Position
 with_set target value m = record m { sets = m.sets ++ (record { point = m.point; target = target; value = value }) ∷ [] }
 
--- the fault of an assignment, if it is one
-abbrev pub fault_of : Result State Fault → Option Fault
-fault_of (Ok s) = None
-fault_of (Err fault) = Some fault
-
 -- whether a set stands at a point
 abbrev pub has_set_at : ℕ → List SetAt → Bool
 has_set_at k sets = list_any (λ e. nat_eq e.point k) sets

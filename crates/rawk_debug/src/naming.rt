@@ -104,22 +104,22 @@ pub(crate) fn site_of(program: &Program, spot: &Spot) -> Option<usize>
 }
 
 /// What can be assigned of what all activations share.
-fn shared_target(place: Watched) -> Option<Target>
+fn shared_target(place: Watched) -> Target
     ensures { result ≡ shared_target place }
 {
     match place {
-        Watched::Global(number) => Some(Target::Global(number)),
-        Watched::FieldCount => None,
-        Watched::Field(_) => None,
+        Watched::Global(number) => Target::Global(number),
+        Watched::FieldCount => Target::FieldCount,
+        Watched::Field(number) => Target::Field(number),
     }
 }
 
 /// What can be assigned of a place.
-pub(crate) fn target_of(place: Lvalue) -> Option<Target>
+pub(crate) fn target_of(place: Lvalue) -> Target
     ensures { result ≡ target_of place }
 {
     match place {
-        Lvalue::Local(number) => Some(Target::Local(number)),
+        Lvalue::Local(number) => Target::Local(number),
         Lvalue::Shared(place) => shared_target(place),
     }
 }

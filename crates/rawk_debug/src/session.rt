@@ -203,13 +203,13 @@ impl<M: Stepper> Session<M> {
         if self.machine.is_over() {
             return Err(C::ProgramEnded);
         }
-        match target_of(place) {
-            None => Err(C::SetRefused),
-            Some(target) => match self.machine.set(alloc, target, constant_value(constant)) {
-                Ok(None) => Ok(Answer::Shown(place)),
-                Ok(Some(_)) => Err(C::SetRefused),
-                Err(AllocError) => Err(C::OutOfMemory),
-            },
+        match self
+            .machine
+            .set(alloc, target_of(place), constant_value(constant))
+        {
+            Ok(None) => Ok(Answer::Shown(place)),
+            Ok(Some(_)) => Err(C::SetRefused),
+            Err(AllocError) => Err(C::OutOfMemory),
         }
     }
 

@@ -14,6 +14,7 @@ ghost use Rattle.rawk_travel.specs.Moving.{moving};
 ghost use Rattle.rawk_machine.specs.Arrival.{settled, site_by, with_registers, Arrives, ends_quietly, EndsByRead, HasReach, IsSettled};
 
 use rawk_code::Code;
+use rawk_patterns::Expressions;
 use rawk_store::{Ending, Store};
 use rawk_tape::{Source, Tape};
 use rawk_travel::count::Count;
@@ -64,6 +65,7 @@ fn settle(store: &mut Store, to: Next, count: u64, limit: u64, reach: &mut Reach
 #[inline(always)]
 pub fn step<R: Source + Drop>(
     alloc: Global,
+    expressions: &mut Expressions,
     code: &Code,
     store: &mut Store,
     tape: &mut Tape<R>,
@@ -92,7 +94,7 @@ pub fn step<R: Source + Drop>(
     ensures risen { executed.old + 1 < 2 ^ 128 → executed.old < executed.new }
 {
     let consumed = tape.consumed();
-    match travel(alloc, code, store, tape, reach, executed) {
+    match travel(alloc, expressions, code, store, tape, reach, executed) {
         Ok(to) => {
             settle(store, to, count, limit, reach);
             Ok(())

@@ -1,21 +1,22 @@
 //! The way back, over the parts.
 
-ghost use Rattle.std.specs.Prelude.{◌≡◌, ◌∷◌, ◌++◌, ◌<◌, [], List, OnOk, OnErr, length, reverse, vec_capacity, vec_len};
-ghost use Rattle.rawk_code.specs.Actions.{SetAt};
+ghost use Rattle.std.specs.Prelude.{◌≡◌, ◌∷◌, ◌<◌, List, IfNone, IfOk, OnOk, OnErr, reverse, vec_capacity, vec_len};
+ghost use Rattle.rawk_code.specs.Actions.{SetAt, fault_of};
 ghost use Rattle.rawk_store.specs.Groups.{Group};
 ghost use Rattle.rawk_history.specs.Steps.{Kept};
-ghost use Rattle.rawk_store.specs.GroupBack.{FitsIn, put_back};
-ghost use Rattle.rawk_store.specs.Layout.{IsSound};
+ghost use Rattle.rawk_store.specs.GroupBack.{FitsIn};
+ghost use Rattle.rawk_store.specs.Layout.{IsSound, state};
+ghost use Rattle.rawk_store.specs.State.{assigned};
 ghost use Rattle.rawk_store.specs.Stores.{now_of, start_of};
 ghost use Rattle.rawk_machine.specs.Closing.{FitAll, HasGoneBack};
 ghost use Rattle.rawk_machine.specs.Kept.{all_back, below};
-ghost use Rattle.rawk_machine.specs.Written.{IsWritten};
+ghost use Rattle.rawk_machine.specs.Written.{StandsBehind, WrittenOr};
 
 use crate::journal::undo_all;
 use rawk_code::SetAt;
 use rawk_history::Keeper;
-use rawk_store::{Group, Local, Store, Target};
-use rawk_value::Value;
+use rawk_store::{Group, Store, Target};
+use rawk_value::{Fault, Value};
 use std::alloc::{AllocError, Global};
 
 /// Goes back to the point before: takes back the sets of this point and the newest step that is kept, which led here. The groups of the sets made at the point
@@ -40,40 +41,37 @@ pub fn keep_below(sets: &mut Vec<SetAt>, point: u64)
     sets.retain(|set| set.point < point);
 }
 
-/// Assigns a place; a local that is not there changes nothing. It fails where memory is refused, and then nothing has changed.
-fn assign(store: &mut Store, target: Target, value: Value) -> Result<(), AllocError>
-    ensures did { OnOk result (IsWritten target value (now_of store.old) (now_of store.new)) }
-    ensures start { start_of store.new ≡ start_of store.old }
-    ensures err { OnErr result (now_of store.new ≡ now_of store.old) }
-{
-    match target {
-        Target::Global(number) => store.globals.set(number, value),
-        Target::Local(number) => store.frames.set_local(number, Local::Holds(value)),
-    }
-}
-
-/// Writes a place as a change of its own, whose group stands behind the others. It fails where memory is refused, and then nothing has changed.
+/// Assigns a place as a change of its own, whose group stands behind the others, or answers the fault of that, and then nothing has changed. It fails where memory is
+/// refused, and then nothing has changed.
 fn write(
     alloc: Global,
     store: &mut Store,
     here: &mut Vec<Group>,
     target: Target,
     value: Value,
-) -> Result<(), AllocError>
+) -> Result<Option<Fault>, AllocError>
     requires rest { start_of store.old ≡ now_of store.old }
-    ensures did { OnOk result (IsWritten target value (now_of store.old) (now_of store.new)) }
-    ensures back { OnOk result ((g : Group) × (here.new.items ≡ here.old.items ++ g ∷ []) × (put_back (now_of store.new) g ≡ now_of store.old) × FitsIn g (now_of store.new)) }
-    ensures sound { OnOk result (IsSound (now_of store.new)) }
+    ensures did { IfOk result (λ fault. WrittenOr fault target value (now_of store.old) (now_of store.new)) }
+    ensures fault { IfOk result (λ fault. fault ≡ fault_of (assigned target value (state (now_of store.old)))) }
+    ensures back { IfOk result (λ fault. StandsBehind fault here.old.items here.new.items (now_of store.old) (now_of store.new)) }
+    ensures sound { IfOk result (λ fault. IfNone fault (IsSound (now_of store.new))) }
     ensures err { OnErr result (now_of store.new ≡ now_of store.old) }
     ensures stays { OnErr result (here.new.items ≡ here.old.items) }
     ensures rest { start_of store.new ≡ now_of store.new }
 {
     here.reserve(1)?;
-    assign(store, target, value)?;
+    match store.assign(alloc, target, value) {
+        Ok(None) => {}
+        Ok(Some(fault)) => return Ok(Some(fault)),
+        Err(refused) => {
+            store.undo_step();
+            return Err(refused);
+        }
+    }
     match store.finish(alloc) {
         Ok(group) => {
             here.push(group)?;
-            Ok(())
+            Ok(None)
         }
         Err(refused) => {
             store.undo_step();
@@ -90,11 +88,12 @@ pub fn write_copy(
     sets: &mut Vec<SetAt>,
     target: Target,
     value: &Value,
-) -> Result<(), AllocError>
+) -> Result<Option<Fault>, AllocError>
     requires rest { start_of store.old ≡ now_of store.old }
-    ensures did { OnOk result (IsWritten target value.now (now_of store.old) (now_of store.new)) }
-    ensures back { OnOk result ((g : Group) × (here.new.items ≡ here.old.items ++ g ∷ []) × (put_back (now_of store.new) g ≡ now_of store.old) × FitsIn g (now_of store.new)) }
-    ensures sound { OnOk result (IsSound (now_of store.new)) }
+    ensures did { IfOk result (λ fault. WrittenOr fault target value.now (now_of store.old) (now_of store.new)) }
+    ensures fault { IfOk result (λ fault. fault ≡ fault_of (assigned target value.now (state (now_of store.old)))) }
+    ensures back { IfOk result (λ fault. StandsBehind fault here.old.items here.new.items (now_of store.old) (now_of store.new)) }
+    ensures sound { IfOk result (λ fault. IfNone fault (IsSound (now_of store.new))) }
     ensures room { OnOk result (vec_len sets.new < vec_capacity sets.new) }
     ensures sets { sets.new.items ≡ sets.old.items }
     ensures err { OnErr result (now_of store.new ≡ now_of store.old) }

@@ -16,6 +16,7 @@ ghost use Rattle.rawk_machine.specs.Kept.{all_back, globals_forth, record_forth}
 use crate::arrival::step;
 use rawk_code::Code;
 use rawk_history::Keeper;
+use rawk_patterns::Expressions;
 use rawk_store::{Group, Store};
 use rawk_tape::{Source, Tape};
 use rawk_travel::count::Count;
@@ -66,6 +67,7 @@ pub fn close<K: Keeper>(
 #[inline(always)]
 pub fn journaled<R: Source + Drop, K: Keeper>(
     alloc: Global,
+    expressions: &mut Expressions,
     code: &Code,
     store: &mut Store,
     tape: &mut Tape<R>,
@@ -101,7 +103,17 @@ pub fn journaled<R: Source + Drop, K: Keeper>(
     ensures risen { executed.old + 1 < 2 ^ 128 → executed.old < executed.new }
 {
     let consumed = tape.consumed();
-    step(alloc, code, store, tape, reach, executed, count, limit)?;
+    step(
+        alloc,
+        expressions,
+        code,
+        store,
+        tape,
+        reach,
+        executed,
+        count,
+        limit,
+    )?;
     match close(alloc, store, keeper, here, *reach) {
         Ok(()) => Ok(()),
         Err(refused) => {

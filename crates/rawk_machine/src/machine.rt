@@ -8,9 +8,11 @@ ghost use Rattle.rawk_tape.specs.Inputs.{CountsUp};
 ghost use Rattle.rawk_tape.specs.Records.{Input};
 ghost use Rattle.rawk_tape.specs.declared.source.Ending.{Ending as End};
 ghost use Rattle.rawk_store.specs.Stores.{now_of, start_of};
+ghost use Rattle.rawk_store.specs.State.{assigned};
+ghost use Rattle.rawk_code.specs.Actions.{fault_of};
 ghost use Rattle.rawk_machine.specs.Kept.{below};
 ghost use Rattle.rawk_machine.specs.Stood.{IsFirst};
-ghost use Rattle.rawk_machine.specs.Standing.{Standing, MayCome, IsAt, Stood, step_of, IsQuietStep, Stays, MovesOn, gone_back, taken_back, set_made, dropped, old_values};
+ghost use Rattle.rawk_machine.specs.Standing.{Standing, MayCome, IsAt, Stood, step_of, IsQuietStep, Stays, MovesOn, IsSet, gone_back, taken_back, dropped, old_values};
 ghost use Rattle.rawk_machine.specs.Asked.{AskedBy, Unstood};
 ghost use Rattle.rawk_travel.specs.Asking.{Draws};
 
@@ -22,6 +24,7 @@ use crate::start::{copy_settings, fill_first};
 use crate::step::Step;
 use rawk_code::{Code, SetAt, Settings};
 use rawk_history::{Keeper, Off, saved_in_groups};
+use rawk_patterns::Expressions;
 use rawk_store::{Ending, Group, Phase, Registers, Store, Target};
 use rawk_tape::{Source, Tape};
 use rawk_travel::count::Count;
@@ -50,6 +53,8 @@ pub struct Machine<R: Source + Drop, K: Keeper> {
     pub(crate) executed: Count,
     // What the last step may have changed.
     pub(crate) reach: Reach,
+    // The expressions of texts that were sought last. No contract sees them, since no answer depends on them.
+    pub(crate) expressions: Expressions,
 }
 
 impl<R: Source + Drop, K: Keeper> Model for Machine<R, K> {
@@ -172,8 +177,10 @@ impl<R: Source + Drop, K: Keeper> Machine<R, K> {
         let mut tape = Tape::new(alloc, source);
         let mut executed = Count::new();
         let mut reach = Reach::Wide;
+        let mut expressions = Expressions::new();
         match step(
             alloc,
+            &mut expressions,
             &code,
             &mut store,
             &mut tape,
@@ -188,6 +195,7 @@ impl<R: Source + Drop, K: Keeper> Machine<R, K> {
                 drop(settings);
                 drop(store);
                 drop(keeper);
+                drop(expressions);
                 return Err((refused, tape.into_source()));
             }
         }
@@ -205,6 +213,7 @@ impl<R: Source + Drop, K: Keeper> Machine<R, K> {
             point: 0,
             executed,
             reach,
+            expressions,
         })
     }
 
@@ -220,6 +229,7 @@ impl<R: Source + Drop, K: Keeper> Machine<R, K> {
             keeper,
             sets,
             here,
+            expressions,
             ..
         } = self;
         // By calls: where they are dropped in place, the check goes through each part of them, for a minute.
@@ -229,6 +239,7 @@ impl<R: Source + Drop, K: Keeper> Machine<R, K> {
         drop(keeper);
         drop(sets);
         drop(here);
+        drop(expressions);
         tape.into_source()
     }
 
@@ -260,6 +271,7 @@ impl<R: Source + Drop, K: Keeper> Machine<R, K> {
             None => {
                 journaled(
                     alloc,
+                    &mut self.expressions,
                     &self.code,
                     &mut self.store,
                     &mut self.tape,
@@ -329,7 +341,8 @@ impl<R: Source + Drop, K: Keeper> Machine<R, K> {
         value: Value,
     ) -> Result<Option<Fault>, AllocError>
         requires { self.old.ending ≡ None }
-        ensures made { IfOk result (λ fault. (fault ≡ None) × (saved : ℕ) × (self.new ≡ set_made saved target value self.old)) }
+        ensures made { IfOk result (λ fault. IsSet fault target value self.old self.new) }
+        ensures fault { IfOk result (λ fault. fault ≡ fault_of (assigned target value self.old.state)) }
         ensures err { OnErr result (self.new ≡ self.old) }
         ensures code { self.new.code ≡ self.old.code }
         ensures limit { self.new.limit ≡ self.old.limit }
@@ -337,7 +350,7 @@ impl<R: Source + Drop, K: Keeper> Machine<R, K> {
         ensures stood { (input : Input) → Stood self.old input → Stood self.new input }
     {
         let _consumed = self.tape.consumed();
-        match write_copy(
+        let written = match write_copy(
             alloc,
             &mut self.store,
             &mut self.here,
@@ -345,10 +358,17 @@ impl<R: Source + Drop, K: Keeper> Machine<R, K> {
             target,
             &value,
         ) {
-            Ok(()) => {}
+            Ok(written) => written,
             Err(refused) => {
                 drop(value);
                 return Err(refused);
+            }
+        };
+        match written {
+            None => {}
+            Some(fault) => {
+                drop(value);
+                return Ok(Some(fault));
             }
         }
         self.sets.push(SetAt {

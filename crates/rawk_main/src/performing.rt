@@ -1,6 +1,9 @@
 //! The program from its words to its status.
 
-use rawk::{Cause, Invocation, Report, S, StdSink, StdSource, Text, debug_from, run, settings_of};
+use rawk::{
+    Cause, Finished, Invocation, Report, S, StdSink, StdSource, Text, debug_from, run_from,
+    settings_of,
+};
 use rawk_limits::PROGRAM_BYTES;
 use std::alloc::{AllocError, Global};
 use std::env::Env;
@@ -147,7 +150,7 @@ fn run_program<R: Files + AllocGlobal + Input + Print + Eprint>(
         return Err(S::Memory(AllocError));
     };
     let input = input_of(rt, &invocation.input)?;
-    let report = run(
+    let finished = run_from(
         alloc,
         &invocation.settings,
         program,
@@ -155,6 +158,8 @@ fn run_program<R: Files + AllocGlobal + Input + Print + Eprint>(
         &mut StdSink::new(&mut buffer),
         invocation.steps,
     );
+    let Finished { report, source } = finished;
+    drop(source);
     let flushed = buffer.flush();
     Ok(ended(rt, flushed, &report))
 }

@@ -10,6 +10,7 @@ use crate::ordered::compare;
 use crate::parts::{part, place};
 use crate::searches::matches;
 use itoa::Buffer;
+use rawk_patterns::Expressions;
 use rawk_tree::{Joiner, Sign, Unary};
 use rawk_value::{Arithmetic, Bytes, Comparison, Fault, Value, neg};
 use std::alloc::{AllocError, Global};
@@ -71,12 +72,13 @@ fn part_from(
 /// 1 where the left text has a match of the expression that the right one is, and else 0, or the fault of a text that is none. An error: memory was refused.
 fn sought(
     alloc: Global,
+    expressions: &mut Expressions,
     left: Borrowed<'_>,
     right: Borrowed<'_>,
 ) -> Result<Result<Value, Fault>, AllocError>
     ensures { IfOk result (λ r. r ≡ both_make Joiner.Matches (borrowed_value left.entry) (borrowed_value right.entry)) }
 {
-    match matches(alloc, left, right)? {
+    match matches(alloc, expressions, left, right)? {
         Err(fault) => Ok(Err(fault)),
         Ok(found) => Ok(Ok(flag(found))),
     }
@@ -85,12 +87,13 @@ fn sought(
 /// The other way round.
 fn missed(
     alloc: Global,
+    expressions: &mut Expressions,
     left: Borrowed<'_>,
     right: Borrowed<'_>,
 ) -> Result<Result<Value, Fault>, AllocError>
     ensures { IfOk result (λ r. r ≡ both_make Joiner.NotMatches (borrowed_value left.entry) (borrowed_value right.entry)) }
 {
-    match matches(alloc, left, right)? {
+    match matches(alloc, expressions, left, right)? {
         Err(fault) => Ok(Err(fault)),
         Ok(found) => Ok(Ok(flag(!found))),
     }
@@ -99,6 +102,7 @@ fn missed(
 /// What two operands make, or a fault. It fails where memory for a text, or for a search, is refused.
 pub fn make(
     alloc: Global,
+    expressions: &mut Expressions,
     joiner: Joiner,
     left: Borrowed<'_>,
     right: Borrowed<'_>,
@@ -111,8 +115,8 @@ pub fn make(
         Joiner::Concat => Ok(Ok(concat(alloc, left, right)?)),
         Joiner::Index => Ok(Ok(Value::Number(place(left, right)))),
         Joiner::Substr => part_from(alloc, left, right),
-        Joiner::Matches => sought(alloc, left, right),
-        Joiner::NotMatches => missed(alloc, left, right),
+        Joiner::Matches => sought(alloc, expressions, left, right),
+        Joiner::NotMatches => missed(alloc, expressions, left, right),
     }
 }
 

@@ -101,3 +101,5 @@ with_count_value v s = next_ok (number_of v) (λ z. next_ok (field_number z) (λ
 abbrev pub assigned : Target → Value → State → Result State Fault
 assigned (place.Global x) v s = Ok (with_global x v s)
 assigned (place.Local i) v s = Ok (with_local_value i v s)
+assigned place.FieldCount v s = with_count_value v s
+assigned (place.Field n) v s = with_field_value n v s

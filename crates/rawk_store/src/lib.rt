@@ -1,6 +1,7 @@
 //! The parts of a state, their changes and the way back.
 #![tactic(auto)]
 
+mod assign;
 pub mod current;
 pub mod group;
 pub mod numbering;

@@ -7,4 +7,8 @@ pub enum Target {
     Global(usize),
     /// a local of the innermost activation, by its number from 0
     Local(usize),
+    /// NF
+    FieldCount,
+    /// a field by its number; `$0` has the number 0
+    Field(usize),
 }

@@ -13,7 +13,7 @@ use Rattle.rawk_parsing.specs.declared.tree.Function.{Function}
 use Rattle.rawk_parsing.specs.declared.tree.Name as word
 use Rattle.rawk_parsing.specs.declared.tree.Expr.{Expr, out-Expr, roll-Expr, roll-out-Expr, map-Expr, fold-roll-Expr, fold_out-Expr}
 use Rattle.rawk_parsing.specs.declared.tree.Expr.TheVariants as tree
-use Rattle.rawk_parsing.specs.declared.tree.Expr.TheVariants.{rolls-Number, rolls-Text, rolls-Ere, rolls-Of, rolls-Group, rolls-Signed, rolls-Power, rolls-Chain, rolls-Logic, rolls-Choice, rolls-Before, rolls-After, rolls-Assign, rolls-Call, rolls-Builtin}
+use Rattle.rawk_parsing.specs.declared.tree.Expr.TheVariants.{rolls-Number, rolls-Text, rolls-Ere, rolls-Getline, rolls-Of, rolls-Group, rolls-Signed, rolls-Power, rolls-Chain, rolls-Logic, rolls-Choice, rolls-Before, rolls-After, rolls-Assign, rolls-Call, rolls-Builtin}
 use Rattle.rawk_parsing.specs.declared.tree.Expr.TheOpen as expr
 use Rattle.rawk_parsing.specs.declared.tree.Expr.TheOpen.{Expr-F, Place-F, Link-F}
 use Rattle.rawk_parsing.specs.declared.tree.Link.{Link, fold_out-Link}
@@ -143,6 +143,9 @@ text_covers m e w is = ap (covers m) (is ∙ sym (rolls-Text w)) ∙ covers_roll
 pub ere_covers : (m : Sense) (e : Expr) (left : ℕ) (w : List ℕ) → e ≡ tree.Ere left w → covers m e ≡ true
 ere_covers m e left w is = ap (covers m) (is ∙ sym (rolls-Ere left w)) ∙ covers_roll m (expr.Ere left w)
 
+pub getline_covers : (m : Sense) (e : Expr) → e ≡ tree.Getline → covers m e ≡ true
+getline_covers m e is = ap (covers m) (is ∙ sym rolls-Getline) ∙ covers_roll m expr.Getline
+
 pub of_covers : (m : Sense) (e : Expr) (p : Place) → e ≡ tree.Of p → covers m e ≡ (place_cover m p).reads
 of_covers m e p is = ap (covers m) (is ∙ sym (rolls-Of p)) ∙ covers_roll m (expr.Of p)
 
@@ -201,15 +204,16 @@ unfolding covers place_cover covers_link
 covers_out m e = fold_out-Expr Bool Cover Bool (expr_step m) (place_step m) link_step e
 
 -- no other expression is covered
-pub other_covers : (m : Sense) (e : Expr) → ((n : ℤ) → e ≡ tree.Number n → ⊥) → ((w : List ℕ) → e ≡ tree.Text w → ⊥) → ((left : ℕ) (w : List ℕ) → e ≡ tree.Ere left w → ⊥) → ((p : Place) → e ≡ tree.Of p → ⊥) → ((x : Expr) → e ≡ tree.Group x → ⊥)
+pub other_covers : (m : Sense) (e : Expr) → ((n : ℤ) → e ≡ tree.Number n → ⊥) → ((w : List ℕ) → e ≡ tree.Text w → ⊥) → ((left : ℕ) (w : List ℕ) → e ≡ tree.Ere left w → ⊥) → (e ≡ tree.Getline → ⊥) → ((p : Place) → e ≡ tree.Of p → ⊥) → ((x : Expr) → e ≡ tree.Group x → ⊥)
     → ((s : Sign) (x : Expr) → e ≡ tree.Signed s x → ⊥) → ((x y : Expr) → e ≡ tree.Power x y → ⊥) → ((x : Expr) (xs : List Link) → e ≡ tree.Chain x xs → ⊥) → ((l : Logic) (xs : List Expr) → e ≡ tree.Logic l xs → ⊥) → ((x y z : Expr) → e ≡ tree.Choice x y z → ⊥) → ((c : Change) (p : Place) → e ≡ tree.Before c p → ⊥) → ((c : Change) (p : Place) → e ≡ tree.After c p → ⊥)
     → ((how : Assignment) (p : Place) (x : Expr) → e ≡ tree.Assign how p x → ⊥) → ((n : word.Name) (xs : List Expr) → e ≡ tree.Call n xs → ⊥) → ((f : Function) (xs : List Expr) → e ≡ tree.Builtin f xs → ⊥) → covers m e ≡ false
-other_covers m e number text ere place group signed power chain logic choice before after assign call builtin = covers_out m e ∙ go (out-Expr e) (sym (roll-out-Expr e))
+other_covers m e number text ere getline place group signed power chain logic choice before after assign call builtin = covers_out m e ∙ go (out-Expr e) (sym (roll-out-Expr e))
   where
     go : (d : Expr-F Expr Place Link) → e ≡ roll-Expr d → expr_step m (map-Expr Expr Place Link Bool Cover Bool (covers m) (place_cover m) (covers_link m) d) ≡ false
     go (expr.Number n) q = absurd (number n (q ∙ rolls-Number n))
     go (expr.Text w) q = absurd (text w (q ∙ rolls-Text w))
     go (expr.Ere left w) q = absurd (ere left w (q ∙ rolls-Ere left w))
+    go expr.Getline q = absurd (getline (q ∙ rolls-Getline))
     go (expr.Of p) q = absurd (place p (q ∙ rolls-Of p))
     go (expr.Group x) q = absurd (group x (q ∙ rolls-Group x))
     go (expr.Signed s x) q = absurd (signed s x (q ∙ rolls-Signed s x))

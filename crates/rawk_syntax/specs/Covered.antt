@@ -73,6 +73,7 @@ abbrev pub expr_step : Sense → Expr-F Bool Cover Bool → Bool
 expr_step means (expr.Number n) = true
 expr_step means (expr.Text w) = true
 expr_step means (expr.Ere left w) = true
+expr_step means expr.Getline = true
 expr_step means (expr.Of p) = p.reads
 expr_step means (expr.Group e) = e
 expr_step means (expr.Signed s e) = e

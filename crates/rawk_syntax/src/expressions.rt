@@ -471,6 +471,7 @@ pub fn settle_expr(
         parsed::Expr::Number(n) => settle_number(n),
         parsed::Expr::Text(bytes) => settle_text(alloc, bytes.as_slice()),
         parsed::Expr::Ere(_, text) => settle_ere(alloc, text.as_slice()),
+        parsed::Expr::Getline => Ok(Expr::Getline),
         parsed::Expr::Of(place) => read_of(settle_place(alloc, scope, left, place)),
         parsed::Expr::Group(inner) => settle_expr(alloc, scope, left, inner.get()),
         parsed::Expr::Signed(sign, operand) => {

@@ -57,6 +57,8 @@ pub enum Expr {
     Part(Box<Expr>, Box<Expr>, Box<Expr>),
     /// `sprintf`: the format and its arguments
     Sprintf(Box<Expr>, Vec<Expr>),
+    /// `getline`: the next record becomes `$0`; 1, or 0 where there is none
+    Getline,
 }
 
 /// A right operand, with its operator.

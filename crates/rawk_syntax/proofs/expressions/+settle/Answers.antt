@@ -7,7 +7,7 @@ use Rattle.rawk_tree.specs.declared.tree.Unary.TheVariants as unary
 use Rattle.rawk_syntax.specs.Covered.{unless, each, can_change, covers, place_cover, covers_link}
 use Rattle.rawk_syntax.specs.Meant.{is_there, sense_of}
 use Rattle.rawk_syntax.specs.Settled as spec
-use Rattle.rawk_syntax.proofs.Coverings.{exits, passes, holds, sure, fails, both, first_false, second_false, was_settled, was_refused, judges_on, each_more, each_stops, number_covers, text_covers, ere_covers, of_covers, group_covers, signed_covers, power_covers, chain_covers, logic_covers, choice_covers, before_covers, after_covers, assign_covers, call_covers, builtin_covers, builtin_judged, none_there, other_covers, field_cover, element_cover, link_covers}
+use Rattle.rawk_syntax.proofs.Coverings.{exits, passes, holds, sure, fails, both, first_false, second_false, was_settled, was_refused, judges_on, each_more, each_stops, number_covers, text_covers, ere_covers, getline_covers, of_covers, group_covers, signed_covers, power_covers, chain_covers, logic_covers, choice_covers, before_covers, after_covers, assign_covers, call_covers, builtin_covers, builtin_judged, none_there, other_covers, field_cover, element_cover, link_covers}
 use Rattle.rawk_syntax.proofs.Gaps.{made_judged}
 use Rattle.rawk_syntax.proofs.Settlements.{number_settles, number_judged, text_settles, ere_settles, sought_settles, made_settles, right_settles, read_settles, group_settles, boxed_settles, signed_settles, power_settles, before_settles, after_settles, test_settles, field_settles, link_settles, call_settles, builtin_settles, same_count, expr_settles}
 use Rattle.rawk_syntax.proofs.expressions.+settle.Goals as goal
@@ -35,6 +35,12 @@ settle_expr-returns-in-Ere-clause-settled t c =
 pub settle_expr-returns-in-Ere-clause-judged : goal.settle_expr-returns-in-Ere-clause-judged
 settle_expr-returns-in-Ere-clause-judged t c =
     rw (holds (covers (sense_of c.args.scope.now) c.args.e.now) c.args.left (ere_covers (sense_of c.args.scope.now) c.args.e.now _ _ c.in-Ere.is)) c.settle_ere.ensures.judged
+
+pub settle_expr-returns-in-Getline-clause-settled : goal.settle_expr-returns-in-Getline-clause-settled
+settle_expr-returns-in-Getline-clause-settled t c = rw c.in-Getline.is spec.getline
+
+pub settle_expr-returns-in-Getline-clause-judged : goal.settle_expr-returns-in-Getline-clause-judged
+settle_expr-returns-in-Getline-clause-judged t c = holds (covers (sense_of c.args.scope.now) c.args.e.now) c.args.left (getline_covers (sense_of c.args.scope.now) c.args.e.now c.in-Getline.is)
 
 pub settle_sought-returns-in-Ere-clause-settled : goal.settle_sought-returns-in-Ere-clause-settled
 settle_sought-returns-in-Ere-clause-settled t c =
@@ -108,7 +114,7 @@ pub settle_expr-returns-in_default : goal.settle_expr-returns-in_default
 settle_expr-returns-in_default t c =
     record {
       settled = tt;
-      judged = λ ne. fails (covers (sense_of c.args.scope.now) c.args.e.now) c.args.left (other_covers (sense_of c.args.scope.now) c.args.e.now c.in_default.not-Number c.in_default.not-Text c.in_default.not-Ere c.in_default.not-Of c.in_default.not-Group c.in_default.not-Signed c.in_default.not-Power c.in_default.not-Chain c.in_default.not-Logic c.in_default.not-Choice c.in_default.not-Before c.in_default.not-After c.in_default.not-Assign c.in_default.not-Call c.in_default.not-Builtin) ∙ ap Some (sym c.left_out.ensures);
+      judged = λ ne. fails (covers (sense_of c.args.scope.now) c.args.e.now) c.args.left (other_covers (sense_of c.args.scope.now) c.args.e.now c.in_default.not-Number c.in_default.not-Text c.in_default.not-Ere c.in_default.not-Getline c.in_default.not-Of c.in_default.not-Group c.in_default.not-Signed c.in_default.not-Power c.in_default.not-Chain c.in_default.not-Logic c.in_default.not-Choice c.in_default.not-Before c.in_default.not-After c.in_default.not-Assign c.in_default.not-Call c.in_default.not-Builtin) ∙ ap Some (sym c.left_out.ensures);
     }
 
 pub settle_boxed-returns-clause-settled : goal.settle_boxed-returns-clause-settled
