@@ -103,7 +103,7 @@ pub(crate) fn site_of(program: &Program, spot: &Spot) -> Option<usize>
     }
 }
 
-/// What can be assigned of what all activations share.
+/// What is assigned of what all activations share.
 fn shared_target(place: Watched) -> Target
     ensures { result ≡ shared_target place }
 {
@@ -114,7 +114,7 @@ fn shared_target(place: Watched) -> Target
     }
 }
 
-/// What can be assigned of a place.
+/// What is assigned of a place.
 pub(crate) fn target_of(place: Lvalue) -> Target
     ensures { result ≡ target_of place }
 {

@@ -332,7 +332,7 @@ impl<R: Source + Drop, K: Keeper> Machine<R, K> {
         true
     }
 
-    /// Sets a place to a value at this point, as an assignment of the program does; a place that can't be assigned answers the fault, and nothing
+    /// Sets a place to a value at this point, as an assignment of the program does; where that is a fault it answers the fault, and nothing
     /// changes. It fails where memory is refused, and then nothing has changed.
     pub fn set(
         &mut self,

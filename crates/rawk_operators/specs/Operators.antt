@@ -15,11 +15,12 @@ use Rattle.rawk_tree.specs.declared.tree.Joiner.TheVariants as joiner
 use Rattle.rawk_tree.specs.declared.tree.Unary.{Unary}
 use Rattle.rawk_tree.specs.declared.tree.Unary.TheVariants as unary
 
--- whether the text of a value has a match of the expression that the text of another one is; a text that is no expression is a fault (Regular Expressions)
+-- what was found, or the fault of a text that is no expression
 abbrev pub found_or : Option Bool → Result Bool Fault
 found_or None = Err BadEre
 found_or (Some b) = Ok b
 
+-- whether the text of a value has a match of the expression that the text of another one is (Regular Expressions)
 abbrev pub matched : Value → Value → Result Bool Fault
 matched v w = found_or (is_found (text_of w) (text_of v))
 
