@@ -31,6 +31,7 @@ RUNS = [
     (['function f(t) { t = t "xyz"; return t t "z" } BEGIN { for (i = 0; i < 12; i++) { s = s "xyz"; if (i % 4 == 1) { k = s; k = k "a" "b"; n = i; n = n k } } print f(s), k, n }'], b""),
     (['/a(b|c)+$/ { n++ } $1 ~ $2 "x*", !/c/ { m += $0 ~ "b{2,9}" } END { for (i = 0; i < 4; i++) k += ("x" i % 2) ~ ("x|" i % 2); print n, m, k }'], b"abcb a\nb abb\nc\n"),
     (['BEGIN { getline; x = $2; while (getline > 0) { n += NF; s = s $1 } print x, n, s, getline }'], b"a text longer than a word\nb c d\n\ne\n"),
+    (['{ $3 = $1 " longer than a word"; NF = 4; $0 = $0 " and more"; n += gsub(/[aeiou]+/, "<&&>") + sub("x*", "\\\\&", $2); $(NF - 1)++; print match($0, "b+"), RSTART, $0 }'], b"a text longer than a word\nb\n"),
     (['function f() { if (NR == 2) next; return 1 + g() } function g() { exit 3 } { print f() } END { print NR }'], b"a\nb\n"),
 ]
 
@@ -42,6 +43,7 @@ SESSIONS = [
     ('BEGIN { x = "a text"; y = x; print y, x }', b"", ["next", "next", "print y", "rn", "continue", "rc", "continue", "rs"]),
     ("function sq(n) {\n t = t + 1\n return n * n\n}\nBEGIN {\n s = sq(3)\n s = s + sq(4)\n print s, t\n}", b"", ["next", "break sq", "next", "backtrace", "print n", "set n=5", "finish", "print s", "reverse-continue", "print n", "reverse-set", "watch t", "rc", "reverse-finish", "delete 1", "reverse-finish", "continue", "rc"]),
     ('{ x = $1; n = getline; y = $1 }', b"a text longer than a word\nb\nc\n", ["continue", "print y", "rs", "rs", "print $0", "rc", "step", "step", "step", "print $3", "set $0=\"another text that is longer\"", "rs", "step", "print $2", "continue", "rc", "continue"]),
+    ('{ $2 = "a text longer than a word"; NF = 1; n = gsub(/b/, "&, longer than a word"); $3 = n }', b"b c d\n", ["continue", "rs", "rs", "print $0", "set $2=\"q\"", "rs", "rs", "print $0", "watch NF", "continue", "step", "print $3", "rc", "reverse-set", "continue", "rc"]),
     ('{ x = $1 ~ r; r = $2 }', b"abc b+\nd (e|f)*g\n", ["continue", "rs", "rs", "set $2=\"a text longer than a word\"", "print $0", "set NF=3", "set $0=\"p:q  r\"", "print $2", "set FS=\":\"", "set $0=\"p:q  r\"", "print $2", "rs", "step", "step", "set r=\"[\"", "continue", "print r", "rc", "continue"]),
     ('BEGIN { s = "a text"; t = s; s = s " longer than a word"; s = s "!"; t = t "?"; print s, t }', b"", ["continue", "print s", "rs", "rs", "print t", "rs", "print s", "step", "print s", "set s=\"another text that is longer\"", "watch s", "continue", "print s", "rc", "continue", "rs", "reverse-set", "rc"]),
     ('function f(n) { return n < 1 ? "a text longer than a word" : f(n - 1) } BEGIN { x = f(30); print x }', b"", ["break f", "continue", "continue", "backtrace", "delete 1", "finish", "rs", "rc", "continue", "rc"]),

@@ -1,5 +1,5 @@
 -- Calls of built-in functions, over plain variables.
-use Rattle.std.proofs.Common.{◌≡◌, List, [], ◌∷◌, ◌++◌, Some, sym, ap, subst, ◌∙◌, pos}
+use Rattle.std.proofs.Common.{◌≡◌, List, [], ◌∷◌, Some, sym, subst, pos}
 use Rattle.std.specs.Global.{Box, Vec}
 use Rattle.rawk_parsing.specs.declared.tree.Function.{Function}
 use Rattle.rawk_parsing.specs.declared.tree.Function.TheVariants as fun

@@ -6,7 +6,9 @@ pub mod fitting;
 pub mod sets;
 pub mod settings;
 
-pub use code::{Code, Computation, Entry, Instr, Op, Operand, Simple, Simples};
+pub use code::{
+    Code, Computation, Destination, Entry, Instr, Op, Operand, Simple, Simples, Variable,
+};
 pub use fitting::fits;
 pub use sets::SetAt;
 pub use settings::{FirstValue, Settings};

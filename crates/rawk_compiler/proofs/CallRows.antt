@@ -26,7 +26,8 @@ use Rattle.rawk_code.specs.declared.code.Op.TheVariants as does
 use Rattle.rawk_code.specs.declared.code.Instr.TheVariants as instr
 use Rattle.rawk_code.specs.declared.code.Operand.TheVariants.{Given as Known, Popped, Computed}
 use Rattle.rawk_code.specs.declared.code.Computation.TheVariants as computation
-use Rattle.rawk_tree.specs.declared.tree.Destination.TheVariants as destination
+use Rattle.rawk_code.specs.declared.code.Variable.TheVariants as cell
+use Rattle.rawk_code.specs.declared.code.Destination.TheVariants as destination
 use Rattle.rawk_code.specs.declared.code.Simple.TheVariants as simple
 use Rattle.rawk_code.specs.Actions.{Point, Ended, Faulted, Limited}
 use Rattle.rawk_code.specs.Trace.{Trace, trace, out, status, line_of}
@@ -79,7 +80,7 @@ module _ (b : Box (Unit {0}) Global) (ptr : Ptr) (alloc : Global) where
   equal = join (joiner.Comparison comparison.Equal)
 
   abbrev set : ℕ → Expr → Expr
-  set g e = expr.Assign' (destination.Global g) b e
+  set g e = expr.Assign' (place.Global g) b e
 
   abbrev call_none : ℕ → Expr
   call_none f = expr.Call' f none end_of-Expr
@@ -158,11 +159,11 @@ module _ (b : Box (Unit {0}) Global) (ptr : Ptr) (alloc : Global) where
   return-here = refl
 
   -- the code: the function stands behind END
-  squaring-code : program_code squaring ≡ instr.Point (Some 3) ∷ instr.Do (does.Push (simple.Number (pos 3))) ∷ instr.Call 0 1 ∷ instr.Do (does.Store (destination.Global y) Popped)
+  squaring-code : program_code squaring ≡ instr.Point (Some 3) ∷ instr.Do (does.Push (simple.Number (pos 3))) ∷ instr.Call 0 1 ∷ instr.Do (does.Store (destination.Variable (cell.Global y)) Popped)
       ∷ instr.Point (Some 4) ∷ instr.Do (does.Print 0 (simple.Global y ∷ simple.Global x ∷ []))
       ∷ instr.BeginEnd ∷ instr.Halt
       ∷ instr.Point (Some 0)
-      ∷ instr.Point (Some 1) ∷ instr.Do (does.Store (destination.Global x) (Computed (computation.Arithmetic Add) (simple.Global x) (simple.Number (pos 1))))
+      ∷ instr.Point (Some 1) ∷ instr.Do (does.Store (destination.Variable (cell.Global x)) (Computed (computation.Arithmetic Add) (simple.Global x) (simple.Number (pos 1))))
       ∷ instr.Point (Some 2) ∷ instr.Return (Computed (computation.Arithmetic Mul) (simple.Local 0) (simple.Local 0))
       ∷ instr.Return (Known simple.Uninitialized) ∷ []
   squaring-code = refl
@@ -185,13 +186,13 @@ module _ (b : Box (Unit {0}) Global) (ptr : Ptr) (alloc : Global) where
 
   -- function f(a, c) { print a, c, c == 0; c = 7; c += 2; return c++ } BEGIN { x = f(5); print x }: a missing argument is uninitialised, and what a function gives is taken before its locals are gone
   abbrev missing : Program
-  missing = whole (function (two (codes "a") (codes "c")) (both (both (stmt.Print 1 (vec ptr alloc (local 0 ∷ local 1 ∷ equal (local 1) (constant 0) ∷ []) (omega arith))) (stmt.Do 2 (expr.Assign' (destination.Local 1) b (constant 7)))) (both (stmt.Do 3 (expr.Update' Add (destination.Local 1) b (constant 2))) (stmt.ReturnWith 4 (expr.After Add (destination.Local 1)))))) (two (stmt.Do 5 (set x (call 0 (constant 5)))) (stmt.Print 6 (one (variable x)))) none none
+  missing = whole (function (two (codes "a") (codes "c")) (both (both (stmt.Print 1 (vec ptr alloc (local 0 ∷ local 1 ∷ equal (local 1) (constant 0) ∷ []) (omega arith))) (stmt.Do 2 (expr.Assign' (place.Local 1) b (constant 7)))) (both (stmt.Do 3 (expr.Update' Add (place.Local 1) b (constant 2))) (stmt.ReturnWith 4 (expr.After Add (place.Local 1)))))) (two (stmt.Do 5 (set x (call 0 (constant 5)))) (stmt.Print 6 (one (variable x)))) none none
 
   missing-out : out (trace missing [] (given [] 100)) ≡ codes "5  1\n9\n"
   missing-out = refl
 
   -- function f(a) { a++ } BEGIN { x = 1; y = f(x); print x, y }: the caller's variable stays, and a body without `return` gives the uninitialised value
-  falling-out : out (trace (whole (function (one (codes "a")) (stmt.Do 1 (expr.After Add (destination.Local 0)))) (vec ptr alloc (stmt.Do 2 (set x (constant 1)) ∷ stmt.Do 3 (set y (call 0 (variable x))) ∷ stmt.Print 4 (two (variable x) (variable y)) ∷ []) (omega arith)) none none) [] (given [] 100)) ≡ codes "1 \n"
+  falling-out : out (trace (whole (function (one (codes "a")) (stmt.Do 1 (expr.After Add (place.Local 0)))) (vec ptr alloc (stmt.Do 2 (set x (constant 1)) ∷ stmt.Do 3 (set y (call 0 (variable x))) ∷ stmt.Print 4 (two (variable x) (variable y)) ∷ []) (omega arith)) none none) [] (given [] 100)) ≡ codes "1 \n"
   falling-out = refl
 
   -- function f() { exit 300 } BEGIN { x = 1 + f(); print "no" } END { print "e" }: END runs with no activations

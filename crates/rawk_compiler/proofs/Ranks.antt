@@ -23,14 +23,16 @@ use Rattle.rawk_code.specs.declared.code.Simple.{Simple}
 use Rattle.rawk_code.specs.declared.code.Simple.TheVariants as simple
 use Rattle.rawk_code.specs.declared.code.Operand.{Operand}
 use Rattle.rawk_code.specs.declared.code.Operand.TheVariants as operand
-use Rattle.rawk_tree.specs.declared.tree.Destination.{Destination}
+use Rattle.rawk_code.specs.declared.code.Variable.{Variable}
+use Rattle.rawk_code.specs.declared.code.Destination.{Destination}
+use Rattle.rawk_code.specs.declared.code.Destination.TheVariants as destination
 use Rattle.rawk_code.specs.declared.code.Entry.{Entry}
 use Rattle.rawk_code.specs.declared.code.Instr.{Instr}
 use Rattle.rawk_code.specs.declared.code.Op.{Op}
 use Rattle.rawk_code.specs.declared.code.Op.TheVariants as does
 use Rattle.rawk_code.specs.declared.code.Instr.TheVariants as instr
 use Rattle.rawk_code.specs.Trace.{reads}
-use Rattle.rawk_compiler.specs.Code.{appending, simple_field, operand_of, right_operand, unless_ready, pushed, joined, choice_code, decide_code, expr_code, expr_codes, effect_code, place_code, link_code, link_codes, front_of, simples_behind, Piece, nowhere, always, in_turn, when_code, Arm, then_to, branch_to, if_code, step_around, body_around, loop_code, jump_code, test_code, stmt_code, stmt_codes, arms_of, added, appended, closing_code, opened_code, guard_code, rule_code, records_code, main_code, begin_code, record_at_of, end_at_of, functions_at_of, function_code, functions_code, entries_of, program_code, HasAt}
+use Rattle.rawk_compiler.specs.Code.{appending, constant_field, simple_field, unless_constant, destination_of, operand_of, sought_operand, constant_operand, right_operand, unless_ready, pushed, joined, choice_code, decide_code, expr_code, expr_codes, effect_code, place_code, parts_code, link_code, link_codes, front_of, simples_behind, Piece, nowhere, always, in_turn, when_code, Arm, then_to, branch_to, if_code, step_around, body_around, loop_code, jump_code, test_code, stmt_code, stmt_codes, arms_of, added, added_to, or_else, closing_code, opened_code, guard_code, rule_code, records_code, main_code, begin_code, record_at_of, end_at_of, functions_at_of, function_code, functions_code, entries_of, program_code, HasAt}
 use Rattle.rawk_code.specs.Valid.{rank_of, rank, IsEntry, Descends, IsValid}
 use Rattle.rawk_compiler.proofs.Follows.{has_front, has_back, has_all}
 use Rattle.rawk_compiler.proofs.Statements.{branches_length}
@@ -91,6 +93,10 @@ module _ (code : List Instr) where
   pushed_fine None c f = f
   pushed_fine (Some from) c f = fine_last [] (instr.Do (does.Push from)) (λ pc. tt) fine_none
 
+  constant_fine : (o : Option ℕ) (c : List Instr) → Fine c → Fine (unless_constant o c)
+  constant_fine None c f = f
+  constant_fine (Some n) c f = fine_none
+
   choice_fine : (test : List Instr) (from : Operand) (first second : List Instr) → Fine test → Fine first → Fine second → Fine (choice_code test from first second)
   choice_fine test from first second ft fy fn =
       let other = fine_cons (instr.GoOn (length second)) second (λ pc. tt) fn in
@@ -108,12 +114,22 @@ module _ (code : List Instr) where
     expr_fine (expr.Unary' u p e) = fine_last (unless_ready (operand_of e) (expr_code e)) (instr.Do (does.Unary u (operand_of e))) (λ pc. tt) (unless_fine (operand_of e) (expr_code e) (expr_fine e))
     expr_fine (expr.Chain' p first shape more) = fine_append (expr_code first) (joined (link_codes more)) (expr_fine first) (joined_fine (link_codes more) (links_fine more))
     expr_fine (expr.Choice' p a q b r c) = choice_fine (unless_ready (operand_of a) (expr_code a)) (operand_of a) (expr_code b) (expr_code c) (unless_fine (operand_of a) (expr_code a) (expr_fine a)) (expr_fine b) (expr_fine c)
-    expr_fine (expr.After op x) = fine_last [] (instr.Do (does.After op x)) (λ pc. tt) fine_none
-    expr_fine (expr.Assign' x p e) = fine_last (unless_ready (operand_of e) (expr_code e)) (instr.Do (does.Assign x (operand_of e))) (λ pc. tt) (unless_fine (operand_of e) (expr_code e) (expr_fine e))
-    expr_fine (expr.Update' op x p e) = fine_last (unless_ready (operand_of e) (expr_code e)) (instr.Do (does.Update op x (operand_of e))) (λ pc. tt) (unless_fine (operand_of e) (expr_code e) (expr_fine e))
+    expr_fine (expr.After op q) = fine_last (parts_code q) (instr.Do (does.After op (destination_of q))) (λ pc. tt) (parts_fine q)
+    expr_fine (expr.Assign' q p e) =
+        let from = operand_of e in
+        fine_append (parts_code q) _ (parts_fine q) (fine_last (unless_ready from (expr_code e)) (instr.Do (does.Assign (destination_of q) from)) (λ pc. tt) (unless_fine from (expr_code e) (expr_fine e)))
+    expr_fine (expr.Update' op q p e) =
+        let from = operand_of e in
+        fine_append (parts_code q) _ (parts_fine q) (fine_last (unless_ready from (expr_code e)) (instr.Do (does.Update op (destination_of q) from)) (λ pc. tt) (unless_fine from (expr_code e) (expr_fine e)))
     expr_fine (expr.Call' f shape args) = fine_last (joined (expr_codes args)) (instr.Call f (length (expr_codes args))) (λ pc. tt) (joined_fine (expr_codes args) (exprs_fine args))
     expr_fine (expr.Part' p e q from r count) =
         fine_append (expr_code e) (expr_code from ++ (expr_code count ++ instr.Do does.Part ∷ [])) (expr_fine e) (fine_append (expr_code from) (expr_code count ++ instr.Do does.Part ∷ []) (expr_fine from) (fine_last (expr_code count) (instr.Do does.Part) (λ pc. tt) (expr_fine count)))
+    expr_fine (expr.Match' p e q s) =
+        let from = sought_operand s in
+        fine_append (expr_code e) _ (expr_fine e) (fine_last (unless_ready from (expr_code s)) (instr.Do (does.Match from)) (λ pc. tt) (unless_fine from (expr_code s) (expr_fine s)))
+    expr_fine (expr.Replace' extent p s q r place) =
+        let from = constant_operand s in
+        fine_append (unless_ready from (expr_code s)) _ (unless_fine from (expr_code s) (expr_fine s)) (fine_append (expr_code r) _ (expr_fine r) (fine_last (parts_code place) (instr.Do (does.Replace extent from (destination_of place))) (λ pc. tt) (parts_fine place)))
     expr_fine (expr.Sprintf' p f shape args) =
         fine_append (expr_code f) (joined (expr_codes args) ++ instr.Do (does.Sprintf (length (expr_codes args))) ∷ []) (expr_fine f) (fine_last (joined (expr_codes args)) (instr.Do (does.Sprintf (length (expr_codes args)))) (λ pc. tt) (joined_fine (expr_codes args) (exprs_fine args)))
     expr_fine expr.Getline = fine_cons (instr.ReadRecord 2) _ (λ pc. tt) (fine_cons (instr.Do (does.Push (simple.Number (pos 1)))) _ (λ pc. tt) (fine_cons (instr.GoOn 1) _ (λ pc. tt) (fine_cons (instr.Do (does.Push (simple.Number (pos 0)))) [] (λ pc. tt) fine_none)))
@@ -126,7 +142,13 @@ module _ (code : List Instr) where
     place_fine (place.Global x) = fine_last [] (instr.Do (does.Push _)) (λ pc. tt) fine_none
     place_fine (place.Local i) = fine_last [] (instr.Do (does.Push _)) (λ pc. tt) fine_none
     place_fine place.FieldCount = fine_last [] (instr.Do (does.Push _)) (λ pc. tt) fine_none
-    place_fine (place.Field' p e) = pushed_fine (simple_field e) (expr_code e ++ instr.Do does.FieldAt ∷ []) (fine_last (expr_code e) (instr.Do does.FieldAt) (λ pc. tt) (expr_fine e))
+    place_fine (place.Field' p e) = pushed_fine (simple_field (constant_field e)) (expr_code e ++ instr.Do does.FieldAt ∷ []) (fine_last (expr_code e) (instr.Do does.FieldAt) (λ pc. tt) (expr_fine e))
+
+    parts_fine : (q : Place) → Fine (parts_code q)
+    parts_fine (place.Global x) = fine_none
+    parts_fine (place.Local i) = fine_none
+    parts_fine place.FieldCount = fine_none
+    parts_fine (place.Field' p e) = constant_fine (constant_field e) (expr_code e ++ instr.Do does.FieldNumber ∷ []) (fine_last (expr_code e) (instr.Do does.FieldNumber) (λ pc. tt) (expr_fine e))
 
     link_fine : (l : Link) → Fine (link_code l)
     link_fine (link.Combine op e) = fine_last (unless_ready (right_operand op e) (expr_code e)) (instr.Do (does.Combine op (right_operand op e))) (λ pc. tt) (unless_fine (right_operand op e) (expr_code e) (expr_fine e))
@@ -136,13 +158,19 @@ module _ (code : List Instr) where
     links_fine end_of-Link = tt
     links_fine (more_of-Link l rest) = (link_fine l, links_fine rest)
 
-  appends_fine : (x : Destination) (froms : List Simple) → Fine (map (appending x) froms)
+  appends_fine : (x : Variable) (froms : List Simple) → Fine (map (appending x) froms)
   appends_fine x [] = fine_none
   appends_fine x (from ∷ froms) = fine_cons (instr.Do (does.Append x from)) (map (appending x) froms) (λ pc. tt) (appends_fine x froms)
 
-  appended_fine : (x : Destination) (froms : List Simple) (other : List Instr) → Fine other → Fine (appended x froms other)
-  appended_fine x [] other f = f
-  appended_fine x (from ∷ froms) other f = appends_fine x (from ∷ froms)
+  added_fine : (x : Destination) (e : Expr) → Fine (added_to x e)
+  added_fine (destination.Variable x) e = appends_fine x (added x e)
+  added_fine destination.FieldCount e = fine_none
+  added_fine (destination.Field n) e = fine_none
+  added_fine destination.FieldBelow e = fine_none
+
+  either_fine : (c other : List Instr) → Fine c → Fine other → Fine (or_else c other)
+  either_fine [] other f g = g
+  either_fine (i ∷ c) other f g = f
 
   effect_fine : (e : Expr) → Fine (effect_code e)
   effect_fine (expr.Number n) = fine_last _ (instr.Do does.Pop) (λ pc. tt) (expr_fine (expr.Number n))
@@ -151,12 +179,17 @@ module _ (code : List Instr) where
   effect_fine (expr.Unary' u p e) = fine_last _ (instr.Do does.Pop) (λ pc. tt) (expr_fine (expr.Unary' u p e))
   effect_fine (expr.Chain' p first shape more) = fine_last _ (instr.Do does.Pop) (λ pc. tt) (expr_fine (expr.Chain' p first shape more))
   effect_fine (expr.Choice' p a q b r c) = fine_last _ (instr.Do does.Pop) (λ pc. tt) (expr_fine (expr.Choice' p a q b r c))
-  effect_fine (expr.After op x) = fine_last [] (instr.Do (does.StoreUpdate op x _)) (λ pc. tt) fine_none
-  effect_fine (expr.Assign' x p e) =
-      appended_fine x (added x e) _ (fine_last (unless_ready (operand_of e) (expr_code e)) (instr.Do (does.Store x (operand_of e))) (λ pc. tt) (unless_fine (operand_of e) (expr_code e) (expr_fine e)))
-  effect_fine (expr.Update' op x p e) = fine_last (unless_ready (operand_of e) (expr_code e)) (instr.Do (does.StoreUpdate op x (operand_of e))) (λ pc. tt) (unless_fine (operand_of e) (expr_code e) (expr_fine e))
+  effect_fine (expr.After op q) = fine_last (parts_code q) (instr.Do (does.StoreUpdate op (destination_of q) _)) (λ pc. tt) (parts_fine q)
+  effect_fine (expr.Assign' q p e) =
+      let from = operand_of e in
+      fine_append (parts_code q) _ (parts_fine q) (either_fine (added_to (destination_of q) e) _ (added_fine (destination_of q) e) (fine_last (unless_ready from (expr_code e)) (instr.Do (does.Store (destination_of q) from)) (λ pc. tt) (unless_fine from (expr_code e) (expr_fine e))))
+  effect_fine (expr.Update' op q p e) =
+      let from = operand_of e in
+      fine_append (parts_code q) _ (parts_fine q) (fine_last (unless_ready from (expr_code e)) (instr.Do (does.StoreUpdate op (destination_of q) from)) (λ pc. tt) (unless_fine from (expr_code e) (expr_fine e)))
   effect_fine (expr.Call' f shape args) = fine_last _ (instr.Do does.Pop) (λ pc. tt) (expr_fine (expr.Call' f shape args))
   effect_fine (expr.Part' p e q from r count) = fine_last _ (instr.Do does.Pop) (λ pc. tt) (expr_fine (expr.Part' p e q from r count))
+  effect_fine (expr.Match' p e q s) = fine_last _ (instr.Do does.Pop) (λ pc. tt) (expr_fine (expr.Match' p e q s))
+  effect_fine (expr.Replace' extent p s q r place) = fine_last _ (instr.Do does.Pop) (λ pc. tt) (expr_fine (expr.Replace' extent p s q r place))
   effect_fine (expr.Sprintf' p f shape args) = fine_last _ (instr.Do does.Pop) (λ pc. tt) (expr_fine (expr.Sprintf' p f shape args))
   effect_fine expr.Getline = fine_last _ (instr.Do does.Pop) (λ pc. tt) (expr_fine expr.Getline)
 

@@ -4,8 +4,7 @@ ghost use Rattle.std.specs.Prelude.{◌≡◌, [], ◌∷◌, ◌++◌, ◌-◌,
 ghost use Rattle.rawk_compiler.specs.Code.{getline_code};
 ghost use Rattle.rawk_compiler.specs.Written.{over, led};
 
-use rawk_code::{Instr, Op, Operand, Simple};
-use rawk_tree::Destination;
+use rawk_code::{Destination, Instr, Op, Operand, Simple};
 use rawk_value::{Arithmetic, Bytes};
 use std::alloc::{AllocError, Global};
 
@@ -39,7 +38,7 @@ pub(crate) fn put_text(alloc: Global, code: &mut Vec<Instr>, text: &Bytes) -> Re
     put_push(code, Simple::Text(copy))
 }
 
-// A change of a variable, whose old number becomes the newest operand.
+// A change of a place, whose old number becomes the newest operand.
 pub(crate) fn put_after(
     code: &mut Vec<Instr>,
     op: Arithmetic,
@@ -50,7 +49,7 @@ pub(crate) fn put_after(
     put(code, Instr::Do(Op::After(op, x)))
 }
 
-// A change of a variable, which leaves no value.
+// A change of a place, which leaves no value.
 pub(crate) fn put_step(
     code: &mut Vec<Instr>,
     op: Arithmetic,

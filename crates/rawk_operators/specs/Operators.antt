@@ -1,5 +1,5 @@
 -- What operators and functions make of values, after POSIX.1-2017, utility awk, sections `Expressions in awk`, `Arithmetic Functions`, `String Functions`.
-use Rattle.std.specs.Prelude.{pos, neg_ℤ, Bool, not, List, ◌++◌, length, map, Option, Some, None, Result, Ok, Err}
+use Rattle.std.specs.Prelude.{◌+◌, ◌-◌, pos, negsuc, neg_ℤ, Bool, not, List, ◌++◌, length, map, Option, Some, None, Result, Ok, Err}
 use Rattle.rawk_value.specs.declared.value.Value.{Value}
 use Rattle.rawk_value.specs.declared.value.Value.TheVariants.{Number, String}
 use Rattle.rawk_value.specs.declared.fault.Fault.{Fault}
@@ -7,7 +7,12 @@ use Rattle.rawk_value.specs.declared.fault.Fault.TheVariants.{BadEre}
 use Rattle.rawk_value.specs.Values.{Bytes, next_ok, checked, number_of, int_of, text_of, truth_of, flag, order_of, holds, combined}
 use Rattle.rawk_format.specs.Format.{formatted}
 use Rattle.rawk_builtins.specs.Builtins.{place_of, substring, lower, upper}
-use Rattle.rawk_search.specs.Patterns.{is_found}
+use Rattle.rawk_search.specs.declared.span.Span.{Span}
+use Rattle.rawk_search.specs.Patterns.{pattern_of, match_of, is_found}
+use Rattle.rawk_replacements.specs.declared.replacing.Replaced.{Replaced}
+use Rattle.rawk_replacements.specs.Replaced.{replaced_by}
+use Rattle.rawk_words.specs.declared.operator.Extent.{Extent}
+use Rattle.rawk_operators.specs.declared.searches.Match.{Match}
 use Rattle.rawk_words.specs.declared.operator.Sign.{Sign}
 use Rattle.rawk_words.specs.declared.operator.Sign.TheVariants as sign
 use Rattle.rawk_tree.specs.declared.tree.Joiner.{Joiner}
@@ -16,13 +21,30 @@ use Rattle.rawk_tree.specs.declared.tree.Unary.{Unary}
 use Rattle.rawk_tree.specs.declared.tree.Unary.TheVariants as unary
 
 -- what was found, or the fault of a text that is no expression
-abbrev pub found_or : Option Bool → Result Bool Fault
+abbrev pub found_or : {A : Type 0} → Option A → Result A Fault
 found_or None = Err BadEre
-found_or (Some b) = Ok b
+found_or (Some found) = Ok found
 
 -- whether the text of a value has a match of the expression that the text of another one is (Regular Expressions)
 abbrev pub matched : Value → Value → Result Bool Fault
 matched v w = found_or (is_found (text_of w) (text_of v))
+
+-- a match, by its place from 1 and how many bytes it has; 0 and -1 where there is none
+abbrev pub told : Option Span → Match
+told None = record { start = pos 0; length = negsuc 0 }
+told (Some m) = record { start = pos (m.start + 1); length = pos (m.end - m.start) }
+
+-- the leftmost match in the text of a value of the expression that the text of another one is, and the longest there (String Functions, match)
+abbrev pub found_in : Value → Value → Result Match Fault
+found_in v w = next_ok (found_or (match_of (text_of w) (text_of v))) (λ found. Ok (told found))
+
+-- the expression that the text of a value is, by that text
+abbrev pub expression_of : Value → Result Bytes Fault
+expression_of v = found_or (pattern_of (text_of v))
+
+-- the text of a value where matches of an expression are replaced, and how many; none where nothing matches (String Functions, sub, gsub)
+abbrev pub replaced_in : Extent → Value → Value → Value → Result (Option Replaced) Fault
+replaced_in extent expression by v = found_or (replaced_by extent (text_of expression) (text_of by) (text_of v))
 
 -- what two values make: a number; 1 where a comparison holds, and else 0; their texts side by side; the place of a text in another; the part of a text from a place on; 1 where the one text has a match of the other, and else 0, or the other way round
 abbrev pub both_make : Joiner → Value → Value → Result Value Fault

@@ -6,11 +6,11 @@ mod formats;
 mod made;
 mod ordered;
 mod parts;
-mod searches;
+pub mod searches;
 
 pub use borrowed::{Borrowed, copy, join, number, text_borrowed, truth};
 pub use formats::format;
 pub use made::{flag, make, make_unary};
 pub use ordered::{compare, compare_numbers};
 pub use parts::make_part;
-pub use searches::matches;
+pub use searches::{Match, find, matches, replace};

@@ -10,6 +10,7 @@ use Rattle.rawk_words.specs.declared.operator.Sign.{Sign}
 use Rattle.rawk_words.specs.declared.operator.Logic.{Logic}
 use Rattle.rawk_parsing.specs.declared.tree.Change.{Change}
 use Rattle.rawk_parsing.specs.declared.tree.Function.{Function}
+use Rattle.rawk_parsing.specs.declared.tree.Function.TheVariants as fun
 use Rattle.rawk_parsing.specs.declared.tree.Name as word
 use Rattle.rawk_parsing.specs.declared.tree.Expr.{Expr, out-Expr, roll-Expr, roll-out-Expr, map-Expr, fold-roll-Expr, fold_out-Expr}
 use Rattle.rawk_parsing.specs.declared.tree.Expr.TheVariants as tree
@@ -17,16 +18,16 @@ use Rattle.rawk_parsing.specs.declared.tree.Expr.TheVariants.{rolls-Number, roll
 use Rattle.rawk_parsing.specs.declared.tree.Expr.TheOpen as expr
 use Rattle.rawk_parsing.specs.declared.tree.Expr.TheOpen.{Expr-F, Place-F, Link-F}
 use Rattle.rawk_parsing.specs.declared.tree.Link.{Link, fold_out-Link}
-use Rattle.rawk_parsing.specs.declared.tree.Place.{Place, out-Place, roll-Place, roll-out-Place, map-Place, fold-roll-Place, fold_out-Place}
+use Rattle.rawk_parsing.specs.declared.tree.Place.{Place, roll-Place, map-Place, fold-roll-Place}
 use Rattle.rawk_parsing.specs.declared.tree.Place.TheVariants as spot
 use Rattle.rawk_tree.specs.declared.tree.Place as spot_place
 use Rattle.rawk_parsing.specs.declared.tree.Place.TheVariants.{rolls-Name, rolls-Field, rolls-Element}
-use Rattle.rawk_tree.specs.declared.tree.Destination.{Destination}
-use Rattle.rawk_tree.specs.declared.tree.Place.TheVariants as spot_variants
 use Rattle.rawk_builtin_trees.specs.Calls.{has_builtin}
-use Rattle.rawk_syntax.specs.Meant.{Sense, is_there, assigned_to}
+use Rattle.rawk_words.specs.declared.operator.Extent.{Extent}
+use Rattle.rawk_syntax.specs.Meant.{Sense, is_there}
+use Rattle.rawk_syntax.specs.Settled.{extent_of}
 use Rattle.rawk_grammar.specs.declared.tree.Item.{Item}
-use Rattle.rawk_syntax.specs.Covered.{Judges, Cover, item_gap, gap_from, functions_behind, unless, or_then, first_of, each, can_change, expr_step, place_step, link_step, covers, place_cover, covers_link}
+use Rattle.rawk_syntax.specs.Covered.{Judges, Cover, all_covered, replaces, builtin_step, cover_of, changes, item_gap, gap_from, functions_behind, unless, or_then, first_of, each, expr_step, place_step, link_step, covers, covers_place, covers_link}
 
 -- ---- tests and refusals
 
@@ -61,10 +62,6 @@ first_false a b h = ap (λ x. x && b) h
 pub second_false : (a b : Bool) → b ≡ false → (a && b) ≡ false
 second_false true b h = h
 second_false false b h = refl
-
-all_three : (a b c : Bool) → (a && (b && c)) ≡ ((a && b) && c)
-all_three true b c = refl
-all_three false b c = refl
 
 -- ---- answers that were made of others
 
@@ -126,9 +123,12 @@ first_alone : (a b : Bool) → b ≡ true → (a && b) ≡ a
 first_alone true b h = h
 first_alone false b h = refl
 
-covers_roll : (m : Sense) (d : Expr-F Expr Place Link) → covers m (roll-Expr d) ≡ expr_step m (map-Expr Expr Place Link Bool Cover Bool (covers m) (place_cover m) (covers_link m) d)
-unfolding covers place_cover covers_link
-covers_roll m d = fold-roll-Expr Bool Cover Bool (expr_step m) (place_step m) link_step d
+cover_roll : (m : Sense) (d : Expr-F Expr Place Link) → cover_of m (roll-Expr d) ≡ expr_step m (map-Expr Expr Place Link Cover Bool Bool (cover_of m) (covers_place m) (covers_link m) d)
+unfolding cover_of covers_place covers_link
+cover_roll m d = fold-roll-Expr Cover Bool Bool (expr_step m) (place_step m) link_step d
+
+covers_roll : (m : Sense) (d : Expr-F Expr Place Link) → covers m (roll-Expr d) ≡ (expr_step m (map-Expr Expr Place Link Cover Bool Bool (cover_of m) (covers_place m) (covers_link m) d)).covered
+covers_roll m d = ap (λ (c : Cover). c.covered) (cover_roll m d)
 
 each_mapped : {A B : Type 0} (g : B → Bool) (f : A → B) (xs : List A) → each g (map f xs) ≡ each (λ x. g (f x)) xs
 each_mapped g f [] = refl
@@ -146,7 +146,7 @@ ere_covers m e left w is = ap (covers m) (is ∙ sym (rolls-Ere left w)) ∙ cov
 pub getline_covers : (m : Sense) (e : Expr) → e ≡ tree.Getline → covers m e ≡ true
 getline_covers m e is = ap (covers m) (is ∙ sym rolls-Getline) ∙ covers_roll m expr.Getline
 
-pub of_covers : (m : Sense) (e : Expr) (p : Place) → e ≡ tree.Of p → covers m e ≡ (place_cover m p).reads
+pub of_covers : (m : Sense) (e : Expr) (p : Place) → e ≡ tree.Of p → covers m e ≡ covers_place m p
 of_covers m e p is = ap (covers m) (is ∙ sym (rolls-Of p)) ∙ covers_roll m (expr.Of p)
 
 pub group_covers : (m : Sense) (e x y : Expr) → e ≡ tree.Group x → y ≡ x → covers m e ≡ covers m y
@@ -161,19 +161,19 @@ power_covers m x y = ap (covers m) (sym (rolls-Power x y)) ∙ covers_roll m (ex
 pub chain_covers : (m : Sense) (x : Expr) (xs : List Link) → covers m (tree.Chain x xs) ≡ (covers m x && each (covers_link m) xs)
 chain_covers m x xs = ap (covers m) (sym (rolls-Chain x xs)) ∙ covers_roll m (expr.Chain x xs) ∙ ap (λ a. covers m x && a) (each_mapped (λ b. b) (covers_link m) xs)
 
-pub assign_covers : (m : Sense) (how : Assignment) (p : Place) (x : Expr) → covers m (tree.Assign how p x) ≡ (can_change (place_cover m p) && covers m x)
-assign_covers m how p x = ap (covers m) (sym (rolls-Assign how p x)) ∙ covers_roll m (expr.Assign how p x) ∙ all_three (place_cover m p).sets (place_cover m p).reads (covers m x)
+pub assign_covers : (m : Sense) (how : Assignment) (p : Place) (x : Expr) → covers m (tree.Assign how p x) ≡ (covers_place m p && covers m x)
+assign_covers m how p x = ap (covers m) (sym (rolls-Assign how p x)) ∙ covers_roll m (expr.Assign how p x)
 
 pub logic_covers : (m : Sense) (l : Logic) (xs : List Expr) → covers m (tree.Logic l xs) ≡ each (covers m) xs
-logic_covers m l xs = ap (covers m) (sym (rolls-Logic l xs)) ∙ covers_roll m (expr.Logic l xs) ∙ each_mapped (λ b. b) (covers m) xs
+logic_covers m l xs = ap (covers m) (sym (rolls-Logic l xs)) ∙ covers_roll m (expr.Logic l xs) ∙ each_mapped (λ (c : Cover). c.covered) (cover_of m) xs
 
 pub choice_covers : (m : Sense) (x y z : Expr) → covers m (tree.Choice x y z) ≡ (covers m x && (covers m y && covers m z))
 choice_covers m x y z = ap (covers m) (sym (rolls-Choice x y z)) ∙ covers_roll m (expr.Choice x y z)
 
-pub before_covers : (m : Sense) (e : Expr) (c : Change) (p : Place) → e ≡ tree.Before c p → covers m e ≡ can_change (place_cover m p)
+pub before_covers : (m : Sense) (e : Expr) (c : Change) (p : Place) → e ≡ tree.Before c p → covers m e ≡ covers_place m p
 before_covers m e c p is = ap (covers m) (is ∙ sym (rolls-Before c p)) ∙ covers_roll m (expr.Before c p)
 
-pub after_covers : (m : Sense) (e : Expr) (c : Change) (p : Place) → e ≡ tree.After c p → covers m e ≡ can_change (place_cover m p)
+pub after_covers : (m : Sense) (e : Expr) (c : Change) (p : Place) → e ≡ tree.After c p → covers m e ≡ covers_place m p
 after_covers m e c p is = ap (covers m) (is ∙ sym (rolls-After c p)) ∙ covers_roll m (expr.After c p)
 
 pub none_there : {A : Type 0} (o : Option A) → ((a : A) → o ≡ Some a → ⊥) → is_there o ≡ false
@@ -183,25 +183,112 @@ none_there (Some a) none = absurd (none a refl)
 -- a call of what the name stands for, or of nothing
 pub call_covers : (m : Sense) (n : word.Name) (w : List ℕ) (o : Option ℕ) (xs : List Expr) → w ≡ n.word → o ≡ m.function w → covers m (tree.Call n xs) ≡ (is_there o && each (covers m) xs)
 call_covers m n w o xs same found =
-    ap (covers m) (sym (rolls-Call n xs)) ∙ covers_roll m (expr.Call n xs) ∙ ap (λ b. is_there (m.function n.word) && b) (each_mapped (λ b. b) (covers m) xs)
+    ap (covers m) (sym (rolls-Call n xs)) ∙ covers_roll m (expr.Call n xs) ∙ ap (λ b. is_there (m.function n.word) && b) (each_mapped (λ (c : Cover). c.covered) (cover_of m) xs)
     ∙ ap (λ v. is_there (m.function v) && each (covers m) xs) (sym same) ∙ ap (λ v. is_there v && each (covers m) xs) (sym found)
 
--- a call of a built-in function, by its number of arguments
-pub builtin_covers : (m : Sense) (e : Expr) (f : Function) (xs ys : List Expr) → e ≡ tree.Builtin f xs → ys ≡ xs → covers m e ≡ (has_builtin f (length ys) && each (covers m) ys)
-builtin_covers m e f xs ys is all =
-    ap (covers m) (is ∙ sym (rolls-Builtin f xs)) ∙ covers_roll m (expr.Builtin f xs) ∙ ap (λ b. has_builtin f (length (map (covers m) xs)) && b) (each_mapped (λ b. b) (covers m) xs)
-    ∙ ap (λ n. has_builtin f n && each (covers m) xs) (length-map xs (covers m)) ∙ ap (λ l. has_builtin f (length l) && each (covers m) l) (sym all)
+-- a call of a built-in function, by its arguments
+builtin_covers : (m : Sense) (f : Function) (xs : List Expr) → covers m (tree.Builtin f xs) ≡ builtin_step f (map (cover_of m) xs)
+builtin_covers m f xs = ap (covers m) (sym (rolls-Builtin f xs)) ∙ covers_roll m (expr.Builtin f xs)
+
+-- two items, and three
+pub pair_of : {A : Type 0} (xs : List A) (x y : A) → 2 ≤ length xs → length xs < 3 → x ≡ get_or xs 0 x → y ≡ get_or xs 1 y → xs ≡ x ∷ y ∷ []
+pair_of [] x y some few first second = absurd (omega arith)
+pair_of (a ∷ []) x y some few first second = absurd (omega arith)
+pair_of (a ∷ b ∷ []) x y some few first second = ap (λ z. z ∷ b ∷ []) (sym first) ∙ ap (λ z. x ∷ z ∷ []) (sym second)
+pair_of (a ∷ b ∷ c ∷ xs) x y some few first second = absurd (omega arith)
+
+pub three_of : {A : Type 0} (xs : List A) (x y z : A) → 3 ≤ length xs → length xs < 4 → x ≡ get_or xs 0 x → y ≡ get_or xs 1 y → z ≡ get_or xs 2 z → xs ≡ x ∷ y ∷ z ∷ []
+three_of [] x y z some few first second third = absurd (omega arith)
+three_of (a ∷ []) x y z some few first second third = absurd (omega arith)
+three_of (a ∷ b ∷ []) x y z some few first second third = absurd (omega arith)
+three_of (a ∷ b ∷ c ∷ []) x y z some few first second third = ap (λ v. v ∷ b ∷ c ∷ []) (sym first) ∙ ap (λ v. x ∷ v ∷ c ∷ []) (sym second) ∙ ap (λ v. x ∷ y ∷ v ∷ []) (sym third)
+three_of (a ∷ b ∷ c ∷ d ∷ xs) x y z some few first second third = absurd (omega arith)
+
+-- `match` of a text and what is sought, and of any other number of arguments
+pub match_covers : (m : Sense) (xs : List Expr) (x y : Expr) → xs ≡ x ∷ y ∷ [] → covers m (tree.Builtin fun.Match xs) ≡ (covers m x && covers m y)
+match_covers m xs x y is = ap (λ l. covers m (tree.Builtin fun.Match l)) is ∙ builtin_covers m fun.Match (x ∷ y ∷ [])
+
+pub match_uncovered : (m : Sense) (xs : List Expr) → length xs ≢ 2 → covers m (tree.Builtin fun.Match xs) ≡ false
+match_uncovered m [] not = builtin_covers m fun.Match []
+match_uncovered m (x ∷ []) not = builtin_covers m fun.Match (x ∷ [])
+match_uncovered m (x ∷ y ∷ []) not = absurd (not refl)
+match_uncovered m (x ∷ y ∷ z ∷ xs) not = builtin_covers m fun.Match (x ∷ y ∷ z ∷ xs)
+
+-- `sub` and `gsub` of an expression and a replacement, with a place or without, and of any other number of arguments
+replacing : (f : Function) (extent : Extent) (es : List Cover) → extent_of f ≡ Some extent → builtin_step f es ≡ replaces es
+replacing fun.Sub extent es is = refl
+replacing fun.Gsub extent es is = refl
+replacing fun.Length extent es is = cc
+replacing fun.Index extent es is = cc
+replacing fun.Substr extent es is = cc
+replacing fun.Tolower extent es is = cc
+replacing fun.Toupper extent es is = cc
+replacing fun.Int extent es is = cc
+replacing fun.Split extent es is = cc
+replacing fun.Match extent es is = cc
+replacing fun.Sprintf extent es is = cc
+
+replace_covers : (m : Sense) (f : Function) (extent : Extent) (xs : List Expr) → extent_of f ≡ Some extent → covers m (tree.Builtin f xs) ≡ replaces (map (cover_of m) xs)
+replace_covers m f extent xs is = builtin_covers m f xs ∙ replacing f extent (map (cover_of m) xs) is
+
+pub record_covers : (m : Sense) (f : Function) (extent : Extent) (xs : List Expr) (x y : Expr) → extent_of f ≡ Some extent → xs ≡ x ∷ y ∷ [] → covers m (tree.Builtin f xs) ≡ (covers m x && covers m y)
+record_covers m f extent xs x y is two = replace_covers m f extent xs is ∙ ap (λ l. replaces (map (cover_of m) l)) two
+
+pub changed_covers : (m : Sense) (f : Function) (extent : Extent) (xs : List Expr) (x y z : Expr) → extent_of f ≡ Some extent → xs ≡ x ∷ y ∷ z ∷ [] → covers m (tree.Builtin f xs) ≡ ((covers m x && covers m y) && changes m z)
+changed_covers m f extent xs x y z is three = replace_covers m f extent xs is ∙ ap (λ l. replaces (map (cover_of m) l)) three
+
+not_so_many : (m : Sense) (xs : List Expr) → length xs ≢ 2 → length xs ≢ 3 → replaces (map (cover_of m) xs) ≡ false
+not_so_many m [] first second = refl
+not_so_many m (x ∷ []) first second = refl
+not_so_many m (x ∷ y ∷ []) first second = absurd (first refl)
+not_so_many m (x ∷ y ∷ z ∷ []) first second = absurd (second refl)
+not_so_many m (x ∷ y ∷ z ∷ v ∷ xs) first second = refl
+
+pub replace_uncovered : (m : Sense) (f : Function) (extent : Extent) (xs : List Expr) → extent_of f ≡ Some extent → length xs ≢ 2 → length xs ≢ 3 → covers m (tree.Builtin f xs) ≡ false
+replace_uncovered m f extent xs is first second = replace_covers m f extent xs is ∙ not_so_many m xs first second
+
+-- any other function is one of its values
+applied : (f : Function) (es : List Cover) → (f ≡ fun.Match → ⊥) → (f ≡ fun.Sub → ⊥) → (f ≡ fun.Gsub → ⊥) → builtin_step f es ≡ (has_builtin f (length es) && all_covered es)
+applied fun.Match es match_not sub_not gsub_not = absurd (match_not refl)
+applied fun.Sub es match_not sub_not gsub_not = absurd (sub_not refl)
+applied fun.Gsub es match_not sub_not gsub_not = absurd (gsub_not refl)
+applied _ es match_not sub_not gsub_not = refl
+
+pub applied_covers : (m : Sense) (f : Function) (xs : List Expr) → (f ≡ fun.Match → ⊥) → (f ≡ fun.Sub → ⊥) → (f ≡ fun.Gsub → ⊥) → covers m (tree.Builtin f xs) ≡ (has_builtin f (length xs) && each (covers m) xs)
+applied_covers m f xs match_not sub_not gsub_not =
+    builtin_covers m f xs ∙ applied f (map (cover_of m) xs) match_not sub_not gsub_not
+    ∙ ap (λ n. has_builtin f n && all_covered (map (cover_of m) xs)) (length-map xs (cover_of m)) ∙ ap (λ b. has_builtin f (length xs) && b) (each_mapped (λ (c : Cover). c.covered) (cover_of m) xs)
 
 -- of covered arguments
-pub builtin_judged : {A : Type 0} (r : Result A ParseError) (m : Sense) (e : Expr) (f : Function) (xs ys : List Expr) (n left : ℕ)
-    → e ≡ tree.Builtin f xs → ys ≡ xs → each (covers m) ys ≡ true → n ≡ length ys → Judges (unless (has_builtin f n) left) r → Judges (unless (covers m e) left) r
-builtin_judged r m e f xs ys n left is all so count h =
-    let same : has_builtin f n ≡ covers m e = ap (has_builtin f) count ∙ sym (first_alone (has_builtin f (length ys)) (each (covers m) ys) so) ∙ sym (builtin_covers m e f xs ys is all) in
+pub applied_judged : {A : Type 0} (r : Result A ParseError) (m : Sense) (f : Function) (xs : List Expr) (n left : ℕ)
+    → (f ≡ fun.Match → ⊥) → (f ≡ fun.Sub → ⊥) → (f ≡ fun.Gsub → ⊥) → each (covers m) xs ≡ true → n ≡ length xs → Judges (unless (has_builtin f n) left) r → Judges (unless (covers m (tree.Builtin f xs)) left) r
+applied_judged r m f xs n left match_not sub_not gsub_not so count h =
+    let same : has_builtin f n ≡ covers m (tree.Builtin f xs) = ap (has_builtin f) count ∙ sym (first_alone (has_builtin f (length xs)) (each (covers m) xs) so) ∙ sym (applied_covers m f xs match_not sub_not gsub_not) in
     subst (λ (b : Bool). Judges (unless b left) r) same h
 
-covers_out : (m : Sense) (e : Expr) → covers m e ≡ expr_step m (map-Expr Expr Place Link Bool Cover Bool (covers m) (place_cover m) (covers_link m) (out-Expr e))
-unfolding covers place_cover covers_link
-covers_out m e = fold_out-Expr Bool Cover Bool (expr_step m) (place_step m) link_step e
+cover_out : (m : Sense) (e : Expr) → cover_of m e ≡ expr_step m (map-Expr Expr Place Link Cover Bool Bool (cover_of m) (covers_place m) (covers_link m) (out-Expr e))
+unfolding cover_of covers_place covers_link
+cover_out m e = fold_out-Expr Cover Bool Bool (expr_step m) (place_step m) link_step e
+
+covers_out : (m : Sense) (e : Expr) → covers m e ≡ (expr_step m (map-Expr Expr Place Link Cover Bool Bool (cover_of m) (covers_place m) (covers_link m) (out-Expr e))).covered
+covers_out m e = ap (λ (c : Cover). c.covered) (cover_out m e)
+
+-- what is a place
+is_place : (m : Sense) (e : Expr) (p : Place) → e ≡ tree.Of p → (cover_of m e).place ≡ true
+is_place m e p is = ap (λ x. (cover_of m x).place) (is ∙ sym (rolls-Of p)) ∙ ap (λ (c : Cover). c.place) (cover_roll m (expr.Of p))
+
+no_place : (m : Sense) (e : Expr) → ((p : Place) → e ≡ tree.Of p → ⊥) → (cover_of m e).place ≡ false
+no_place m e not = ap (λ (c : Cover). c.place) (cover_out m e) ∙ go (out-Expr e) (sym (roll-out-Expr e))
+  where
+    go : (d : Expr-F Expr Place Link) → e ≡ roll-Expr d → (expr_step m (map-Expr Expr Place Link Cover Bool Bool (cover_of m) (covers_place m) (covers_link m) d)).place ≡ false
+    go (expr.Of p) q = absurd (not p (q ∙ rolls-Of p))
+    go _ q = refl
+
+pub of_changes : (m : Sense) (e : Expr) (p : Place) → e ≡ tree.Of p → changes m e ≡ covers_place m p
+of_changes m e p is = first_alone (covers m e) (cover_of m e).place (is_place m e p is) ∙ of_covers m e p is
+
+pub no_change : (m : Sense) (e : Expr) → ((p : Place) → e ≡ tree.Of p → ⊥) → changes m e ≡ false
+no_change m e not = second_false (covers m e) (cover_of m e).place (no_place m e not)
 
 -- no other expression is covered
 pub other_covers : (m : Sense) (e : Expr) → ((n : ℤ) → e ≡ tree.Number n → ⊥) → ((w : List ℕ) → e ≡ tree.Text w → ⊥) → ((left : ℕ) (w : List ℕ) → e ≡ tree.Ere left w → ⊥) → (e ≡ tree.Getline → ⊥) → ((p : Place) → e ≡ tree.Of p → ⊥) → ((x : Expr) → e ≡ tree.Group x → ⊥)
@@ -209,7 +296,7 @@ pub other_covers : (m : Sense) (e : Expr) → ((n : ℤ) → e ≡ tree.Number n
     → ((how : Assignment) (p : Place) (x : Expr) → e ≡ tree.Assign how p x → ⊥) → ((n : word.Name) (xs : List Expr) → e ≡ tree.Call n xs → ⊥) → ((f : Function) (xs : List Expr) → e ≡ tree.Builtin f xs → ⊥) → covers m e ≡ false
 other_covers m e number text ere getline place group signed power chain logic choice before after assign call builtin = covers_out m e ∙ go (out-Expr e) (sym (roll-out-Expr e))
   where
-    go : (d : Expr-F Expr Place Link) → e ≡ roll-Expr d → expr_step m (map-Expr Expr Place Link Bool Cover Bool (covers m) (place_cover m) (covers_link m) d) ≡ false
+    go : (d : Expr-F Expr Place Link) → e ≡ roll-Expr d → (expr_step m (map-Expr Expr Place Link Cover Bool Bool (cover_of m) (covers_place m) (covers_link m) d)).covered ≡ false
     go (expr.Number n) q = absurd (number n (q ∙ rolls-Number n))
     go (expr.Text w) q = absurd (text w (q ∙ rolls-Text w))
     go (expr.Ere left w) q = absurd (ere left w (q ∙ rolls-Ere left w))
@@ -230,60 +317,25 @@ other_covers m e number text ere getline place group signed power chain logic ch
 
 -- ---- places
 
-place_roll : (m : Sense) (d : Place-F Expr Place Link) → place_cover m (roll-Place d) ≡ place_step m (map-Place Expr Place Link Bool Cover Bool (covers m) (place_cover m) (covers_link m) d)
-unfolding covers place_cover covers_link
-place_roll m d = fold-roll-Place Bool Cover Bool (expr_step m) (place_step m) link_step d
-
-abbrev named : Sense → word.Name → Cover
-named m n = record { reads = is_there (m.place n.word); sets = is_there (assigned_to (m.place n.word)) }
-
-pub name_cover : (m : Sense) (p : Place) (n : word.Name) → p ≡ spot.Name n → place_cover m p ≡ named m n
-name_cover m p n is = ap (place_cover m) (is ∙ sym (rolls-Name n)) ∙ place_roll m (expr.Name n)
+place_roll : (m : Sense) (d : Place-F Expr Place Link) → covers_place m (roll-Place d) ≡ place_step m (map-Place Expr Place Link Cover Bool Bool (cover_of m) (covers_place m) (covers_link m) d)
+unfolding cover_of covers_place covers_link
+place_roll m d = fold-roll-Place Cover Bool Bool (expr_step m) (place_step m) link_step d
 
 -- what a name stands for, or that it stands for nothing
-pub name_reads : (m : Sense) (p : Place) (n : word.Name) (w : List ℕ) (o : Option spot_place.Place) → p ≡ spot.Name n → w ≡ n.word → o ≡ m.place w → (place_cover m p).reads ≡ is_there o
-name_reads m p n w o is same found = ap (λ k. k.reads) (name_cover m p n is) ∙ ap (λ v. is_there (m.place v)) (sym same) ∙ ap is_there (sym found)
+pub name_covers : (m : Sense) (p : Place) (n : word.Name) (w : List ℕ) (o : Option spot_place.Place) → p ≡ spot.Name n → w ≡ n.word → o ≡ m.place w → covers_place m p ≡ is_there o
+name_covers m p n w o is same found = ap (covers_place m) (is ∙ sym (rolls-Name n)) ∙ place_roll m (expr.Name n) ∙ ap (λ v. is_there (m.place v)) (sym same) ∙ ap is_there (sym found)
 
--- what can be assigned can be read
-change_by : (o : Option spot_place.Place) → (is_there (assigned_to o) && is_there o) ≡ is_there (assigned_to o)
-change_by None = refl
-change_by (Some (spot_variants.Global x)) = refl
-change_by (Some (spot_variants.Local i)) = refl
-change_by (Some spot_variants.FieldCount) = refl
-change_by (Some (spot_variants.Field' p e)) = refl
+pub field_covers : (m : Sense) (p : Place) (x y : Expr) → p ≡ spot.Field x → y ≡ x → covers_place m p ≡ covers m y
+field_covers m p x y is same = ap (covers_place m) (is ∙ sym (rolls-Field x)) ∙ place_roll m (expr.Field x) ∙ ap (covers m) (sym same)
 
--- what a name that is assigned stands for, or that it stands for nothing
-pub target_changes : (m : Sense) (p : Place) (n : word.Name) (w : List ℕ) (o : Option Destination) → p ≡ spot.Name n → w ≡ n.word → o ≡ assigned_to (m.place w) → can_change (place_cover m p) ≡ is_there o
-target_changes m p n w o is same found =
-    ap can_change (name_cover m p n is) ∙ change_by (m.place n.word) ∙ ap (λ v. is_there (assigned_to (m.place v))) (sym same) ∙ ap is_there (sym found)
-
-abbrev numbered : Bool → Cover
-numbered b = record { reads = b; sets = false }
-
-pub field_cover : (m : Sense) (p : Place) (x y : Expr) → p ≡ spot.Field x → y ≡ x → place_cover m p ≡ numbered (covers m y)
-field_cover m p x y is same = ap (place_cover m) (is ∙ sym (rolls-Field x)) ∙ place_roll m (expr.Field x) ∙ ap (λ z. numbered (covers m z)) (sym same)
-
-pub element_cover : (m : Sense) (p : Place) (n : word.Name) (es : List Expr) → p ≡ spot.Element n es → place_cover m p ≡ numbered false
-element_cover m p n es is = ap (place_cover m) (is ∙ sym (rolls-Element n es)) ∙ place_roll m (expr.Element n es)
-
-place_out : (m : Sense) (p : Place) → place_cover m p ≡ place_step m (map-Place Expr Place Link Bool Cover Bool (covers m) (place_cover m) (covers_link m) (out-Place p))
-unfolding covers place_cover covers_link
-place_out m p = fold_out-Place Bool Cover Bool (expr_step m) (place_step m) link_step p
-
--- nothing but a name can be assigned
-pub other_cover : (m : Sense) (p : Place) → ((n : word.Name) → p ≡ spot.Name n → ⊥) → (place_cover m p).sets ≡ false
-other_cover m p name = ap (λ c. c.sets) (place_out m p) ∙ go (out-Place p) (sym (roll-out-Place p))
-  where
-    go : (d : Place-F Expr Place Link) → p ≡ roll-Place d → (place_step m (map-Place Expr Place Link Bool Cover Bool (covers m) (place_cover m) (covers_link m) d)).sets ≡ false
-    go (expr.Name n) q = absurd (name n (q ∙ rolls-Name n))
-    go (expr.Element n es) q = refl
-    go (expr.Field e) q = refl
+pub element_covers : (m : Sense) (p : Place) (n : word.Name) (es : List Expr) → p ≡ spot.Element n es → covers_place m p ≡ false
+element_covers m p n es is = ap (covers_place m) (is ∙ sym (rolls-Element n es)) ∙ place_roll m (expr.Element n es)
 
 -- ---- links
 
 pub link_covers : (m : Sense) (l : Link) → covers_link m l ≡ covers m l.operand
-unfolding covers place_cover covers_link
-link_covers m l = fold_out-Link Bool Cover Bool (expr_step m) (place_step m) link_step l
+unfolding cover_of covers_place covers_link
+link_covers m l = fold_out-Link Cover Bool Bool (expr_step m) (place_step m) link_step l
 
 pub none_uncovered : (m : Sense) (es : List Expr) (left : ℕ) → length es ≡ 0 → unless (each (covers m) es) left ≡ None
 none_uncovered m [] left h = refl

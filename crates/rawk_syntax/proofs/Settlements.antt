@@ -6,10 +6,12 @@ use Rattle.std.proofs.lemmas.Result.{IfOk-at_ok}
 use Rattle.std.specs.Global.{Box, Vec}
 use Rattle.rawk_value.specs.declared.operator.Arithmetic.TheVariants.{Pow}
 use Rattle.rawk_parsing.specs.declared.parse_error.ParseError.{ParseError}
+use Rattle.rawk_words.specs.declared.operator.Extent.{Extent}
 use Rattle.rawk_words.specs.declared.operator.Sign.{Sign}
 use Rattle.rawk_words.specs.declared.operator.Logic.{Logic}
 use Rattle.rawk_parsing.specs.declared.tree.Change.{Change}
 use Rattle.rawk_parsing.specs.declared.tree.Function.{Function}
+use Rattle.rawk_parsing.specs.declared.tree.Function.TheVariants as fun
 use Rattle.rawk_parsing.specs.declared.tree.Name as word
 use Rattle.rawk_parsing.specs.declared.tree.Expr as parsed
 use Rattle.rawk_parsing.specs.declared.tree.Expr.TheVariants as from
@@ -24,14 +26,13 @@ use Rattle.rawk_tree.specs.declared.tree.Joiner.TheVariants as joiner
 use Rattle.rawk_tree.specs.declared.tree.Unary.TheVariants as unary
 use Rattle.rawk_tree.specs.declared.tree.Link.{Link}
 use Rattle.rawk_tree.specs.declared.tree.Link.TheVariants as tree_link
-use Rattle.rawk_tree.specs.declared.tree.Destination.{Destination}
 use Rattle.rawk_tree.specs.declared.tree.Place.{Place}
 use Rattle.rawk_tree.specs.declared.tree.Place.TheVariants as tree_place
 use Rattle.rawk_builtin_trees.specs.Calls.{Applies}
-use Rattle.rawk_syntax.specs.Covered.{Judges, unless, place_cover}
+use Rattle.rawk_syntax.specs.Covered.{Judges, unless}
 use Rattle.rawk_syntax.specs.Settled as spec
-use Rattle.rawk_syntax.specs.Meant.{Sense, assigned_to}
-use Rattle.rawk_syntax.specs.Settled.{AnExpr, APlace, ASought, ATarget, IsMatchOf, IsRecord, SomeLinks, SomeTests, SomeExprs, Settles, joiner_of, operator_of, right_of}
+use Rattle.rawk_syntax.specs.Meant.{Sense}
+use Rattle.rawk_syntax.specs.Settled.{AnExpr, APlace, ASought, IsMatchOf, IsRecord, SomeLinks, SomeTests, SomeExprs, Settles, joiner_of, operator_of, right_of, extent_of}
 
 pub number_settles : (m : Sense) {E : Type 0} (r : Result Expr E) (e : parsed.Expr) (n : ℤ) → e ≡ from.Number n → r ≡ Ok (tree.Number n) → IfOk r (λ s. Settles m (AnExpr e s))
 number_settles m r e n is made = rw (made, is) spec.number
@@ -66,15 +67,15 @@ pub power_settles : (m : Sense) (x y : parsed.Expr) (r : Result Expr ParseError)
 power_settles m x y (Ok t) base old powers none bare one h g = spec.power base powers h g (one ∙ ap (λ l. l ++ tree_link.Combine (joiner.Arithmetic Pow) t ∷ []) bare)
 power_settles m x y (Err e) base old powers none bare one h g = cc
 
-pub before_settles : (m : Sense) (e : parsed.Expr) (c : Change) (p : spot.Place) (r : Result Destination ParseError) (q : Result Expr ParseError)
+pub before_settles : (m : Sense) (e : parsed.Expr) (c : Change) (p : spot.Place) (r : Result Place ParseError) (q : Result Expr ParseError)
     → e ≡ from.Before c p → Judges (result_err r) q → IfOk q (λ s. IfOk r (λ t. (one : Box Expr) × (one.value ≡ tree.Number (pos 1)) × (s ≡ tree.Update (operator_of c) t one)))
-    → IfOk r (λ t. Settles m (ATarget p t)) → IfOk q (λ s. Settles m (AnExpr e s))
+    → IfOk r (λ t. Settles m (APlace p t)) → IfOk q (λ s. Settles m (AnExpr e s))
 before_settles m e c p (Ok t) (Ok s) is judged made h = rw (is, made.2) (spec.before made.0 h made.1)
 before_settles m e c p (Err f) (Ok s) is judged made h = cc
 before_settles m e c p r (Err f) is judged made h = tt
 
-pub after_settles : (m : Sense) {E : Type 0} (e : parsed.Expr) (c : Change) (p : spot.Place) (r : Result Destination E) (q : Result Expr E)
-    → e ≡ from.After c p → q ≡ result_map_both (tree.After (operator_of c)) (λ z. z) r → IfOk r (λ t. Settles m (ATarget p t)) → IfOk q (λ s. Settles m (AnExpr e s))
+pub after_settles : (m : Sense) {E : Type 0} (e : parsed.Expr) (c : Change) (p : spot.Place) (r : Result Place E) (q : Result Expr E)
+    → e ≡ from.After c p → q ≡ result_map_both (tree.After (operator_of c)) (λ z. z) r → IfOk r (λ t. Settles m (APlace p t)) → IfOk q (λ s. Settles m (AnExpr e s))
 after_settles m e c p (Ok t) q is made h = rw (made, is) (spec.after h)
 after_settles m e c p (Err f) q is made h = rw made tt
 
@@ -85,10 +86,6 @@ test_settles m l xs i x y ys zs (Ok s) h held same none more g f' =
     let t : take (i + 1) xs ≡ take i xs ++ x ∷ [] = take_more xs i x h ∙ ap (λ y. take i xs ++ y ∷ []) (sym held) in
     rw (t, more) (spec.a_test g f)
 test_settles m l xs i x y ys zs (Err e) h held same none more g f' = cc
-
--- what a name that is assigned stands for
-pub target_settles : (m : Sense) (p : spot.Place) (n : word.Name) (v : List ℕ) (x : Destination) → p ≡ from_place.Name n → v ≡ n.word → Some x ≡ assigned_to (m.place v) → Settles m (ATarget p x)
-target_settles m p n v x is same h = rw is (spec.target (ap (λ w. assigned_to (m.place w)) (sym same) ∙ sym h))
 
 pub name_settles : (m : Sense) (p : spot.Place) (n : word.Name) (v : List ℕ) (s : Place) → p ≡ from_place.Name n → v ≡ n.word → Some s ≡ m.place v → Settles m (APlace p s)
 name_settles m p n v s is same h = rw is (spec.name (ap m.place (sym same) ∙ sym h))
@@ -152,12 +149,24 @@ pub same_count : (m : Sense) {es : List parsed.Expr} {ss : List Expr} → Settle
 same_count m spec.no_exprs = refl
 same_count m (spec.an_expr {es = es} {ss = ss} {e = e} {s = s} h g) = length-append ss (s ∷ []) ∙ ap (λ n. n + 1) (same_count m h) ∙ sym (length-append es (e ∷ []))
 
-pub builtin_settles : (m : Sense) {E : Type 0} (r : Result Expr E) (e : parsed.Expr) (f : Function) (xs ys : List parsed.Expr) (ss : List Expr)
-    → e ≡ from.Builtin f xs → ys ≡ xs → Settles m (SomeExprs ys ss) → IfOk r (λ s. Applies f ss s) → IfOk r (λ s. Settles m (AnExpr e s))
-builtin_settles m (Ok s) e f xs ys ss is all h applies =
-    let g : Settles m (SomeExprs xs ss) = subst (λ (zs : List parsed.Expr). Settles m (SomeExprs zs ss)) all h in
-    rw is (spec.builtin g applies)
-builtin_settles m (Err d) e f xs ys ss is all h applies = tt
+pub builtin_settles : (m : Sense) {E : Type 0} (r : Result Expr E) (f : Function) (xs : List parsed.Expr) (ss : List Expr)
+    → Settles m (SomeExprs xs ss) → IfOk r (λ s. Applies f ss s) → IfOk r (λ s. Settles m (AnExpr (from.Builtin f xs) s))
+builtin_settles m (Ok s) f xs ss h applies = spec.builtin h applies
+builtin_settles m (Err d) f xs ss h applies = tt
+
+-- a text and what is sought in it
+pub found_settles : (m : Sense) (xs : List parsed.Expr) (x y : parsed.Expr) (s t : Box Expr) (r : Result Expr ParseError)
+    → xs ≡ x ∷ y ∷ [] → Settles m (AnExpr x s.value) → r ≡ Ok t.value → IfOk r (λ u. Settles m (ASought y u)) → Settles m (AnExpr (from.Builtin fun.Match xs) (tree.Match s t))
+found_settles m xs x y s t r is h made g = rw is (spec.found s t h (IfOk-at_ok (λ u. Settles m (ASought y u)) made g))
+
+-- a replacement of matches, in a place or in the record
+pub replaced_settles : (m : Sense) (f : Function) (extent : Extent) (xs : List parsed.Expr) (x y z : parsed.Expr) (s t : Box Expr) (q : Place)
+    → extent_of f ≡ Some extent → xs ≡ x ∷ y ∷ z ∷ [] → Settles m (ASought x s.value) → Settles m (AnExpr y t.value) → (p : spot.Place) × (z ≡ from.Of p) × Settles m (APlace p q) → Settles m (AnExpr (from.Builtin f xs) (tree.Replace extent s t q))
+replaced_settles m f extent xs x y z s t q which is h g place = rw (is, place.1) (spec.replaced s t which h g place.2)
+
+pub record_settles : (m : Sense) (f : Function) (extent : Extent) (xs : List parsed.Expr) (x y : parsed.Expr) (s t : Box Expr) (q : Place)
+    → extent_of f ≡ Some extent → xs ≡ x ∷ y ∷ [] → Settles m (ASought x s.value) → Settles m (AnExpr y t.value) → spec.IsRecordPlace q → Settles m (AnExpr (from.Builtin f xs) (tree.Replace extent s t q))
+record_settles m f extent xs x y s t q which is h g whole = rw is (spec.replaced_record s t which h g whole)
 
 pub all_printed : (m : Sense) (es : List parsed.Expr) (ss : List Expr) → length es ≢ 0 → Settles m (SomeExprs es ss) → spec.Prints m es ss
 all_printed m [] ss h g = absurd (h refl)

@@ -6,6 +6,8 @@ use Rattle.rawk_parsing.specs.declared.parse_error.ParseError.TheVariants.{OutOf
 use Rattle.rawk_parsing.specs.declared.tree.Expr.{Expr, fold-Expr}
 use Rattle.rawk_parsing.specs.declared.tree.Expr.TheOpen as expr
 use Rattle.rawk_parsing.specs.declared.tree.Expr.TheOpen.{Expr-F, Place-F, Link-F}
+use Rattle.rawk_parsing.specs.declared.tree.Function.{Function}
+use Rattle.rawk_parsing.specs.declared.tree.Function.TheVariants as fun
 use Rattle.rawk_parsing.specs.declared.tree.Link.{Link, fold-Link}
 use Rattle.rawk_parsing.specs.declared.tree.Place.{Place, fold-Place}
 use Rattle.rawk_grammar.specs.declared.tree.Act.{Act}
@@ -26,7 +28,7 @@ use Rattle.rawk_grammar.specs.declared.tree.Action.TheVariants as does
 use Rattle.rawk_grammar.specs.declared.tree.Item.{Item}
 use Rattle.rawk_grammar.specs.declared.tree.Item.TheVariants as part
 use Rattle.rawk_builtin_trees.specs.Calls.{has_builtin}
-use Rattle.rawk_syntax.specs.Meant.{Sense, assigned_to, is_there}
+use Rattle.rawk_syntax.specs.Meant.{Sense, is_there}
 
 -- an answer of what is refused so, or not: memory may also be refused
 abbrev pub Judges : {A : Type 0} → Option ParseError → Result A ParseError → Type 0
@@ -59,53 +61,83 @@ each holds (x ∷ xs) = holds x && each holds xs
 
 -- ---- expressions, from what their parts are
 
--- whether the settled tree has a place, and whether it may be assigned
+-- whether the settled tree has an expression, and whether it is a place
 pub record Cover : Type 0 where
-  pub reads : Bool
-  pub sets : Bool
+  pub covered : Bool
+  pub place : Bool
 
--- whether the settled tree has a place that `++`, `--` or an assignment changes
+abbrev pub plain : Bool → Cover
+plain b = record { covered = b; place = false }
+
+abbrev pub all_covered : List Cover → Bool
+all_covered es = each (λ e. e.covered) es
+
+-- a place that is covered
 abbrev pub can_change : Cover → Bool
-can_change p = p.sets && p.reads
+can_change e = e.covered && e.place
+
+-- a text, and what is sought in it
+abbrev pub finds : List Cover → Bool
+finds (e ∷ f ∷ []) = e.covered && f.covered
+finds _ = false
+
+-- an expression and a replacement, and a place or none
+abbrev pub replaces : List Cover → Bool
+replaces (e ∷ f ∷ []) = e.covered && f.covered
+replaces (e ∷ f ∷ p ∷ []) = (e.covered && f.covered) && can_change p
+replaces _ = false
+
+-- whether the settled tree has a call of a built-in function
+abbrev pub builtin_step : Function → List Cover → Bool
+builtin_step fun.Match es = finds es
+builtin_step fun.Sub es = replaces es
+builtin_step fun.Gsub es = replaces es
+builtin_step f es = has_builtin f (length es) && all_covered es
 
 -- by what names stand for; a call is one of a function of the program
-abbrev pub expr_step : Sense → Expr-F Bool Cover Bool → Bool
-expr_step means (expr.Number n) = true
-expr_step means (expr.Text w) = true
-expr_step means (expr.Ere left w) = true
-expr_step means expr.Getline = true
-expr_step means (expr.Of p) = p.reads
-expr_step means (expr.Group e) = e
-expr_step means (expr.Signed s e) = e
-expr_step means (expr.Power e f) = e && f
-expr_step means (expr.Chain e ls) = e && each (λ b. b) ls
-expr_step means (expr.Logic l es) = each (λ b. b) es
-expr_step means (expr.Choice e f g) = e && (f && g)
-expr_step means (expr.Before c p) = can_change p
-expr_step means (expr.After c p) = can_change p
-expr_step means (expr.Assign how p e) = p.sets && (p.reads && e)
-expr_step means (expr.Call n es) = is_there (means.function n.word) && each (λ b. b) es
-expr_step means (expr.Builtin f es) = has_builtin f (length es) && each (λ b. b) es
-expr_step means _ = false
+abbrev pub expr_step : Sense → Expr-F Cover Bool Bool → Cover
+expr_step means (expr.Number n) = plain true
+expr_step means (expr.Text w) = plain true
+expr_step means (expr.Ere left w) = plain true
+expr_step means expr.Getline = plain true
+expr_step means (expr.Of p) = record { covered = p; place = true }
+expr_step means (expr.Group e) = plain e.covered
+expr_step means (expr.Signed s e) = plain e.covered
+expr_step means (expr.Power e f) = plain (e.covered && f.covered)
+expr_step means (expr.Chain e ls) = plain (e.covered && each (λ b. b) ls)
+expr_step means (expr.Logic l es) = plain (all_covered es)
+expr_step means (expr.Choice e f g) = plain (e.covered && (f.covered && g.covered))
+expr_step means (expr.Before c p) = plain p
+expr_step means (expr.After c p) = plain p
+expr_step means (expr.Assign how p e) = plain (p && e.covered)
+expr_step means (expr.Call n es) = plain (is_there (means.function n.word) && all_covered es)
+expr_step means (expr.Builtin f es) = plain (builtin_step f es)
+expr_step means _ = plain false
 
--- what can be assigned is a name of a variable
-abbrev pub place_step : Sense → Place-F Bool Cover Bool → Cover
-place_step means (expr.Name n) = record { reads = is_there (means.place n.word); sets = is_there (assigned_to (means.place n.word)) }
-place_step means (expr.Field e) = record { reads = e; sets = false }
-place_step means (expr.Element n es) = record { reads = false; sets = false }
+abbrev pub place_step : Sense → Place-F Cover Bool Bool → Bool
+place_step means (expr.Name n) = is_there (means.place n.word)
+place_step means (expr.Field e) = e.covered
+place_step means (expr.Element n es) = false
 
-abbrev pub link_step : Link-F Bool Cover Bool → Bool
-link_step l = l.operand
+abbrev pub link_step : Link-F Cover Bool Bool → Bool
+link_step l = l.operand.covered
 
--- whether the settled tree has the expression
-unfoldable pub covers : Sense → Expr → Bool
-covers means e = fold-Expr Bool Cover Bool (expr_step means) (place_step means) link_step e
+-- what the settled tree has of the expression
+unfoldable pub cover_of : Sense → Expr → Cover
+cover_of means e = fold-Expr Cover Bool Bool (expr_step means) (place_step means) link_step e
 
-unfoldable pub place_cover : Sense → Place → Cover
-place_cover means p = fold-Place Bool Cover Bool (expr_step means) (place_step means) link_step p
+abbrev pub covers : Sense → Expr → Bool
+covers means e = (cover_of means e).covered
+
+-- whether it is a place that may be changed
+abbrev pub changes : Sense → Expr → Bool
+changes means e = can_change (cover_of means e)
+
+unfoldable pub covers_place : Sense → Place → Bool
+covers_place means p = fold-Place Cover Bool Bool (expr_step means) (place_step means) link_step p
 
 unfoldable pub covers_link : Sense → Link → Bool
-covers_link means l = fold-Link Bool Cover Bool (expr_step means) (place_step means) link_step l
+covers_link means l = fold-Link Cover Bool Bool (expr_step means) (place_step means) link_step l
 
 -- ---- statements, from what their parts are
 

@@ -9,8 +9,6 @@ use Rattle.rawk_names.specs.declared.usage.Signature.{Signature}
 use Rattle.rawk_names.specs.Named.{Known, known, meaning_of, variable_of, own_globals}
 use Rattle.rawk_names.specs.Table.{place_of}
 use Rattle.rawk_syntax.specs.declared.scope.Scope.{Scope}
-use Rattle.rawk_tree.specs.declared.tree.Destination.{Destination}
-use Rattle.rawk_tree.specs.declared.tree.Destination.TheVariants as destination
 use Rattle.rawk_tree.specs.declared.tree.Place.{Place}
 use Rattle.rawk_tree.specs.declared.tree.Place.TheVariants as place
 
@@ -49,14 +47,6 @@ sense names scope = record { place = λ word. place_at names scope (meaning_of n
 
 abbrev pub sense_of : Scope → Sense
 sense_of s = sense (known s.names.now) s.number
-
--- the variable that a place is, which can be assigned
-abbrev pub assigned_to : Option Place → Option Destination
-assigned_to None = None
-assigned_to (Some (place.Global x)) = Some (destination.Global x)
-assigned_to (Some (place.Local i)) = Some (destination.Local i)
-assigned_to (Some place.FieldCount) = None
-assigned_to (Some (place.Field' p e)) = None
 
 abbrev pub is_there : {A : Type 0} → Option A → Bool
 is_there None = false

@@ -1,17 +1,20 @@
 -- How the settled tree of an expression comes from the parser's.
-use Rattle.std.specs.Prelude.{◌≡◌, ℕ, ℤ, pos, true, List, [], ◌∷◌, ◌++◌, Some}
+use Rattle.std.specs.Prelude.{◌≡◌, ℕ, ℤ, pos, true, List, [], ◌∷◌, ◌++◌, Option, None, Some}
 use Rattle.std.specs.Global.{Box, Vec}
 use Rattle.rawk_value.specs.declared.operator.Arithmetic.{Arithmetic}
 use Rattle.rawk_value.specs.declared.operator.Arithmetic.TheVariants.{Add, Sub, Pow}
 use Rattle.rawk_parsing.specs.declared.tree.Assignment.TheVariants as setting
 use Rattle.rawk_parsing.specs.declared.tree.Operator.{Operator}
 use Rattle.rawk_parsing.specs.declared.tree.Operator.TheVariants as op
+use Rattle.rawk_words.specs.declared.operator.Extent.{Extent}
+use Rattle.rawk_words.specs.declared.operator.Extent.TheVariants as extent
 use Rattle.rawk_words.specs.declared.operator.Sign.{Sign}
 use Rattle.rawk_words.specs.declared.operator.Logic.{Logic}
 use Rattle.rawk_words.specs.declared.operator.Logic.TheVariants as logic
 use Rattle.rawk_parsing.specs.declared.tree.Change.{Change}
 use Rattle.rawk_parsing.specs.declared.tree.Change.TheVariants as change
 use Rattle.rawk_parsing.specs.declared.tree.Function.{Function}
+use Rattle.rawk_parsing.specs.declared.tree.Function.TheVariants as fun
 use Rattle.rawk_parsing.specs.declared.tree.Name as word
 use Rattle.rawk_parsing.specs.declared.tree.Expr as parsed
 use Rattle.rawk_parsing.specs.declared.tree.Expr.TheVariants as from
@@ -26,17 +29,15 @@ use Rattle.rawk_tree.specs.declared.tree.Joiner.TheVariants as joiner
 use Rattle.rawk_tree.specs.declared.tree.Unary.TheVariants as unary
 use Rattle.rawk_tree.specs.declared.tree.Link.{Link}
 use Rattle.rawk_tree.specs.declared.tree.Link.TheVariants as tree_link
-use Rattle.rawk_tree.specs.declared.tree.Destination.{Destination}
 use Rattle.rawk_tree.specs.declared.tree.Place.{Place}
 use Rattle.rawk_tree.specs.declared.tree.Place.TheVariants as tree_place
 use Rattle.rawk_builtin_trees.specs.Calls.{Applies}
-use Rattle.rawk_syntax.specs.Meant.{Sense, assigned_to}
+use Rattle.rawk_syntax.specs.Meant.{Sense}
 
 -- a part of the parser's tree, and what it is settled as
 pub data Pair : Type 0 where
   AnExpr : parsed.Expr → Expr → Pair
   APlace : spot.Place → Place → Pair
-  ATarget : spot.Place → Destination → Pair
   -- a text that is sought in others
   ASought : parsed.Expr → Expr → Pair
   SomeLinks : List join.Link → List Link → Pair
@@ -57,11 +58,22 @@ right_of joiner.Matches e s = ASought e s
 right_of joiner.NotMatches e s = ASought e s
 right_of j e s = AnExpr e s
 
--- `$0`
-pub record IsRecord (e : Expr) : Type 0 where
+-- `$0`, as a place and as its value
+pub record IsRecordPlace (q : Place) : Type 0 where
   pub number : Box Expr
   pub zero : number.value ≡ tree.Number (pos 0)
-  pub is : e ≡ tree.Read (tree_place.Field number)
+  pub is : q ≡ tree_place.Field number
+
+pub record IsRecord (e : Expr) : Type 0 where
+  pub place : Place
+  pub whole : IsRecordPlace place
+  pub is : e ≡ tree.Read place
+
+-- which matches a function replaces, if it does
+abbrev pub extent_of : Function → Option Extent
+extent_of fun.Sub = Some extent.First
+extent_of fun.Gsub = Some extent.All
+extent_of _ = None
 
 -- whether `$0` has a match of a regular expression (POSIX awk, Regular Expressions)
 pub record IsMatchOf (w : List ℕ) (e : Expr) : Type 0 where
@@ -105,17 +117,23 @@ pub data Settles (means : Sense) : Pair → Type 0 where
   choice : {e f g : parsed.Expr} (s t u : Box Expr)
       → Settles means (AnExpr e s.value) → Settles means (AnExpr f t.value) → Settles means (AnExpr g u.value) → Settles means (AnExpr (from.Choice e f g) (tree.Choice s t u))
   -- `++` and `--` before a place are an assignment with 1
-  before : {c : Change} {p : spot.Place} {x : Destination} (one : Box Expr)
-      → Settles means (ATarget p x) → one.value ≡ tree.Number (pos 1) → Settles means (AnExpr (from.Before c p) (tree.Update (operator_of c) x one))
-  after : {c : Change} {p : spot.Place} {x : Destination} → Settles means (ATarget p x) → Settles means (AnExpr (from.After c p) (tree.After (operator_of c) x))
-  assign : {p : spot.Place} {x : Destination} {e : parsed.Expr} (s : Box Expr)
-      → Settles means (ATarget p x) → Settles means (AnExpr e s.value) → Settles means (AnExpr (from.Assign setting.Plain p e) (tree.Assign x s))
-  update : {operator : Arithmetic} {p : spot.Place} {x : Destination} {e : parsed.Expr} (s : Box Expr)
-      → Settles means (ATarget p x) → Settles means (AnExpr e s.value) → Settles means (AnExpr (from.Assign (setting.Update operator) p e) (tree.Update operator x s))
+  before : {c : Change} {p : spot.Place} {q : Place} (one : Box Expr)
+      → Settles means (APlace p q) → one.value ≡ tree.Number (pos 1) → Settles means (AnExpr (from.Before c p) (tree.Update (operator_of c) q one))
+  after : {c : Change} {p : spot.Place} {q : Place} → Settles means (APlace p q) → Settles means (AnExpr (from.After c p) (tree.After (operator_of c) q))
+  assign : {p : spot.Place} {q : Place} {e : parsed.Expr} (s : Box Expr)
+      → Settles means (APlace p q) → Settles means (AnExpr e s.value) → Settles means (AnExpr (from.Assign setting.Plain p e) (tree.Assign q s))
+  update : {operator : Arithmetic} {p : spot.Place} {q : Place} {e : parsed.Expr} (s : Box Expr)
+      → Settles means (APlace p q) → Settles means (AnExpr e s.value) → Settles means (AnExpr (from.Assign (setting.Update operator) p e) (tree.Update operator q s))
   call : {n : word.Name} {es : List parsed.Expr} {f : ℕ} (ss : Vec Expr) → means.function n.word ≡ Some f → Settles means (SomeExprs es ss.items) → Settles means (AnExpr (from.Call n es) (tree.Call f ss))
   builtin : {f : Function} {es : List parsed.Expr} {ss : List Expr} {s : Expr} → Settles means (SomeExprs es ss) → Applies f ss s → Settles means (AnExpr (from.Builtin f es) s)
-  -- what is assigned is a name of a variable
-  target : {n : word.Name} {x : Destination} → assigned_to (means.place n.word) ≡ Some x → Settles means (ATarget (from_place.Name n) x)
+  -- the first argument of `sub` and `gsub` is sought, and the third is a place that is changed; a missing one is the record
+  replaced : {f : Function} {extent : Extent} {e g : parsed.Expr} {p : spot.Place} {q : Place} (s t : Box Expr)
+      → extent_of f ≡ Some extent → Settles means (ASought e s.value) → Settles means (AnExpr g t.value) → Settles means (APlace p q) → Settles means (AnExpr (from.Builtin f (e ∷ g ∷ from.Of p ∷ [])) (tree.Replace extent s t q))
+  replaced_record : {f : Function} {extent : Extent} {e g : parsed.Expr} {q : Place} (s t : Box Expr)
+      → extent_of f ≡ Some extent → Settles means (ASought e s.value) → Settles means (AnExpr g t.value) → IsRecordPlace q → Settles means (AnExpr (from.Builtin f (e ∷ g ∷ [])) (tree.Replace extent s t q))
+  -- the second argument of `match` is sought in the first
+  found : {e f : parsed.Expr} (s t : Box Expr)
+      → Settles means (AnExpr e s.value) → Settles means (ASought f t.value) → Settles means (AnExpr (from.Builtin fun.Match (e ∷ f ∷ [])) (tree.Match s t))
   name : {n : word.Name} {q : Place} → means.place n.word ≡ Some q → Settles means (APlace (from_place.Name n) q)
   field : {e : parsed.Expr} (s : Box Expr) → Settles means (AnExpr e s.value) → Settles means (APlace (from_place.Field e) (tree_place.Field s))
   no_links : Settles means (SomeLinks [] [])

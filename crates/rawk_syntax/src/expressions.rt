@@ -1,11 +1,13 @@
 //! Expressions: names become numbers, and parentheses go.
 
-ghost use Rattle.std.specs.Prelude.{◌≡◌, [], ◌∷◌, ◌++◌, IfOk, OnOk, Ok, None, length, pos, true};
+ghost use Rattle.std.specs.Prelude.{◌≡◌, [], ◌∷◌, ◌++◌, ◌&&◌, IfOk, OnOk, Ok, None, Some, length, pos, true};
 ghost use Rattle.std.specs.Global.{Box};
 ghost use Rattle.std.specs.Result.{result_err, result_map_both};
 ghost use Rattle.rawk_parsing.specs.declared.parse_error.ParseError.TheVariants.{Here};
 ghost use Rattle.rawk_parsing.specs.declared.refusal.RefusalKind.TheVariants as refused;
 ghost use Rattle.rawk_parsing.specs.declared.tree.Expr.TheVariants as from;
+ghost use Rattle.rawk_parsing.specs.declared.tree.Function.TheVariants as fun;
+ghost use Rattle.rawk_parsing.specs.declared.tree.Place as parsed_place;
 ghost use Rattle.rawk_parsing.specs.declared.tree.Place.TheVariants as from_place;
 ghost use Rattle.rawk_tree.specs.declared.tree.Expr as settled;
 ghost use Rattle.rawk_tree.specs.declared.tree.Expr.TheVariants as tree;
@@ -15,17 +17,17 @@ ghost use Rattle.rawk_builtin_trees.specs.Calls.{Applies, has_builtin};
 ghost use Rattle.rawk_syntax.specs.Covered as cover;
 ghost use Rattle.rawk_syntax.specs.Covered.{Judges, unless};
 ghost use Rattle.rawk_syntax.specs.Meant.{Sense, sense_of};
-ghost use Rattle.rawk_syntax.specs.Settled.{Settles, AnExpr, APlace, ASought, ATarget, IsMatchOf, IsRecord, SomeLinks, SomeTests, SomeExprs, Prints, joiner_of, operator_of, neutral, right_of};
+ghost use Rattle.rawk_syntax.specs.Settled.{Settles, AnExpr, APlace, ASought, IsMatchOf, IsRecord, IsRecordPlace, SomeLinks, SomeTests, SomeExprs, Prints, joiner_of, operator_of, neutral, right_of, extent_of};
 
 use crate::growth::{boxed, boxed_if, push, push_if};
-use crate::scope::{Scope, assigned, called, meant};
+use crate::scope::{Scope, called, meant};
 use rawk_builtin_trees::{apply, format_and_arguments};
 use rawk_items::Boxed;
 use rawk_parsing::tree::{Assignment, Change, Function, Operator};
 use rawk_parsing::{ParseError, RefusalKind, tree as parsed};
-use rawk_tree::{Destination, Expr, Joiner, Link, Place, Unary};
+use rawk_tree::{Expr, Joiner, Link, Place, Unary};
 use rawk_value::{Arithmetic, Bytes};
-use rawk_words::{Logic, Sign};
+use rawk_words::{Extent, Logic, Sign};
 use std::alloc::{AllocError, Global};
 
 /// The refusal of what the settled tree does not have yet, at a place.
@@ -61,28 +63,10 @@ fn operator_of(change: Change) -> Arithmetic
 /// The place that a name stands for.
 fn settle_name(scope: &Scope<'_>, left: usize, name: &parsed::Name) -> Result<Place, ParseError>
     ensures settled { IfOk result (λ s. Settles (sense_of scope.now) (APlace (from_place.Name name.now) s)) }
-    ensures judged { Judges (unless (cover.place_cover (sense_of scope.now) (from_place.Name name.now)).reads left) result }
+    ensures judged { Judges (unless (cover.covers_place (sense_of scope.now) (from_place.Name name.now)) left) result }
 {
     match meant(scope, name.word.as_slice()) {
         Some(place) => Ok(place),
-        None => Err(left_out(left)),
-    }
-}
-
-/// What can be assigned: a name of a variable.
-fn settle_target(
-    scope: &Scope<'_>,
-    left: usize,
-    place: &parsed::Place,
-) -> Result<Destination, ParseError>
-    ensures settled { IfOk result (λ x. Settles (sense_of scope.now) (ATarget place.now x)) }
-    ensures judged { Judges (unless (cover.can_change (cover.place_cover (sense_of scope.now) place.now)) left) result }
-{
-    let parsed::Place::Name(name) = place else {
-        return Err(left_out(left));
-    };
-    match assigned(scope, name.word.as_slice()) {
-        Some(destination) => Ok(destination),
         None => Err(left_out(left)),
     }
 }
@@ -139,6 +123,7 @@ fn neutral(logic: Logic) -> Expr
     }
 }
 
+/// What is read or assigned.
 #[cycle(settle)]
 fn settle_place(
     alloc: Global,
@@ -147,7 +132,7 @@ fn settle_place(
     place: &parsed::Place,
 ) -> Result<Place, ParseError>
     ensures settled { IfOk result (λ s. Settles (sense_of scope.now) (APlace place.now s)) }
-    ensures judged { Judges (unless ((cover.place_cover (sense_of scope.now) place.now).reads) left) result }
+    ensures judged { Judges (unless (cover.covers_place (sense_of scope.now) place.now) left) result }
 {
     match place {
         parsed::Place::Name(name) => settle_name(scope, left, name),
@@ -209,12 +194,20 @@ fn settle_text(alloc: Global, text: &[u8]) -> Result<Expr, ParseError>
     Ok(Expr::Text(text))
 }
 
-/// `$0`.
+/// `$0`, as a place.
+fn record_place(alloc: Global) -> Result<Place, AllocError>
+    ensures { IfOk result (λ q. IsRecordPlace q) }
+{
+    let number = number(alloc, 0)?;
+    Ok(Place::Field(number))
+}
+
+/// Its value.
 fn record(alloc: Global) -> Result<Expr, AllocError>
     ensures { IfOk result (λ s. IsRecord s) }
 {
-    let number = number(alloc, 0)?;
-    Ok(Expr::Read(Place::Field(number)))
+    let place = record_place(alloc)?;
+    Ok(Expr::Read(place))
 }
 
 /// A regular expression by itself: whether `$0` has a match of it.
@@ -289,7 +282,7 @@ fn signed_of(sign: Sign, operand: Result<Box<Expr>, ParseError>) -> Result<Expr,
 fn before_of(
     alloc: Global,
     change: Change,
-    place: Result<Destination, ParseError>,
+    place: Result<Place, ParseError>,
 ) -> Result<Expr, ParseError>
     ensures settled { IfOk result (λ s. IfOk place (λ p. (one : Box settled.Expr) × (one.value ≡ tree.Number (pos 1)) × (s ≡ tree.Update (operator_of change) p one))) }
     ensures judged { Judges (result_err place) result }
@@ -304,7 +297,7 @@ fn before_of(
 }
 
 /// `++` or `--` behind a place, if that was settled.
-fn after_of(change: Change, place: Result<Destination, ParseError>) -> Result<Expr, ParseError>
+fn after_of(change: Change, place: Result<Place, ParseError>) -> Result<Expr, ParseError>
     ensures { result ≡ result_map_both (tree.After (operator_of change)) (λ e. e) place }
 {
     match place {
@@ -314,7 +307,7 @@ fn after_of(change: Change, place: Result<Destination, ParseError>) -> Result<Ex
 }
 
 /// A call of a built-in function with these arguments, where the settled tree has it.
-fn settle_builtin(
+fn apply_builtin(
     alloc: Global,
     left: usize,
     function: Function,
@@ -429,7 +422,7 @@ fn settle_assign(
     ensures settled { IfOk result (λ s. Settles (sense_of scope.now) (AnExpr (from.Assign how place.now value.now) s)) }
     ensures judged { Judges (unless (cover.covers (sense_of scope.now) (from.Assign how place.now value.now)) left) result }
 {
-    let place = settle_target(scope, left, place)?;
+    let place = settle_place(alloc, scope, left, place)?;
     let value = settle_boxed(alloc, scope, left, value)?;
     match how {
         Assignment::Plain => Ok(Expr::Assign(place, value)),
@@ -454,6 +447,114 @@ fn settle_call(
     };
     let arguments = settle_list(alloc, scope, left, arguments)?;
     Ok(Expr::Call(function, arguments))
+}
+
+/// A call of `match`: a text, and what is sought in it.
+#[cycle(settle)]
+fn settle_match(
+    alloc: Global,
+    scope: &Scope<'_>,
+    left: usize,
+    arguments: &[Boxed<parsed::Expr>],
+) -> Result<Expr, ParseError>
+    ensures settled { IfOk result (λ s. Settles (sense_of scope.now) (AnExpr (from.Builtin fun.Match arguments.now) s)) }
+    ensures judged { Judges (unless (cover.covers (sense_of scope.now) (from.Builtin fun.Match arguments.now)) left) result }
+{
+    let [text, pattern] = arguments else {
+        return Err(left_out(left));
+    };
+    let text = settle_boxed(alloc, scope, left, text.get())?;
+    let sought = settle_sought(alloc, scope, left, pattern.get());
+    let sought = boxed_if(alloc, sought)?;
+    Ok(Expr::Match(text, sought))
+}
+
+/// An expression that is sought, and a replacement.
+#[cycle(settle)]
+fn settle_replacement(
+    alloc: Global,
+    scope: &Scope<'_>,
+    left: usize,
+    sought: &parsed::Expr,
+    by: &parsed::Expr,
+) -> Result<(Box<Expr>, Box<Expr>), ParseError>
+    ensures sought { IfOk result (λ pair. Settles (sense_of scope.now) (ASought sought.now pair.0.value)) }
+    ensures by { IfOk result (λ pair. Settles (sense_of scope.now) (AnExpr by.now pair.1.value)) }
+    ensures judged { Judges (unless (cover.covers (sense_of scope.now) sought.now && cover.covers (sense_of scope.now) by.now) left) result }
+{
+    let sought = settle_sought(alloc, scope, left, sought);
+    let sought = boxed_if(alloc, sought)?;
+    let by = settle_boxed(alloc, scope, left, by)?;
+    Ok((sought, by))
+}
+
+/// An expression that is a place which is changed.
+#[cycle(settle)]
+fn settle_changed(
+    alloc: Global,
+    scope: &Scope<'_>,
+    left: usize,
+    e: &parsed::Expr,
+) -> Result<Place, ParseError>
+    ensures settled { IfOk result (λ q. (p : parsed_place.Place) × (e.now ≡ from.Of p) × Settles (sense_of scope.now) (APlace p q)) }
+    ensures judged { Judges (unless (cover.changes (sense_of scope.now) e.now) left) result }
+{
+    match e {
+        parsed::Expr::Of(place) => settle_place(alloc, scope, left, place),
+        _ => Err(left_out(left)),
+    }
+}
+
+/// A call of `sub` or `gsub`: an expression, a replacement, and the place whose text is changed, or the record.
+#[cycle(settle)]
+fn settle_replace(
+    alloc: Global,
+    scope: &Scope<'_>,
+    left: usize,
+    function: Function,
+    extent: Extent,
+    arguments: &[Boxed<parsed::Expr>],
+) -> Result<Expr, ParseError>
+    requires { extent_of function ≡ Some extent }
+    ensures settled { IfOk result (λ s. Settles (sense_of scope.now) (AnExpr (from.Builtin function arguments.now) s)) }
+    ensures judged { Judges (unless (cover.covers (sense_of scope.now) (from.Builtin function arguments.now)) left) result }
+{
+    match arguments {
+        [sought, by] => {
+            let (sought, by) = settle_replacement(alloc, scope, left, sought.get(), by.get())?;
+            let place = record_place(alloc)?;
+            Ok(Expr::Replace(extent, sought, by, place))
+        }
+        [sought, by, changed] => {
+            let (sought, by) = settle_replacement(alloc, scope, left, sought.get(), by.get())?;
+            let place = settle_changed(alloc, scope, left, changed.get())?;
+            Ok(Expr::Replace(extent, sought, by, place))
+        }
+        _ => Err(left_out(left)),
+    }
+}
+
+/// A call of a built-in function.
+#[cycle(settle)]
+fn settle_builtin(
+    alloc: Global,
+    scope: &Scope<'_>,
+    left: usize,
+    function: Function,
+    arguments: &[Boxed<parsed::Expr>],
+) -> Result<Expr, ParseError>
+    ensures settled { IfOk result (λ s. Settles (sense_of scope.now) (AnExpr (from.Builtin function arguments.now) s)) }
+    ensures judged { Judges (unless (cover.covers (sense_of scope.now) (from.Builtin function arguments.now)) left) result }
+{
+    match function {
+        Function::Match => settle_match(alloc, scope, left, arguments),
+        Function::Sub => { settle_replace(alloc, scope, left, function, Extent::First, arguments) }
+        Function::Gsub => settle_replace(alloc, scope, left, function, Extent::All, arguments),
+        _ => {
+            let arguments = settle_list(alloc, scope, left, arguments)?;
+            apply_builtin(alloc, left, function, arguments)
+        }
+    }
 }
 
 /// An expression of a statement or pattern at a place.
@@ -490,10 +591,10 @@ pub fn settle_expr(
             settle_choice(alloc, scope, left, test.get(), yes.get(), no.get())
         }
         parsed::Expr::Before(change, place) => {
-            before_of(alloc, *change, settle_target(scope, left, place))
+            before_of(alloc, *change, settle_place(alloc, scope, left, place))
         }
         parsed::Expr::After(change, place) => {
-            after_of(*change, settle_target(scope, left, place))
+            after_of(*change, settle_place(alloc, scope, left, place))
         }
         parsed::Expr::Assign(how, place, value) => {
             settle_assign(alloc, scope, left, *how, place, value.get())
@@ -502,8 +603,7 @@ pub fn settle_expr(
             settle_call(alloc, scope, left, name, arguments.as_slice())
         }
         parsed::Expr::Builtin(function, arguments) => {
-            let arguments = settle_list(alloc, scope, left, arguments.as_slice())?;
-            settle_builtin(alloc, left, *function, arguments)
+            settle_builtin(alloc, scope, left, *function, arguments.as_slice())
         }
         _ => Err(left_out(left)),
     }

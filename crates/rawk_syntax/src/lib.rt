@@ -14,6 +14,5 @@ pub use parsing::parse;
 pub use rawk_lexer::unescaped;
 pub use rawk_parsing::{Refusal, RefusalKind};
 pub use rawk_tree::{
-    Branch, Destination, Expr, Function, Guard, Joiner, Link, Logic, Place, Program, Rule, Sign,
-    Stmt, Unary,
+    Branch, Expr, Function, Guard, Joiner, Link, Logic, Place, Program, Rule, Sign, Stmt, Unary,
 };

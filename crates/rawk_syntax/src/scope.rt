@@ -2,10 +2,10 @@
 
 ghost use Rattle.std.specs.Prelude.{◌≡◌};
 ghost use Rattle.rawk_names.specs.Named.{known};
-ghost use Rattle.rawk_syntax.specs.Meant.{assigned_to, first_parameter, place_at, sense_of, variable_place};
+ghost use Rattle.rawk_syntax.specs.Meant.{first_parameter, place_at, sense_of, variable_place};
 
 use rawk_names::{Meaning, Names, Variable};
-use rawk_tree::{Destination, Place};
+use rawk_tree::Place;
 
 /// The names of a program, and the scope: 0 outside functions, inside one more than the function's number.
 #[derive(Drop)]
@@ -52,26 +52,6 @@ pub fn meant(scope: &Scope<'_>, word: &[u8]) -> Option<Place>
     ensures { result ≡ (sense_of scope.now).place word.now }
 {
     place_at(scope, scope.names.meaning(scope.number, word))
-}
-
-/// The variable that a place is, which can be assigned.
-fn variable_at(place: Option<Place>) -> Option<Destination>
-    ensures { result ≡ assigned_to place }
-{
-    match place {
-        None => None,
-        Some(Place::Global(number)) => Some(Destination::Global(number)),
-        Some(Place::Local(number)) => Some(Destination::Local(number)),
-        Some(Place::FieldCount) => None,
-        Some(Place::Field(_)) => None,
-    }
-}
-
-/// The variable that a name stands for where it is assigned. It takes no memory.
-pub fn assigned(scope: &Scope<'_>, word: &[u8]) -> Option<Destination>
-    ensures { result ≡ assigned_to ((sense_of scope.now).place word.now) }
-{
-    variable_at(meant(scope, word))
 }
 
 /// The number of the function that a name stands for. It takes no memory.

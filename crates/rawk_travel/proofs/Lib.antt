@@ -1,5 +1,6 @@
 pub mod Quiets
 pub mod Acts
+pub mod Assigns
 pub mod BorrowedLemmas
 pub mod Faults
 pub mod Formatted
@@ -13,3 +14,4 @@ pub mod AtOnces
 pub mod Turns
 pub mod Calls
 pub mod Oks
+pub mod Replaces

@@ -7,3 +7,4 @@ pub mod Asking
 pub mod Line
 pub mod Plain
 pub mod AtOnce
+pub mod Replacing

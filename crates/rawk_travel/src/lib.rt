@@ -3,6 +3,7 @@
 
 mod act;
 mod append;
+mod assign;
 mod at_once;
 mod borrowed;
 mod call;
@@ -12,5 +13,6 @@ mod operands;
 mod print;
 pub mod reach;
 mod reading;
+mod replace;
 mod transfer;
 pub mod travel;

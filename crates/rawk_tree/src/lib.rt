@@ -4,7 +4,5 @@
 mod lines;
 pub mod tree;
 
-pub use rawk_words::{Logic, Sign};
-pub use tree::{
-    Branch, Destination, Expr, Function, Guard, Joiner, Link, Place, Program, Rule, Stmt, Unary,
-};
+pub use rawk_words::{Extent, Logic, Sign};
+pub use tree::{Branch, Expr, Function, Guard, Joiner, Link, Place, Program, Rule, Stmt, Unary};

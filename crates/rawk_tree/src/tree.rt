@@ -1,7 +1,7 @@
 //! The tree of a program. Names are numbers, what the text leaves out is filled in, and each place where a point is reached has its site.
 
 use rawk_value::{Arithmetic, Bytes, Comparison};
-use rawk_words::{Logic, Sign};
+use rawk_words::{Extent, Logic, Sign};
 
 /// What joins two values.
 #[derive(Clone, Copy, PartialEq, Eq)]
@@ -46,15 +46,19 @@ pub enum Expr {
     Chain(Box<Expr>, Vec<Link>),
     /// the second where the first is true, and else the third
     Choice(Box<Expr>, Box<Expr>, Box<Expr>),
-    Assign(Destination, Box<Expr>),
+    Assign(Place, Box<Expr>),
     /// `+=`
-    Update(Arithmetic, Destination, Box<Expr>),
+    Update(Arithmetic, Place, Box<Expr>),
     /// `++` and `--` behind what is assigned, which add 1 or take it away
-    After(Arithmetic, Destination),
+    After(Arithmetic, Place),
     /// a call of a function, by its number from 0 in the order of the text, with its arguments
     Call(usize, Vec<Expr>),
     /// the bytes of a text from a place on, so many: `substr` with three arguments
     Part(Box<Expr>, Box<Expr>, Box<Expr>),
+    /// `match`: the place where the first match stands in the left text of the expression that the right text is
+    Match(Box<Expr>, Box<Expr>),
+    /// `sub` and `gsub`: the expression, the replacement, and the place whose text is changed
+    Replace(Extent, Box<Expr>, Box<Expr>, Place),
     /// `sprintf`: the format and its arguments
     Sprintf(Box<Expr>, Vec<Expr>),
     /// `getline`: the next record becomes `$0`; 1, or 0 where there is none
@@ -70,22 +74,13 @@ pub enum Link {
     Decide(Logic, Expr),
 }
 
-/// What can be assigned: a variable.
-#[derive(Clone, Copy, PartialEq, Eq)]
-pub enum Destination {
-    /// a global scalar, by its number from 0; the special variables but NF have the first numbers
-    Global(usize),
-    /// a local of the function around, by its number from 0: its parameters come first
-    Local(usize),
-}
-
-/// What can be read.
+/// What can be read and assigned.
 #[cycle(expressions)]
 #[derive(Drop)]
 pub enum Place {
-    /// a global scalar; the special variables but NF have the first numbers
+    /// a global scalar, by its number from 0; the special variables but NF have the first numbers
     Global(usize),
-    /// a local of the function around: its parameters, from 0
+    /// a local of the function around, by its number from 0: its parameters come first
     Local(usize),
     FieldCount,
     /// `$0` has the number 0

@@ -1,6 +1,6 @@
-//! Operators that the tree of a text and the tree of a program both have.
+//! Words of the language that stand in more than one tree.
 #![tactic(auto)]
 
 pub mod operator;
 
-pub use operator::{Logic, Sign};
+pub use operator::{Extent, Logic, Sign};

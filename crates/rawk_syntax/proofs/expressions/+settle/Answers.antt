@@ -1,16 +1,19 @@
-use Rattle.std.proofs.Common.{◌∙◌, sym, ap, refl, length, Some, ◌&&◌}
+use Rattle.std.proofs.Common.{◌≡◌, ◌≢◌, ◌∙◌, sym, ap, refl, length, true, [], ◌∷◌, Some, ◌&&◌, arith}
+use Rattle.std.proofs.lemmas.Bool.Decides.{nat_tests}
 use Rattle.std.proofs.lemmas.Result.{err_from_is_err_and}
 use Rattle.rawk_builtin_trees.specs.Calls.{has_builtin}
 use Rattle.rawk_parsing.specs.declared.tree.Expr.TheVariants as from
+use Rattle.rawk_parsing.specs.declared.tree.Function.TheVariants as fun
 use Rattle.rawk_tree.specs.declared.tree.Expr.TheVariants as tree
 use Rattle.rawk_tree.specs.declared.tree.Unary.TheVariants as unary
-use Rattle.rawk_syntax.specs.Covered.{unless, each, can_change, covers, place_cover, covers_link}
+use Rattle.rawk_syntax.specs.Covered.{unless, each, covers, changes, covers_place, covers_link}
 use Rattle.rawk_syntax.specs.Meant.{is_there, sense_of}
 use Rattle.rawk_syntax.specs.Settled as spec
-use Rattle.rawk_syntax.proofs.Coverings.{exits, passes, holds, sure, fails, both, first_false, second_false, was_settled, was_refused, judges_on, each_more, each_stops, number_covers, text_covers, ere_covers, getline_covers, of_covers, group_covers, signed_covers, power_covers, chain_covers, logic_covers, choice_covers, before_covers, after_covers, assign_covers, call_covers, builtin_covers, builtin_judged, none_there, other_covers, field_cover, element_cover, link_covers}
+use Rattle.rawk_syntax.proofs.Coverings.{exits, passes, holds, sure, fails, both, first_false, second_false, was_settled, was_refused, judges_on, each_more, each_stops, number_covers, text_covers, ere_covers, getline_covers, of_covers, group_covers, signed_covers, power_covers, chain_covers, logic_covers, choice_covers, before_covers, after_covers, assign_covers, call_covers, match_covers, match_uncovered, applied_covers, applied_judged, none_there, other_covers, field_covers, element_covers, link_covers, pair_of, three_of, record_covers, changed_covers, replace_uncovered, of_changes, no_change}
 use Rattle.rawk_syntax.proofs.Gaps.{made_judged}
-use Rattle.rawk_syntax.proofs.Settlements.{number_settles, number_judged, text_settles, ere_settles, sought_settles, made_settles, right_settles, read_settles, group_settles, boxed_settles, signed_settles, power_settles, before_settles, after_settles, test_settles, field_settles, link_settles, call_settles, builtin_settles, same_count, expr_settles}
+use Rattle.rawk_syntax.proofs.Settlements.{number_settles, number_judged, text_settles, ere_settles, sought_settles, made_settles, right_settles, read_settles, group_settles, boxed_settles, signed_settles, power_settles, before_settles, after_settles, test_settles, field_settles, link_settles, call_settles, builtin_settles, found_settles, replaced_settles, record_settles, same_count, expr_settles}
 use Rattle.rawk_syntax.proofs.expressions.+settle.Goals as goal
+use Rattle.rawk_syntax.proofs.expressions.+settle.Goals.{settle_match-in_default-via-then-arguments-lt2, settle_match-in_default-via-else-arguments-lt2+else-arguments-lt3, settle_replace-in_default-via-then-arguments-lt2, settle_replace-in_default-via-else-arguments-lt2+else-arguments-lt3+else-arguments-lt4}
 
 pub settle_expr-returns-in-Number-clause-settled : goal.settle_expr-returns-in-Number-clause-settled
 settle_expr-returns-in-Number-clause-settled t c =
@@ -62,7 +65,7 @@ settle_expr-returns-in-Of-clause-settled t c =
 
 pub settle_expr-returns-in-Of-clause-judged : goal.settle_expr-returns-in-Of-clause-judged
 settle_expr-returns-in-Of-clause-judged t c =
-    rw (of_covers (sense_of c.args.scope.now) c.args.e.now c.in-Of.place c.in-Of.is) (made_judged tree.Read (unless (place_cover (sense_of c.args.scope.now) c.in-Of.place).reads c.args.left) c.settle_place.result c.read_of.result c.read_of.ensures c.settle_place.ensures.judged)
+    rw (of_covers (sense_of c.args.scope.now) c.args.e.now c.in-Of.place c.in-Of.is) (made_judged tree.Read (unless (covers_place (sense_of c.args.scope.now) c.in-Of.place) c.args.left) c.settle_place.result c.read_of.result c.read_of.ensures c.settle_place.ensures.judged)
 
 pub settle_expr-returns-in-Group-clause-settled : goal.settle_expr-returns-in-Group-clause-settled
 settle_expr-returns-in-Group-clause-settled t c =
@@ -82,33 +85,19 @@ settle_expr-returns-in-Signed-clause-judged t c =
 
 pub settle_expr-returns-in-Before-clause-settled : goal.settle_expr-returns-in-Before-clause-settled
 settle_expr-returns-in-Before-clause-settled t c =
-    before_settles (sense_of c.args.scope.now) c.args.e.now c.in-Before.change c.in-Before.place c.settle_target.result c.before_of.result c.in-Before.is c.before_of.ensures.judged c.before_of.ensures.settled c.settle_target.ensures.settled
+    before_settles (sense_of c.args.scope.now) c.args.e.now c.in-Before.change c.in-Before.place c.settle_place-in-Before.result c.before_of.result c.in-Before.is c.before_of.ensures.judged c.before_of.ensures.settled c.settle_place-in-Before.ensures.settled
 
 pub settle_expr-returns-in-Before-clause-judged : goal.settle_expr-returns-in-Before-clause-judged
 settle_expr-returns-in-Before-clause-judged t c =
-    rw (before_covers (sense_of c.args.scope.now) c.args.e.now c.in-Before.change c.in-Before.place c.in-Before.is) (judges_on (unless (can_change (place_cover (sense_of c.args.scope.now) c.in-Before.place)) c.args.left) c.settle_target.result c.before_of.result c.settle_target.ensures.judged c.before_of.ensures.judged)
+    rw (before_covers (sense_of c.args.scope.now) c.args.e.now c.in-Before.change c.in-Before.place c.in-Before.is) (judges_on (unless (covers_place (sense_of c.args.scope.now) c.in-Before.place) c.args.left) c.settle_place-in-Before.result c.before_of.result c.settle_place-in-Before.ensures.judged c.before_of.ensures.judged)
 
 pub settle_expr-returns-in-After-clause-settled : goal.settle_expr-returns-in-After-clause-settled
 settle_expr-returns-in-After-clause-settled t c =
-    after_settles (sense_of c.args.scope.now) c.args.e.now c.in-After.change c.in-After.place c.settle_target-in-After.result c.after_of.result c.in-After.is c.after_of.ensures c.settle_target-in-After.ensures.settled
+    after_settles (sense_of c.args.scope.now) c.args.e.now c.in-After.change c.in-After.place c.settle_place-in-After.result c.after_of.result c.in-After.is c.after_of.ensures c.settle_place-in-After.ensures.settled
 
 pub settle_expr-returns-in-After-clause-judged : goal.settle_expr-returns-in-After-clause-judged
 settle_expr-returns-in-After-clause-judged t c =
-    rw (after_covers (sense_of c.args.scope.now) c.args.e.now c.in-After.change c.in-After.place c.in-After.is) (made_judged (tree.After (spec.operator_of c.in-After.change)) (unless (can_change (place_cover (sense_of c.args.scope.now) c.in-After.place)) c.args.left) c.settle_target-in-After.result c.after_of.result c.after_of.ensures c.settle_target-in-After.ensures.judged)
-
-pub settle_expr-returns-in_err-arguments-in-Builtin-clause-judged : goal.settle_expr-returns-in_err-arguments-in-Builtin-clause-judged
-settle_expr-returns-in_err-arguments-in-Builtin-clause-judged t c =
-    let p = err_from_is_err_and c.from_residual.result c.from_residual.ensures.1 in
-    exits c.from_residual.result (unless (covers (sense_of c.args.scope.now) c.args.e.now) c.args.left) c.in_err-arguments-in-Builtin.field-0.0 p.0 p.1 p.2 (passes (each (covers (sense_of c.args.scope.now)) c.as_slice-in-Builtin.result.now) (covers (sense_of c.args.scope.now) c.args.e.now) c.args.left c.in_err-arguments-in-Builtin.field-0.0 (λ h. builtin_covers (sense_of c.args.scope.now) c.args.e.now c.in-Builtin.function c.in-Builtin.arguments c.as_slice-in-Builtin.result.now c.in-Builtin.is c.as_slice-in-Builtin.ensures ∙ second_false (has_builtin c.in-Builtin.function (length c.as_slice-in-Builtin.result.now)) (each (covers (sense_of c.args.scope.now)) c.as_slice-in-Builtin.result.now) h) c.in_err-arguments-in-Builtin.ensures.judged)
-
-pub settle_expr-returns-in_ok-arguments-in-Builtin-clause-settled : goal.settle_expr-returns-in_ok-arguments-in-Builtin-clause-settled
-settle_expr-returns-in_ok-arguments-in-Builtin-clause-settled t c =
-    builtin_settles (sense_of c.args.scope.now) c.settle_builtin.result c.args.e.now c.in-Builtin.function c.in-Builtin.arguments c.as_slice-in-Builtin.result.now c.in_ok-arguments-in-Builtin.arguments.items c.in-Builtin.is c.as_slice-in-Builtin.ensures c.in_ok-arguments-in-Builtin.ensures.settled c.settle_builtin.ensures.settled
-
-pub settle_expr-returns-in_ok-arguments-in-Builtin-clause-judged : goal.settle_expr-returns-in_ok-arguments-in-Builtin-clause-judged
-settle_expr-returns-in_ok-arguments-in-Builtin-clause-judged t c =
-    builtin_judged c.settle_builtin.result (sense_of c.args.scope.now) c.args.e.now c.in-Builtin.function c.in-Builtin.arguments c.as_slice-in-Builtin.result.now (length c.in_ok-arguments-in-Builtin.arguments.items) c.args.left c.in-Builtin.is c.as_slice-in-Builtin.ensures
-    (sure (each (covers (sense_of c.args.scope.now)) c.as_slice-in-Builtin.result.now) c.args.left c.in_ok-arguments-in-Builtin.ensures.judged) (same_count (sense_of c.args.scope.now) c.in_ok-arguments-in-Builtin.ensures.settled) c.settle_builtin.ensures.judged
+    rw (after_covers (sense_of c.args.scope.now) c.args.e.now c.in-After.change c.in-After.place c.in-After.is) (made_judged (tree.After (spec.operator_of c.in-After.change)) (unless (covers_place (sense_of c.args.scope.now) c.in-After.place) c.args.left) c.settle_place-in-After.result c.after_of.result c.after_of.ensures c.settle_place-in-After.ensures.judged)
 
 pub settle_expr-returns-in_default : goal.settle_expr-returns-in_default
 settle_expr-returns-in_default t c =
@@ -201,12 +190,12 @@ settle_choice-returns-clause-judged t c =
 pub settle_assign-returns-in_err-place-clause-judged : goal.settle_assign-returns-in_err-place-clause-judged
 settle_assign-returns-in_err-place-clause-judged t c =
     let p = err_from_is_err_and c.from_residual.result c.from_residual.ensures.1 in
-    exits c.from_residual.result (unless (covers (sense_of c.args.scope.now) (from.Assign c.args.how c.args.place.now c.args.value.now)) c.args.left) c.in_err-place.field-0.0 p.0 p.1 p.2 (passes (can_change (place_cover (sense_of c.args.scope.now) c.args.place.now)) (covers (sense_of c.args.scope.now) (from.Assign c.args.how c.args.place.now c.args.value.now)) c.args.left c.in_err-place.field-0.0 (λ h. assign_covers (sense_of c.args.scope.now) c.args.how c.args.place.now c.args.value.now ∙ first_false (can_change (place_cover (sense_of c.args.scope.now) c.args.place.now)) (covers (sense_of c.args.scope.now) c.args.value.now) h) c.in_err-place.ensures.judged)
+    exits c.from_residual.result (unless (covers (sense_of c.args.scope.now) (from.Assign c.args.how c.args.place.now c.args.value.now)) c.args.left) c.in_err-place.field-0.0 p.0 p.1 p.2 (passes (covers_place (sense_of c.args.scope.now) c.args.place.now) (covers (sense_of c.args.scope.now) (from.Assign c.args.how c.args.place.now c.args.value.now)) c.args.left c.in_err-place.field-0.0 (λ h. assign_covers (sense_of c.args.scope.now) c.args.how c.args.place.now c.args.value.now ∙ first_false (covers_place (sense_of c.args.scope.now) c.args.place.now) (covers (sense_of c.args.scope.now) c.args.value.now) h) c.in_err-place.ensures.judged)
 
 pub settle_assign-returns-in_err-value-clause-judged : goal.settle_assign-returns-in_err-value-clause-judged
 settle_assign-returns-in_err-value-clause-judged t c =
     let p = err_from_is_err_and c.from_residual-in_err-value.result c.from_residual-in_err-value.ensures.1 in
-    exits c.from_residual-in_err-value.result (unless (covers (sense_of c.args.scope.now) (from.Assign c.args.how c.args.place.now c.args.value.now)) c.args.left) c.in_err-value.field-0.0 p.0 p.1 p.2 (passes (covers (sense_of c.args.scope.now) c.args.value.now) (covers (sense_of c.args.scope.now) (from.Assign c.args.how c.args.place.now c.args.value.now)) c.args.left c.in_err-value.field-0.0 (λ h. assign_covers (sense_of c.args.scope.now) c.args.how c.args.place.now c.args.value.now ∙ second_false (can_change (place_cover (sense_of c.args.scope.now) c.args.place.now)) (covers (sense_of c.args.scope.now) c.args.value.now) h) c.in_err-value.ensures.judged)
+    exits c.from_residual-in_err-value.result (unless (covers (sense_of c.args.scope.now) (from.Assign c.args.how c.args.place.now c.args.value.now)) c.args.left) c.in_err-value.field-0.0 p.0 p.1 p.2 (passes (covers (sense_of c.args.scope.now) c.args.value.now) (covers (sense_of c.args.scope.now) (from.Assign c.args.how c.args.place.now c.args.value.now)) c.args.left c.in_err-value.field-0.0 (λ h. assign_covers (sense_of c.args.scope.now) c.args.how c.args.place.now c.args.value.now ∙ second_false (covers_place (sense_of c.args.scope.now) c.args.place.now) (covers (sense_of c.args.scope.now) c.args.value.now) h) c.in_err-value.ensures.judged)
 
 pub settle_assign-returns-in-Plain-clause-settled : goal.settle_assign-returns-in-Plain-clause-settled
 settle_assign-returns-in-Plain-clause-settled t c =
@@ -214,7 +203,7 @@ settle_assign-returns-in-Plain-clause-settled t c =
 
 pub settle_assign-returns-in-Plain-clause-judged : goal.settle_assign-returns-in-Plain-clause-judged
 settle_assign-returns-in-Plain-clause-judged t c =
-    holds (covers (sense_of c.args.scope.now) (from.Assign c.args.how c.args.place.now c.args.value.now)) c.args.left (assign_covers (sense_of c.args.scope.now) c.args.how c.args.place.now c.args.value.now ∙ both (can_change (place_cover (sense_of c.args.scope.now) c.args.place.now)) (covers (sense_of c.args.scope.now) c.args.value.now) (sure (can_change (place_cover (sense_of c.args.scope.now) c.args.place.now)) c.args.left c.in_ok-place.ensures.judged) (sure (covers (sense_of c.args.scope.now) c.args.value.now) c.args.left c.in_ok-value.ensures.judged))
+    holds (covers (sense_of c.args.scope.now) (from.Assign c.args.how c.args.place.now c.args.value.now)) c.args.left (assign_covers (sense_of c.args.scope.now) c.args.how c.args.place.now c.args.value.now ∙ both (covers_place (sense_of c.args.scope.now) c.args.place.now) (covers (sense_of c.args.scope.now) c.args.value.now) (sure (covers_place (sense_of c.args.scope.now) c.args.place.now) c.args.left c.in_ok-place.ensures.judged) (sure (covers (sense_of c.args.scope.now) c.args.value.now) c.args.left c.in_ok-value.ensures.judged))
 
 pub settle_assign-returns-in-Update-clause-settled : goal.settle_assign-returns-in-Update-clause-settled
 settle_assign-returns-in-Update-clause-settled t c =
@@ -222,7 +211,7 @@ settle_assign-returns-in-Update-clause-settled t c =
 
 pub settle_assign-returns-in-Update-clause-judged : goal.settle_assign-returns-in-Update-clause-judged
 settle_assign-returns-in-Update-clause-judged t c =
-    holds (covers (sense_of c.args.scope.now) (from.Assign c.args.how c.args.place.now c.args.value.now)) c.args.left (assign_covers (sense_of c.args.scope.now) c.args.how c.args.place.now c.args.value.now ∙ both (can_change (place_cover (sense_of c.args.scope.now) c.args.place.now)) (covers (sense_of c.args.scope.now) c.args.value.now) (sure (can_change (place_cover (sense_of c.args.scope.now) c.args.place.now)) c.args.left c.in_ok-place.ensures.judged) (sure (covers (sense_of c.args.scope.now) c.args.value.now) c.args.left c.in_ok-value.ensures.judged))
+    holds (covers (sense_of c.args.scope.now) (from.Assign c.args.how c.args.place.now c.args.value.now)) c.args.left (assign_covers (sense_of c.args.scope.now) c.args.how c.args.place.now c.args.value.now ∙ both (covers_place (sense_of c.args.scope.now) c.args.place.now) (covers (sense_of c.args.scope.now) c.args.value.now) (sure (covers_place (sense_of c.args.scope.now) c.args.place.now) c.args.left c.in_ok-place.ensures.judged) (sure (covers (sense_of c.args.scope.now) c.args.value.now) c.args.left c.in_ok-value.ensures.judged))
 
 pub settle_call-returns-in_default-clause-judged : goal.settle_call-returns-in_default-clause-judged
 settle_call-returns-in_default-clause-judged t c =
@@ -240,6 +229,134 @@ settle_call-returns-clause-settled t c =
 pub settle_call-returns-clause-judged : goal.settle_call-returns-clause-judged
 settle_call-returns-clause-judged t c =
     holds (covers (sense_of c.args.scope.now) (from.Call c.args.name.now c.args.arguments.now)) c.args.left (call_covers (sense_of c.args.scope.now) c.args.name.now c.as_slice.result.now (Some c.in-Some.function) c.args.arguments.now c.as_slice.ensures c.in-Some.ensures ∙ sure (each (covers (sense_of c.args.scope.now)) c.args.arguments.now) c.args.left c.in_ok-arguments.ensures.judged)
+
+pub settle_match-returns-in_default-clause-judged : goal.settle_match-returns-in_default-clause-judged
+settle_match-returns-in_default-clause-judged t c =
+    let other : length c.args.arguments.now ≢ 2 = λ h. elim c.in_default.branch [
+      | settle_match-in_default-via-then-arguments-lt2 w ↦ grind (arith, nat_tests, h)
+      | settle_match-in_default-via-else-arguments-lt2+else-arguments-lt3 w ↦ grind (arith, nat_tests, h)
+    ] in
+    λ ne. fails (covers (sense_of c.args.scope.now) (from.Builtin fun.Match c.args.arguments.now)) c.args.left (match_uncovered (sense_of c.args.scope.now) c.args.arguments.now other) ∙ ap Some (sym c.left_out.ensures)
+
+pub settle_match-returns-in_err-text-clause-judged : goal.settle_match-returns-in_err-text-clause-judged
+settle_match-returns-in_err-text-clause-judged t c =
+    let p = err_from_is_err_and c.from_residual.result c.from_residual.ensures.1 in
+    let two = pair_of c.args.arguments.now c.text-item.result c.pattern-item.result c.in-len2.len_at_least c.in-len2.len_below c.text-item.is c.pattern-item.is in
+    exits c.from_residual.result (unless (covers (sense_of c.args.scope.now) (from.Builtin fun.Match c.args.arguments.now)) c.args.left) c.in_err-text.field-0.0 p.0 p.1 p.2 (passes (covers (sense_of c.args.scope.now) c.get.result.now) (covers (sense_of c.args.scope.now) (from.Builtin fun.Match c.args.arguments.now)) c.args.left c.in_err-text.field-0.0 (λ h. match_covers (sense_of c.args.scope.now) c.args.arguments.now c.text-item.result c.pattern-item.result two ∙ first_false (covers (sense_of c.args.scope.now) c.text-item.result) (covers (sense_of c.args.scope.now) c.pattern-item.result) (ap (covers (sense_of c.args.scope.now)) (sym c.get.ensures) ∙ h)) c.in_err-text.ensures.judged)
+
+pub settle_match-returns-in_err-sought-clause-judged : goal.settle_match-returns-in_err-sought-clause-judged
+settle_match-returns-in_err-sought-clause-judged t c =
+    let p = err_from_is_err_and c.from_residual-in_err-sought.result c.from_residual-in_err-sought.ensures.1 in
+    let two = pair_of c.args.arguments.now c.text-item.result c.pattern-item.result c.in-len2.len_at_least c.in-len2.len_below c.text-item.is c.pattern-item.is in
+    exits c.from_residual-in_err-sought.result (unless (covers (sense_of c.args.scope.now) (from.Builtin fun.Match c.args.arguments.now)) c.args.left) c.in_err-sought.field-0.0 p.0 p.1 p.2 (passes (covers (sense_of c.args.scope.now) c.get-2.result.now) (covers (sense_of c.args.scope.now) (from.Builtin fun.Match c.args.arguments.now)) c.args.left c.in_err-sought.field-0.0 (λ h. match_covers (sense_of c.args.scope.now) c.args.arguments.now c.text-item.result c.pattern-item.result two ∙ second_false (covers (sense_of c.args.scope.now) c.text-item.result) (covers (sense_of c.args.scope.now) c.pattern-item.result) (ap (covers (sense_of c.args.scope.now)) (sym c.get-2.ensures) ∙ h))
+    (λ ne. was_refused (unless (covers (sense_of c.args.scope.now) c.get-2.result.now) c.args.left) c.settle_sought-sought.result c.in_err-sought.field-0.0 (c.in_err-sought.ensures.judged ne) c.settle_sought-sought.ensures.judged ne))
+
+pub settle_match-returns-clause-settled : goal.settle_match-returns-clause-settled
+settle_match-returns-clause-settled t c =
+    let two = pair_of c.args.arguments.now c.text-item.result c.pattern-item.result c.in-len2.len_at_least c.in-len2.len_below c.text-item.is c.pattern-item.is in
+    found_settles (sense_of c.args.scope.now) c.args.arguments.now c.get.result.now c.get-2.result.now c.in_ok-text.text c.in_ok-sought.sought c.settle_sought-sought.result
+    (two ∙ ap (λ z. z ∷ c.pattern-item.result ∷ []) (sym c.get.ensures) ∙ ap (λ z. c.get.result.now ∷ z ∷ []) (sym c.get-2.ensures)) c.in_ok-text.ensures.settled c.in_ok-sought.ensures.held c.settle_sought-sought.ensures.settled
+
+pub settle_match-returns-clause-judged : goal.settle_match-returns-clause-judged
+settle_match-returns-clause-judged t c =
+    let two = pair_of c.args.arguments.now c.text-item.result c.pattern-item.result c.in-len2.len_at_least c.in-len2.len_below c.text-item.is c.pattern-item.is in
+    let first : covers (sense_of c.args.scope.now) c.text-item.result ≡ true = ap (covers (sense_of c.args.scope.now)) (sym c.get.ensures) ∙ sure (covers (sense_of c.args.scope.now) c.get.result.now) c.args.left c.in_ok-text.ensures.judged in
+    let second : covers (sense_of c.args.scope.now) c.pattern-item.result ≡ true = ap (covers (sense_of c.args.scope.now)) (sym c.get-2.ensures) ∙ sure (covers (sense_of c.args.scope.now) c.get-2.result.now) c.args.left (was_settled (unless (covers (sense_of c.args.scope.now) c.get-2.result.now) c.args.left) c.settle_sought-sought.result c.in_ok-sought.ensures.judged c.settle_sought-sought.ensures.judged) in
+    holds (covers (sense_of c.args.scope.now) (from.Builtin fun.Match c.args.arguments.now)) c.args.left (match_covers (sense_of c.args.scope.now) c.args.arguments.now c.text-item.result c.pattern-item.result two ∙ both (covers (sense_of c.args.scope.now) c.text-item.result) (covers (sense_of c.args.scope.now) c.pattern-item.result) first second)
+
+pub settle_changed-returns-in-Of-clause-judged : goal.settle_changed-returns-in-Of-clause-judged
+settle_changed-returns-in-Of-clause-judged t c =
+    rw (of_changes (sense_of c.args.scope.now) c.args.e.now c.in-Of.place c.in-Of.is) c.settle_place.ensures.judged
+
+pub settle_changed-returns-in_default : goal.settle_changed-returns-in_default
+settle_changed-returns-in_default t c = record {
+  settled = tt;
+  judged = λ ne. fails (changes (sense_of c.args.scope.now) c.args.e.now) c.args.left (no_change (sense_of c.args.scope.now) c.args.e.now c.in_default.not-Of) ∙ ap Some (sym c.left_out.ensures);
+}
+
+pub settle_replace-returns-in_err-sought-in-len2-clause-judged : goal.settle_replace-returns-in_err-sought-in-len2-clause-judged
+settle_replace-returns-in_err-sought-in-len2-clause-judged t c =
+    let p = err_from_is_err_and c.from_residual.result c.from_residual.ensures.1 in
+    let two = pair_of c.args.arguments.now c.sought-item.result c.by-item.result c.in-len2.len_at_least c.in-len2.len_below c.sought-item.is c.by-item.is in
+    exits c.from_residual.result (unless (covers (sense_of c.args.scope.now) (from.Builtin c.args.function c.args.arguments.now)) c.args.left) c.in_err-sought-in-len2.field-0.0 p.0 p.1 p.2 (passes (covers (sense_of c.args.scope.now) c.get.result.now && covers (sense_of c.args.scope.now) c.get-in-len2.result.now) (covers (sense_of c.args.scope.now) (from.Builtin c.args.function c.args.arguments.now)) c.args.left c.in_err-sought-in-len2.field-0.0
+    (λ h. record_covers (sense_of c.args.scope.now) c.args.function c.args.extent c.args.arguments.now c.sought-item.result c.by-item.result c.requires two ∙ ap (λ x. covers (sense_of c.args.scope.now) x && covers (sense_of c.args.scope.now) c.by-item.result) (sym c.get.ensures) ∙ ap (λ x. covers (sense_of c.args.scope.now) c.get.result.now && covers (sense_of c.args.scope.now) x) (sym c.get-in-len2.ensures) ∙ h) c.in_err-sought-in-len2.ensures.judged)
+
+pub settle_replace-returns-in_err-sought-in-len3-clause-judged : goal.settle_replace-returns-in_err-sought-in-len3-clause-judged
+settle_replace-returns-in_err-sought-in-len3-clause-judged t c =
+    let p = err_from_is_err_and c.from_residual-in_err-sought-in-len3.result c.from_residual-in_err-sought-in-len3.ensures.1 in
+    let x = c.sought-item-then-arguments-lt4.result in
+    let y = c.by-item-then-arguments-lt4.result in
+    let z = c.changed-item.result in
+    let three = three_of c.args.arguments.now x y z c.in-len3.len_at_least c.in-len3.len_below c.sought-item-then-arguments-lt4.is c.by-item-then-arguments-lt4.is c.changed-item.is in
+    exits c.from_residual-in_err-sought-in-len3.result (unless (covers (sense_of c.args.scope.now) (from.Builtin c.args.function c.args.arguments.now)) c.args.left) c.in_err-sought-in-len3.field-0.0 p.0 p.1 p.2 (passes (covers (sense_of c.args.scope.now) c.get-in-len3.result.now && covers (sense_of c.args.scope.now) c.get-in-len3-2.result.now) (covers (sense_of c.args.scope.now) (from.Builtin c.args.function c.args.arguments.now)) c.args.left c.in_err-sought-in-len3.field-0.0
+    (λ h. changed_covers (sense_of c.args.scope.now) c.args.function c.args.extent c.args.arguments.now x y z c.requires three ∙ first_false (covers (sense_of c.args.scope.now) x && covers (sense_of c.args.scope.now) y) (changes (sense_of c.args.scope.now) z) (ap (λ v. covers (sense_of c.args.scope.now) v && covers (sense_of c.args.scope.now) y) (sym c.get-in-len3.ensures) ∙ ap (λ v. covers (sense_of c.args.scope.now) c.get-in-len3.result.now && covers (sense_of c.args.scope.now) v) (sym c.get-in-len3-2.ensures) ∙ h)) c.in_err-sought-in-len3.ensures.judged)
+
+pub settle_replace-returns-in_err-place-in-len3-clause-judged : goal.settle_replace-returns-in_err-place-in-len3-clause-judged
+settle_replace-returns-in_err-place-in-len3-clause-judged t c =
+    let p = err_from_is_err_and c.from_residual-in_err-place-in-len3.result c.from_residual-in_err-place-in-len3.ensures.1 in
+    let x = c.sought-item-then-arguments-lt4.result in
+    let y = c.by-item-then-arguments-lt4.result in
+    let z = c.changed-item.result in
+    let three = three_of c.args.arguments.now x y z c.in-len3.len_at_least c.in-len3.len_below c.sought-item-then-arguments-lt4.is c.by-item-then-arguments-lt4.is c.changed-item.is in
+    exits c.from_residual-in_err-place-in-len3.result (unless (covers (sense_of c.args.scope.now) (from.Builtin c.args.function c.args.arguments.now)) c.args.left) c.in_err-place-in-len3.field-0.0 p.0 p.1 p.2 (passes (changes (sense_of c.args.scope.now) c.get-in-len3-3.result.now) (covers (sense_of c.args.scope.now) (from.Builtin c.args.function c.args.arguments.now)) c.args.left c.in_err-place-in-len3.field-0.0
+    (λ h. changed_covers (sense_of c.args.scope.now) c.args.function c.args.extent c.args.arguments.now x y z c.requires three ∙ second_false (covers (sense_of c.args.scope.now) x && covers (sense_of c.args.scope.now) y) (changes (sense_of c.args.scope.now) z) (ap (changes (sense_of c.args.scope.now)) (sym c.get-in-len3-3.ensures) ∙ h)) c.in_err-place-in-len3.ensures.judged)
+
+pub settle_replace-returns-in_ok-place-in-len2-clause-settled : goal.settle_replace-returns-in_ok-place-in-len2-clause-settled
+settle_replace-returns-in_ok-place-in-len2-clause-settled t c =
+    let two = pair_of c.args.arguments.now c.sought-item.result c.by-item.result c.in-len2.len_at_least c.in-len2.len_below c.sought-item.is c.by-item.is in
+    record_settles (sense_of c.args.scope.now) c.args.function c.args.extent c.args.arguments.now c.get.result.now c.get-in-len2.result.now c.in_ok-sought-in-len2.sought c.in_ok-sought-in-len2.by c.in_ok-place-in-len2.place c.requires
+    (two ∙ ap (λ v. v ∷ c.by-item.result ∷ []) (sym c.get.ensures) ∙ ap (λ v. c.get.result.now ∷ v ∷ []) (sym c.get-in-len2.ensures)) c.in_ok-sought-in-len2.ensures.sought c.in_ok-sought-in-len2.ensures.by c.in_ok-place-in-len2.ensures
+
+pub settle_replace-returns-in_ok-place-in-len2-clause-judged : goal.settle_replace-returns-in_ok-place-in-len2-clause-judged
+settle_replace-returns-in_ok-place-in-len2-clause-judged t c =
+    let two = pair_of c.args.arguments.now c.sought-item.result c.by-item.result c.in-len2.len_at_least c.in-len2.len_below c.sought-item.is c.by-item.is in
+    holds (covers (sense_of c.args.scope.now) (from.Builtin c.args.function c.args.arguments.now)) c.args.left (record_covers (sense_of c.args.scope.now) c.args.function c.args.extent c.args.arguments.now c.sought-item.result c.by-item.result c.requires two ∙ ap (λ x. covers (sense_of c.args.scope.now) x && covers (sense_of c.args.scope.now) c.by-item.result) (sym c.get.ensures) ∙ ap (λ x. covers (sense_of c.args.scope.now) c.get.result.now && covers (sense_of c.args.scope.now) x) (sym c.get-in-len2.ensures) ∙ sure (covers (sense_of c.args.scope.now) c.get.result.now && covers (sense_of c.args.scope.now) c.get-in-len2.result.now) c.args.left c.in_ok-sought-in-len2.ensures.judged)
+
+pub settle_replace-returns-in_ok-place-in-len3-clause-settled : goal.settle_replace-returns-in_ok-place-in-len3-clause-settled
+settle_replace-returns-in_ok-place-in-len3-clause-settled t c =
+    let x = c.sought-item-then-arguments-lt4.result in
+    let y = c.by-item-then-arguments-lt4.result in
+    let z = c.changed-item.result in
+    let three = three_of c.args.arguments.now x y z c.in-len3.len_at_least c.in-len3.len_below c.sought-item-then-arguments-lt4.is c.by-item-then-arguments-lt4.is c.changed-item.is in
+    replaced_settles (sense_of c.args.scope.now) c.args.function c.args.extent c.args.arguments.now c.get-in-len3.result.now c.get-in-len3-2.result.now c.get-in-len3-3.result.now c.in_ok-sought-in-len3.sought c.in_ok-sought-in-len3.by c.in_ok-place-in-len3.place c.requires
+    (three ∙ ap (λ v. v ∷ y ∷ z ∷ []) (sym c.get-in-len3.ensures) ∙ ap (λ v. c.get-in-len3.result.now ∷ v ∷ z ∷ []) (sym c.get-in-len3-2.ensures) ∙ ap (λ v. c.get-in-len3.result.now ∷ c.get-in-len3-2.result.now ∷ v ∷ []) (sym c.get-in-len3-3.ensures))
+    c.in_ok-sought-in-len3.ensures.sought c.in_ok-sought-in-len3.ensures.by c.in_ok-place-in-len3.ensures.settled
+
+pub settle_replace-returns-in_ok-place-in-len3-clause-judged : goal.settle_replace-returns-in_ok-place-in-len3-clause-judged
+settle_replace-returns-in_ok-place-in-len3-clause-judged t c =
+    let x = c.sought-item-then-arguments-lt4.result in
+    let y = c.by-item-then-arguments-lt4.result in
+    let z = c.changed-item.result in
+    let three = three_of c.args.arguments.now x y z c.in-len3.len_at_least c.in-len3.len_below c.sought-item-then-arguments-lt4.is c.by-item-then-arguments-lt4.is c.changed-item.is in
+    let front : (covers (sense_of c.args.scope.now) x && covers (sense_of c.args.scope.now) y) ≡ true = ap (λ v. covers (sense_of c.args.scope.now) v && covers (sense_of c.args.scope.now) y) (sym c.get-in-len3.ensures) ∙ ap (λ v. covers (sense_of c.args.scope.now) c.get-in-len3.result.now && covers (sense_of c.args.scope.now) v) (sym c.get-in-len3-2.ensures) ∙ sure (covers (sense_of c.args.scope.now) c.get-in-len3.result.now && covers (sense_of c.args.scope.now) c.get-in-len3-2.result.now) c.args.left c.in_ok-sought-in-len3.ensures.judged in
+    let last : changes (sense_of c.args.scope.now) z ≡ true = ap (changes (sense_of c.args.scope.now)) (sym c.get-in-len3-3.ensures) ∙ sure (changes (sense_of c.args.scope.now) c.get-in-len3-3.result.now) c.args.left c.in_ok-place-in-len3.ensures.judged in
+    holds (covers (sense_of c.args.scope.now) (from.Builtin c.args.function c.args.arguments.now)) c.args.left (changed_covers (sense_of c.args.scope.now) c.args.function c.args.extent c.args.arguments.now x y z c.requires three ∙ both (covers (sense_of c.args.scope.now) x && covers (sense_of c.args.scope.now) y) (changes (sense_of c.args.scope.now) z) front last)
+
+pub settle_replace-returns-in_default-clause-judged : goal.settle_replace-returns-in_default-clause-judged
+settle_replace-returns-in_default-clause-judged t c =
+    let not_two : length c.args.arguments.now ≢ 2 = λ h. elim c.in_default.branch [
+      | settle_replace-in_default-via-then-arguments-lt2 w ↦ grind (arith, nat_tests, h)
+      | settle_replace-in_default-via-else-arguments-lt2+else-arguments-lt3+else-arguments-lt4 w ↦ grind (arith, nat_tests, h)
+    ] in
+    let not_three : length c.args.arguments.now ≢ 3 = λ h. elim c.in_default.branch [
+      | settle_replace-in_default-via-then-arguments-lt2 w ↦ grind (arith, nat_tests, h)
+      | settle_replace-in_default-via-else-arguments-lt2+else-arguments-lt3+else-arguments-lt4 w ↦ grind (arith, nat_tests, h)
+    ] in
+    λ ne. fails (covers (sense_of c.args.scope.now) (from.Builtin c.args.function c.args.arguments.now)) c.args.left (replace_uncovered (sense_of c.args.scope.now) c.args.function c.args.extent c.args.arguments.now c.requires not_two not_three) ∙ ap Some (sym c.left_out.ensures)
+
+pub settle_builtin-returns-in_err-arguments-in_default-clause-judged : goal.settle_builtin-returns-in_err-arguments-in_default-clause-judged
+settle_builtin-returns-in_err-arguments-in_default-clause-judged t c =
+    let p = err_from_is_err_and c.from_residual.result c.from_residual.ensures.1 in
+    exits c.from_residual.result (unless (covers (sense_of c.args.scope.now) (from.Builtin c.args.function c.args.arguments.now)) c.args.left) c.in_err-arguments-in_default.field-0.0 p.0 p.1 p.2 (passes (each (covers (sense_of c.args.scope.now)) c.args.arguments.now) (covers (sense_of c.args.scope.now) (from.Builtin c.args.function c.args.arguments.now)) c.args.left c.in_err-arguments-in_default.field-0.0 (λ h. applied_covers (sense_of c.args.scope.now) c.args.function c.args.arguments.now c.in_default.not-Match c.in_default.not-Sub c.in_default.not-Gsub ∙ second_false (has_builtin c.args.function (length c.args.arguments.now)) (each (covers (sense_of c.args.scope.now)) c.args.arguments.now) h) c.in_err-arguments-in_default.ensures.judged)
+
+pub settle_builtin-returns-in_ok-arguments-in_default-clause-settled : goal.settle_builtin-returns-in_ok-arguments-in_default-clause-settled
+settle_builtin-returns-in_ok-arguments-in_default-clause-settled t c =
+    builtin_settles (sense_of c.args.scope.now) c.apply_builtin.result c.args.function c.args.arguments.now c.in_ok-arguments-in_default.arguments.items c.in_ok-arguments-in_default.ensures.settled c.apply_builtin.ensures.settled
+
+pub settle_builtin-returns-in_ok-arguments-in_default-clause-judged : goal.settle_builtin-returns-in_ok-arguments-in_default-clause-judged
+settle_builtin-returns-in_ok-arguments-in_default-clause-judged t c =
+    applied_judged c.apply_builtin.result (sense_of c.args.scope.now) c.args.function c.args.arguments.now (length c.in_ok-arguments-in_default.arguments.items) c.args.left c.in_default.not-Match c.in_default.not-Sub c.in_default.not-Gsub
+    (sure (each (covers (sense_of c.args.scope.now)) c.args.arguments.now) c.args.left c.in_ok-arguments-in_default.ensures.judged) (same_count (sense_of c.args.scope.now) c.in_ok-arguments-in_default.ensures.settled) c.apply_builtin.ensures.judged
 
 pub settle_tests-loop-test-init : goal.settle_tests-loop-test-init
 settle_tests-loop-test-init t c =
@@ -280,7 +397,7 @@ settle_links-loop-link-preserved t c =
 pub settle_place-returns-in_err-number-in-Field-clause-judged : goal.settle_place-returns-in_err-number-in-Field-clause-judged
 settle_place-returns-in_err-number-in-Field-clause-judged t c =
     let p = err_from_is_err_and c.from_residual.result c.from_residual.ensures.1 in
-    exits c.from_residual.result (unless (place_cover (sense_of c.args.scope.now) c.args.place.now).reads c.args.left) c.in_err-number-in-Field.field-0.0 p.0 p.1 p.2 (passes (covers (sense_of c.args.scope.now) c.get.result.now) (place_cover (sense_of c.args.scope.now) c.args.place.now).reads c.args.left c.in_err-number-in-Field.field-0.0 (λ h. ap (λ k. k.reads) (field_cover (sense_of c.args.scope.now) c.args.place.now c.in-Field.e c.get.result.now c.in-Field.is c.get.ensures) ∙ h) c.in_err-number-in-Field.ensures.judged)
+    exits c.from_residual.result (unless (covers_place (sense_of c.args.scope.now) c.args.place.now) c.args.left) c.in_err-number-in-Field.field-0.0 p.0 p.1 p.2 (passes (covers (sense_of c.args.scope.now) c.get.result.now) (covers_place (sense_of c.args.scope.now) c.args.place.now) c.args.left c.in_err-number-in-Field.field-0.0 (λ h. field_covers (sense_of c.args.scope.now) c.args.place.now c.in-Field.e c.get.result.now c.in-Field.is c.get.ensures ∙ h) c.in_err-number-in-Field.ensures.judged)
 
 pub settle_place-returns-in_ok-number-in-Field-clause-settled : goal.settle_place-returns-in_ok-number-in-Field-clause-settled
 settle_place-returns-in_ok-number-in-Field-clause-settled t c =
@@ -288,11 +405,11 @@ settle_place-returns-in_ok-number-in-Field-clause-settled t c =
 
 pub settle_place-returns-in_ok-number-in-Field-clause-judged : goal.settle_place-returns-in_ok-number-in-Field-clause-judged
 settle_place-returns-in_ok-number-in-Field-clause-judged t c =
-    holds (place_cover (sense_of c.args.scope.now) c.args.place.now).reads c.args.left (ap (λ k. k.reads) (field_cover (sense_of c.args.scope.now) c.args.place.now c.in-Field.e c.get.result.now c.in-Field.is c.get.ensures) ∙ sure (covers (sense_of c.args.scope.now) c.get.result.now) c.args.left c.in_ok-number-in-Field.ensures.judged)
+    holds (covers_place (sense_of c.args.scope.now) c.args.place.now) c.args.left (field_covers (sense_of c.args.scope.now) c.args.place.now c.in-Field.e c.get.result.now c.in-Field.is c.get.ensures ∙ sure (covers (sense_of c.args.scope.now) c.get.result.now) c.args.left c.in_ok-number-in-Field.ensures.judged)
 
 pub settle_place-returns-in-Element-clause-judged : goal.settle_place-returns-in-Element-clause-judged
 settle_place-returns-in-Element-clause-judged t c =
-    λ ne. fails (place_cover (sense_of c.args.scope.now) c.args.place.now).reads c.args.left (ap (λ k. k.reads) (element_cover (sense_of c.args.scope.now) c.args.place.now _ _ c.in-Element.is)) ∙ ap Some (sym c.left_out.ensures)
+    λ ne. fails (covers_place (sense_of c.args.scope.now) c.args.place.now) c.args.left (element_covers (sense_of c.args.scope.now) c.args.place.now _ _ c.in-Element.is) ∙ ap Some (sym c.left_out.ensures)
 
 pub settle_list-loop-e-init : goal.settle_list-loop-e-init
 settle_list-loop-e-init t c = record { settled = rw c.new-settled.ensures.items spec.no_exprs; judged = refl }

@@ -2,6 +2,7 @@ use Rattle.std.proofs.Common.{◌≡◌, ◌+◌, ◌*◌, max, take, true}
 use denote.Param.Weighed.{most}
 use Rattle.rawk_parsing.proofs.tree.Expr.TheLaws as expr
 use Rattle.rawk_parsing.proofs.tree.Link.TheLaws as link
+use Rattle.rawk_parsing.proofs.tree.Place.TheLaws as place
 use Rattle.rawk_syntax.specs.Covered.{each, covers, covers_link}
 use Rattle.rawk_syntax.specs.Meant.{sense_of}
 use Rattle.rawk_syntax.specs.Settled.{Settles, SomeLinks, SomeTests, SomeExprs}
@@ -28,43 +29,58 @@ invariant-settle_list-loop-e l = record {
 -- the depth, and whose calls come first where it stays
 
 abbrev pub decreases-settle_expr : goal.decreases-settle_expr
-decreases-settle_expr l = 3 * goal.size-settle_expr l + 0
+decreases-settle_expr l = 5 * goal.size-settle_expr l + 0
 
 abbrev pub decreases-settle_boxed : goal.decreases-settle_boxed
-decreases-settle_boxed l = 3 * goal.size-settle_boxed l + 1
+decreases-settle_boxed l = 5 * goal.size-settle_boxed l + 1
 
 abbrev pub decreases-settle_sought : goal.decreases-settle_sought
-decreases-settle_sought l = 3 * expr.the_size l.e.now + 1
+decreases-settle_sought l = 5 * expr.the_size l.e.now + 1
 
 abbrev pub decreases-settle_right : goal.decreases-settle_right
-decreases-settle_right l = 3 * expr.the_size l.e.now + 2
+decreases-settle_right l = 5 * expr.the_size l.e.now + 2
 
 abbrev pub decreases-settle_place : goal.decreases-settle_place
-decreases-settle_place l = 3 * goal.size-settle_place l + 0
+decreases-settle_place l = 5 * goal.size-settle_place l + 0
 
 abbrev pub decreases-settle_links : goal.decreases-settle_links
-decreases-settle_links l = 3 * goal.size-settle_links l + 1
+decreases-settle_links l = 5 * goal.size-settle_links l + 1
 
 abbrev pub decreases-settle_tests : goal.decreases-settle_tests
-decreases-settle_tests l = 3 * goal.size-settle_tests l + 1
+decreases-settle_tests l = 5 * goal.size-settle_tests l + 1
 
 abbrev pub decreases-settle_list : goal.decreases-settle_list
-decreases-settle_list l = 3 * goal.size-settle_list l + 1
+decreases-settle_list l = 5 * goal.size-settle_list l + 1
 
 abbrev pub decreases-settle_logic : goal.decreases-settle_logic
-decreases-settle_logic l = 3 * goal.size-settle_logic l + 2
+decreases-settle_logic l = 5 * goal.size-settle_logic l + 2
+
+abbrev pub decreases-settle_match : goal.decreases-settle_match
+decreases-settle_match l = 5 * goal.size-settle_match l + 2
+
+abbrev pub decreases-settle_replacement : goal.decreases-settle_replacement
+decreases-settle_replacement l = 5 * max (expr.the_size l.sought.now) (expr.the_size l.by.now) + 2
+
+abbrev pub decreases-settle_changed : goal.decreases-settle_changed
+decreases-settle_changed l = 5 * expr.the_size l.e.now + 1
+
+abbrev pub decreases-settle_replace : goal.decreases-settle_replace
+decreases-settle_replace l = 5 * goal.size-settle_replace l + 3
+
+abbrev pub decreases-settle_builtin : goal.decreases-settle_builtin
+decreases-settle_builtin l = 5 * goal.size-settle_builtin l + 4
 
 abbrev pub decreases-settle_call : goal.decreases-settle_call
-decreases-settle_call l = 3 * goal.size-settle_call l + 2
+decreases-settle_call l = 5 * goal.size-settle_call l + 2
 
 abbrev pub decreases-settle_power : goal.decreases-settle_power
-decreases-settle_power l = 3 * max (expr.the_size l.base.now) (expr.the_size l.exponent.now) + 2
+decreases-settle_power l = 5 * max (expr.the_size l.base.now) (expr.the_size l.exponent.now) + 2
 
 abbrev pub decreases-settle_chain : goal.decreases-settle_chain
-decreases-settle_chain l = 3 * max (expr.the_size l.first.now) (most link.the_size l.links.now) + 2
+decreases-settle_chain l = 5 * max (expr.the_size l.first.now) (most link.the_size l.links.now) + 2
 
 abbrev pub decreases-settle_choice : goal.decreases-settle_choice
-decreases-settle_choice l = 3 * max (expr.the_size l.test.now) (max (expr.the_size l.yes.now) (expr.the_size l.no.now)) + 2
+decreases-settle_choice l = 5 * max (expr.the_size l.test.now) (max (expr.the_size l.yes.now) (expr.the_size l.no.now)) + 2
 
 abbrev pub decreases-settle_assign : goal.decreases-settle_assign
-decreases-settle_assign l = 3 * expr.the_size l.value.now + 2
+decreases-settle_assign l = 5 * max (place.the_size l.place.now) (expr.the_size l.value.now) + 2

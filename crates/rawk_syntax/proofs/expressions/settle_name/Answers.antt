@@ -1,8 +1,8 @@
 use Rattle.std.proofs.Common.{◌∙◌, Some, ap, refl, sym}
 use Rattle.rawk_parsing.specs.declared.tree.Place.TheVariants as from_place
-use Rattle.rawk_syntax.specs.Covered.{place_cover}
+use Rattle.rawk_syntax.specs.Covered.{covers_place}
 use Rattle.rawk_syntax.specs.Meant.{sense_of}
-use Rattle.rawk_syntax.proofs.Coverings.{fails, holds, name_reads}
+use Rattle.rawk_syntax.proofs.Coverings.{fails, holds, name_covers}
 use Rattle.rawk_syntax.proofs.Settlements.{name_settles}
 use Rattle.rawk_syntax.proofs.expressions.settle_name.Goals as goal
 
@@ -12,8 +12,8 @@ returns-in-Some-clause-settled c =
 
 pub returns-in-Some-clause-judged : goal.returns-in-Some-clause-judged
 returns-in-Some-clause-judged c =
-    holds (place_cover (sense_of c.args.scope.now) (from_place.Name c.args.name.now)).reads c.args.left (name_reads (sense_of c.args.scope.now) (from_place.Name c.args.name.now) c.args.name.now c.as_slice.result.now _ refl c.as_slice.ensures c.in-Some.ensures)
+    holds (covers_place (sense_of c.args.scope.now) (from_place.Name c.args.name.now)) c.args.left (name_covers (sense_of c.args.scope.now) (from_place.Name c.args.name.now) c.args.name.now c.as_slice.result.now _ refl c.as_slice.ensures c.in-Some.ensures)
 
 pub returns-in-None-clause-judged : goal.returns-in-None-clause-judged
 returns-in-None-clause-judged c =
-    λ ne. fails (place_cover (sense_of c.args.scope.now) (from_place.Name c.args.name.now)).reads c.args.left (name_reads (sense_of c.args.scope.now) (from_place.Name c.args.name.now) c.args.name.now c.as_slice.result.now _ refl c.as_slice.ensures c.in-None.ensures) ∙ ap Some (sym c.left_out.ensures)
+    λ ne. fails (covers_place (sense_of c.args.scope.now) (from_place.Name c.args.name.now)) c.args.left (name_covers (sense_of c.args.scope.now) (from_place.Name c.args.name.now) c.args.name.now c.as_slice.result.now _ refl c.as_slice.ensures c.in-None.ensures) ∙ ap Some (sym c.left_out.ensures)

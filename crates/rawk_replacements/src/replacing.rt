@@ -1,0 +1,189 @@
+//! Matches that give way to a replacement (POSIX awk, String Functions, `sub` and `gsub`).
+
+ghost use Rattle.std.specs.Prelude.{◌≡◌, ◌∷◌, ◌++◌, ℕ, List, [], Some, None, IfOk, OnOk, length, nat_eq, slice_range, ◌||◌};
+ghost use Rattle.rawk_search.specs.Found.{IsWithin};
+ghost use Rattle.rawk_search.specs.Replacements.{cuts, next_cut, replaced, replacement};
+ghost use Rattle.rawk_replacements.specs.Replaced.{held, made, replaced_by, taken};
+
+use rawk_ere::Ere;
+use rawk_search::{Pattern, Span, next_cut};
+use rawk_value::Bytes;
+use rawk_words::Extent;
+use std::alloc::{AllocError, Global};
+
+/// A text with replacements, and how many there are.
+#[derive(Drop)]
+pub struct Replaced {
+    pub text: Bytes,
+    pub count: usize,
+}
+
+/// Whether a backslash before a byte of a replacement stands for nothing.
+fn is_escaped(byte: u8) -> bool
+    ensures { result ≡ nat_eq byte 38 || nat_eq byte 92 }
+{
+    byte == b'&' || byte == b'\\'
+}
+
+/// Adds what a byte of a replacement stands for behind a backslash. An error: memory was refused.
+fn push_escaped(out: &mut Vec<u8>, byte: u8) -> Result<(), AllocError>
+    ensures { OnOk result ((found rest : List ℕ) → out.new.items ++ replacement found rest ≡ out.old.items ++ replacement found (92 ∷ (byte ∷ rest))) }
+{
+    if is_escaped(byte) {
+        out.push(byte)?;
+        return Ok(());
+    }
+    out.push(b'\\')?;
+    out.push(byte)?;
+    Ok(())
+}
+
+/// Adds what another byte of it stands for, and answers whether it is a backslash, of which the next byte says what it stands for. An error: memory was refused.
+fn push_plain(out: &mut Vec<u8>, byte: u8, found: &[u8]) -> Result<bool, AllocError>
+    ensures { IfOk result (λ now. (rest : List ℕ) → out.new.items ++ replacement found.now (held now ++ rest) ≡ out.old.items ++ replacement found.now (byte ∷ rest)) }
+{
+    if byte == b'\\' {
+        return Ok(true);
+    }
+    if byte == b'&' {
+        out.extend_from_slice(found)?;
+    } else {
+        out.push(byte)?;
+    }
+    Ok(false)
+}
+
+/// Adds what a byte of a replacement stands for, behind a backslash that is held or not, and answers whether one is held now. An error: memory was refused.
+fn push_byte(out: &mut Vec<u8>, holds: bool, byte: u8, found: &[u8]) -> Result<bool, AllocError>
+    ensures { IfOk result (λ now. (rest : List ℕ) → out.new.items ++ replacement found.now (held now ++ rest) ≡ out.old.items ++ replacement found.now (held holds ++ byte ∷ rest)) }
+{
+    if holds {
+        push_escaped(out, byte)?;
+        Ok(false)
+    } else {
+        push_plain(out, byte, found)
+    }
+}
+
+/// Adds what stands for a match: a `&` is the match, `\&` an ampersand, `\\` a backslash, and any other byte itself. An error: memory was refused.
+fn push_replacement(out: &mut Vec<u8>, by: &[u8], found: &[u8]) -> Result<(), AllocError>
+    ensures { OnOk result (out.new.items ≡ out.old.items ++ replacement found.now by.now) }
+{
+    let mut holds = false;
+    for byte in by {
+        holds = push_byte(out, holds, *byte, found)?;
+    }
+    if holds {
+        out.push(b'\\')?;
+    }
+    Ok(())
+}
+
+/// Adds a text from a place on up to a match, and what stands for the match. An error: memory was refused.
+fn push_match(
+    out: &mut Vec<u8>,
+    by: &[u8],
+    text: &[u8],
+    from: usize,
+    found: Span,
+) -> Result<(), AllocError>
+    requires { IsWithin from text.now found }
+    ensures { OnOk result (out.new.items ≡ out.old.items ++ (slice_range text.now from found.start ++ replacement (slice_range text.now found.start found.end) by.now)) }
+{
+    out.extend_from_slice(&text[from..found.start])?;
+    push_replacement(out, by, &text[found.start..found.end])
+}
+
+/// Adds a text with all its matches replaced, of which this is the first, and answers how many there are. An error: memory was refused.
+fn push_cuts(
+    alloc: Global,
+    out: &mut Vec<u8>,
+    ere: &Ere,
+    by: &[u8],
+    text: &[u8],
+    first: Span,
+) -> Result<usize, AllocError>
+    requires { Some first ≡ next_cut text.now ere.now 0 None }
+    ensures items { IfOk result (λ n. out.new.items ≡ out.old.items ++ replaced by.now text.now 0 (cuts text.now ere.now)) }
+    ensures count { IfOk result (λ n. n ≡ length (cuts text.now ere.now)) }
+{
+    let mut next = Some(first);
+    let mut copied = 0;
+    let mut at = 0;
+    let mut count = 0;
+    while let Some(found) = next {
+        push_match(out, by, text, copied, found)?;
+        copied = found.end;
+        count += 1;
+        if found.start < found.end {
+            at = found.end;
+            next = next_cut(alloc, ere, text, at, Some(at))?;
+        } else {
+            at = found.start + 1;
+            next = if at <= text.len() {
+                next_cut(alloc, ere, text, at, None)?
+            } else {
+                None
+            };
+        }
+    }
+    out.extend_from_slice(&text[copied..])?;
+    Ok(count)
+}
+
+/// A text with its first match replaced, which is this. An error: memory was refused.
+fn with_first(
+    alloc: Global,
+    ere: &Ere,
+    by: &[u8],
+    text: &[u8],
+    first: Span,
+) -> Result<Replaced, AllocError>
+    requires first { Some first ≡ next_cut text.now ere.now 0 None }
+    requires within { IsWithin 0 text.now first }
+    ensures { IfOk result (λ r. Some r ≡ made by.now text.now (taken Extent.First (cuts text.now ere.now))) }
+{
+    let mut out = Vec::new(alloc);
+    push_match(&mut out, by, text, 0, first)?;
+    out.extend_from_slice(&text[first.end..])?;
+    let text = Bytes::from_vec(alloc, out)?;
+    Ok(Replaced { text, count: 1 })
+}
+
+/// A text with all its matches replaced, of which this is the first. An error: memory was refused.
+fn with_all(
+    alloc: Global,
+    ere: &Ere,
+    by: &[u8],
+    text: &[u8],
+    first: Span,
+) -> Result<Replaced, AllocError>
+    requires { Some first ≡ next_cut text.now ere.now 0 None }
+    ensures { IfOk result (λ r. Some r ≡ made by.now text.now (taken Extent.All (cuts text.now ere.now))) }
+{
+    let mut out = Vec::new(alloc);
+    let count = push_cuts(alloc, &mut out, ere, by, text, first)?;
+    let text = Bytes::from_vec(alloc, out)?;
+    Ok(Replaced { text, count })
+}
+
+/// A text where the first match of an expression, or each, gives way to a replacement, in which a `&` stands for the match, `\&` for an ampersand and `\\` for a backslash; nothing where
+/// there is no match. It takes time by the length of the text and of what is made. An error: memory was refused.
+pub fn replace(
+    alloc: Global,
+    pattern: &Pattern,
+    by: &[u8],
+    text: &[u8],
+    extent: Extent,
+) -> Result<Option<Replaced>, AllocError>
+    ensures { IfOk result (λ o. Some o ≡ replaced_by extent pattern.now by.now text.now) }
+{
+    let ere = pattern.ere();
+    let Some(first) = next_cut(alloc, ere, text, 0, None)? else {
+        return Ok(None);
+    };
+    match extent {
+        Extent::First => Ok(Some(with_first(alloc, ere, by, text, first)?)),
+        Extent::All => Ok(Some(with_all(alloc, ere, by, text, first)?)),
+    }
+}
