@@ -32,6 +32,8 @@ RUNS = [
     (['/a(b|c)+$/ { n++ } $1 ~ $2 "x*", !/c/ { m += $0 ~ "b{2,9}" } END { for (i = 0; i < 4; i++) k += ("x" i % 2) ~ ("x|" i % 2); print n, m, k }'], b"abcb a\nb abb\nc\n"),
     (['BEGIN { getline; x = $2; while (getline > 0) { n += NF; s = s $1 } print x, n, s, getline }'], b"a text longer than a word\nb c d\n\ne\n"),
     (['{ $3 = $1 " longer than a word"; NF = 4; $0 = $0 " and more"; n += gsub(/[aeiou]+/, "<&&>") + sub("x*", "\\\\&", $2); $(NF - 1)++; print match($0, "b+"), RSTART, $0 }'], b"a text longer than a word\nb\n"),
+    (['{ n[$1, "a text longer than a word"]++; s[$2] = s[$2] $1 ","; k = k ($1 in s) } END { print n["a", "a text longer than a word"], s["b"], (("a", "b") in n), k, length(t[s["b"]]) }'], b"a b\nb text\na b\n"),
+    (['function f(k) { return a[k] = a[k - 1] "xyz" } BEGIN { for (i = 0; i < 12; i++) { f(i); n += gsub(/y/, "<&>", a[i]) + sub(/q/, "z", b[a[i]]) } print n, a[3], (12 in a), (a[4] in b); a[12] += "1.5" }'], b""),
     (['function f() { if (NR == 2) next; return 1 + g() } function g() { exit 3 } { print f() } END { print NR }'], b"a\nb\n"),
 ]
 
@@ -44,6 +46,8 @@ SESSIONS = [
     ("function sq(n) {\n t = t + 1\n return n * n\n}\nBEGIN {\n s = sq(3)\n s = s + sq(4)\n print s, t\n}", b"", ["next", "break sq", "next", "backtrace", "print n", "set n=5", "finish", "print s", "reverse-continue", "print n", "reverse-set", "watch t", "rc", "reverse-finish", "delete 1", "reverse-finish", "continue", "rc"]),
     ('{ x = $1; n = getline; y = $1 }', b"a text longer than a word\nb\nc\n", ["continue", "print y", "rs", "rs", "print $0", "rc", "step", "step", "step", "print $3", "set $0=\"another text that is longer\"", "rs", "step", "print $2", "continue", "rc", "continue"]),
     ('{ $2 = "a text longer than a word"; NF = 1; n = gsub(/b/, "&, longer than a word"); $3 = n }', b"b c d\n", ["continue", "rs", "rs", "print $0", "set $2=\"q\"", "rs", "rs", "print $0", "watch NF", "continue", "step", "print $3", "rc", "reverse-set", "continue", "rc"]),
+    ('{ n[$1]++; x = x n[$1] ("b" in n); a[x, "a text longer than a word"] = x n["c"] }', b"a\nb\na\n", ["continue", "print x", "rs", "rs", "step", "rc", "watch x", "continue", "set x=\"another text that is longer\"", "step", "continue", "print n", "rs", "print x", "rc", "rc", "continue", "reverse-set", "rc", "unwatch 1", "continue", "rc"]),
+    ('BEGIN { k = "a text longer than a word"; a[k]++; y = (k in a) a[k]; y = sub(/x/, "y", b[k, y]) / a[y] }', b"", ["step", "step", "step", "print y", "print a[\"k\"]", "rs", "set k=\"another text that is longer\"", "step", "print y", "continue", "rs", "rs", "reverse-set", "continue", "print y", "rc", "continue"]),
     ('{ x = $1 ~ r; r = $2 }', b"abc b+\nd (e|f)*g\n", ["continue", "rs", "rs", "set $2=\"a text longer than a word\"", "print $0", "set NF=3", "set $0=\"p:q  r\"", "print $2", "set FS=\":\"", "set $0=\"p:q  r\"", "print $2", "rs", "step", "step", "set r=\"[\"", "continue", "print r", "rc", "continue"]),
     ('BEGIN { s = "a text"; t = s; s = s " longer than a word"; s = s "!"; t = t "?"; print s, t }', b"", ["continue", "print s", "rs", "rs", "print t", "rs", "print s", "step", "print s", "set s=\"another text that is longer\"", "watch s", "continue", "print s", "rc", "continue", "rs", "reverse-set", "rc"]),
     ('function f(n) { return n < 1 ? "a text longer than a word" : f(n - 1) } BEGIN { x = f(30); print x }', b"", ["break f", "continue", "continue", "backtrace", "delete 1", "finish", "rs", "rc", "continue", "rc"]),

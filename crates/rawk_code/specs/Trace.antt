@@ -8,6 +8,7 @@ use Rattle.rawk_value.specs.declared.value.Value.{Value}
 use Rattle.rawk_value.specs.declared.value.Value.TheVariants.{Uninitialized, Input}
 use Rattle.rawk_value.specs.declared.fault.Fault.TheVariants.{NextOutside}
 use Rattle.rawk_value.specs.Values.{Bytes}
+use Rattle.rawk_arrays.specs.Elements.{no_elements}
 use Rattle.rawk_special.specs.Special.{first_specials, global_number}
 pub use Rattle.rawk_tree.specs.Sites.{line_at}
 use Rattle.rawk_code.specs.declared.settings.FirstValue as settings
@@ -95,7 +96,7 @@ start names ranges settings = record {
   points = [];
   state = record {
     globals = settled names settings (first_specials ++ replicate (length names) Uninitialized);
-    arrays = [];
+    arrays = replicate (length names) no_elements;
     frames = [];
     ranges = replicate ranges false;
     whole = [];

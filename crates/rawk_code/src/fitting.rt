@@ -9,8 +9,8 @@ use rawk_lexer::{has_name_form, is_reserved};
 use rawk_special::is_field_count;
 use rawk_tree::Program;
 
-/// Whether a program can take these first values: each name has the form of a name, and is no keyword, not NF, and the name of no function, built in or
-/// of the program (POSIX awk, Options, `-v`). A name that the program does not have fits, and has no effect. It takes no memory.
+/// Whether a program can take these first values: each name has the form of a name, and is no keyword, not NF, the name of no function, built in or
+/// of the program, and of no global array (POSIX awk, Options, `-v`). A name that the program does not have fits, and has no effect. It takes no memory.
 pub fn fits(program: &Program, settings: &Settings) -> bool
     ensures { result ≡ settings_fit program.now settings.now }
 {
@@ -28,4 +28,5 @@ fn can_be_assigned(program: &Program, name: &[u8]) -> bool
         && !is_reserved(name)
         && !is_field_count(name)
         && program.entry_of(name).is_none()
+        && !program.is_array(name)
 }

@@ -18,6 +18,7 @@ use Rattle.rawk_tree.specs.declared.tree.Stmt.{Stmt, end_of-Stmt, more_of-Stmt, 
 use Rattle.rawk_tree.specs.declared.tree.Stmt.TheVariants as stmt
 use Rattle.rawk_tree.specs.declared.tree.Function.{Function}
 use Rattle.rawk_tree.specs.declared.tree.Rule.{Rule}
+use Rattle.rawk_tree.specs.declared.tree.Kind.TheVariants as kind
 use Rattle.rawk_tree.specs.declared.tree.Program.{Program}
 use Rattle.rawk_special.specs.declared.special.TheConstants.{COUNT, NR}
 use Rattle.rawk_value.specs.Values.{Bytes}
@@ -102,7 +103,7 @@ module _ (b : Box (Unit {0}) Global) (ptr : Ptr) (alloc : Global) where
 
   abbrev whole : Function → Vec Stmt Global → Vec Rule Global → Vec Stmt Global → Program
   whole f begin rules end =
-      record { names = two (codes "x") (codes "y"); functions = one f; ranges = 1; begin = begin; rules = rules; end = end; lines = vec ptr alloc (1 ∷ 2 ∷ 3 ∷ 4 ∷ 5 ∷ 6 ∷ []) (omega arith) }
+      record { names = two (codes "x") (codes "y"); kinds = two kind.Scalar kind.Scalar; functions = one f; ranges = 1; begin = begin; rules = rules; end = end; lines = vec ptr alloc (1 ∷ 2 ∷ 3 ∷ 4 ∷ 5 ∷ 6 ∷ []) (omega arith) }
 
   abbrev always : ℕ → Stmt → Rule
   always site s = record { site = site; guard = guard.When (constant 1); action = s }

@@ -1,5 +1,6 @@
 pub mod Follows
 pub mod Expressions
+pub mod Keys
 pub mod Statements
 pub mod Adding
 pub mod Runs
@@ -15,3 +16,4 @@ pub mod Assembly
 pub mod FirstOutput
 pub mod Rows
 pub mod CallRows
+pub mod ArrayRows

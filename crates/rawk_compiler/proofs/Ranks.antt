@@ -3,7 +3,7 @@ use Rattle.std.proofs.Common.{◌≡◌, ℕ, pos, zero, suc, ◌+◌, ◌-◌, 
 use Rattle.std.specs.Prelude.{slice_get, nat_lt, ◌||◌}
 use Rattle.std.proofs.lemmas.Option.{slice_get_past}
 use Rattle.std.proofs.lemmas.Bool.{cases_lt, lt-ltb}
-use Rattle.rawk_tree.specs.declared.tree.Expr.{Expr, Row_of-Expr, end_of-Expr, more_of-Expr, Row_of-Link, end_of-Link, more_of-Link}
+use Rattle.rawk_tree.specs.declared.tree.Expr.{Expr, Row_of-Expr, end_of-Expr, more_of-Expr, items-the_row-Expr, Row_of-Link, end_of-Link, more_of-Link}
 use Rattle.rawk_tree.specs.declared.tree.Expr.TheVariants as expr
 use Rattle.rawk_tree.specs.declared.tree.Link.{Link}
 use Rattle.rawk_tree.specs.declared.tree.Link.TheVariants as link
@@ -32,7 +32,7 @@ use Rattle.rawk_code.specs.declared.code.Op.{Op}
 use Rattle.rawk_code.specs.declared.code.Op.TheVariants as does
 use Rattle.rawk_code.specs.declared.code.Instr.TheVariants as instr
 use Rattle.rawk_code.specs.Trace.{reads}
-use Rattle.rawk_compiler.specs.Code.{appending, constant_field, simple_field, unless_constant, destination_of, operand_of, sought_operand, constant_operand, right_operand, unless_ready, pushed, joined, choice_code, decide_code, expr_code, expr_codes, effect_code, place_code, parts_code, link_code, link_codes, front_of, simples_behind, Piece, nowhere, always, in_turn, when_code, Arm, then_to, branch_to, if_code, step_around, body_around, loop_code, jump_code, test_code, stmt_code, stmt_codes, arms_of, added, added_to, or_else, closing_code, opened_code, guard_code, rule_code, records_code, main_code, begin_code, record_at_of, end_at_of, functions_at_of, function_code, functions_code, entries_of, program_code, HasAt}
+use Rattle.rawk_compiler.specs.Code.{appending, constant_field, simple_field, unless_constant, destination_of, operand_of, sought_operand, constant_operand, right_operand, unless_ready, pushed, joined, key_code, key_operand, choice_code, decide_code, expr_code, expr_codes, effect_code, place_code, parts_code, link_code, link_codes, front_of, simples_behind, Piece, nowhere, always, in_turn, when_code, Arm, then_to, branch_to, if_code, step_around, body_around, loop_code, jump_code, test_code, stmt_code, stmt_codes, arms_of, added, added_to, or_else, closing_code, opened_code, guard_code, rule_code, records_code, main_code, begin_code, record_at_of, end_at_of, functions_at_of, function_code, functions_code, entries_of, program_code, HasAt}
 use Rattle.rawk_code.specs.Valid.{rank_of, rank, IsEntry, Descends, IsValid}
 use Rattle.rawk_compiler.proofs.Follows.{has_front, has_back, has_all}
 use Rattle.rawk_compiler.proofs.Statements.{branches_length}
@@ -106,6 +106,11 @@ module _ (code : List Instr) where
   decide_fine : (l : Logic) (test : List Instr) (from : Operand) → Fine test → Fine (decide_code l test from)
   decide_fine l test from ft = fine_cons (instr.Decide l (length test + 1)) (test ++ instr.Do (does.Truth from) ∷ []) (λ pc. tt) (fine_last test (instr.Do (does.Truth from)) (λ pc. tt) ft)
 
+  key_fine : (cs : List (List Instr)) → AllFine cs → Fine (key_code cs)
+  key_fine [] all = fine_last [] (instr.Do (does.Key 0)) (λ pc. tt) fine_none
+  key_fine (c ∷ []) all = all.0
+  key_fine (c ∷ d ∷ cs) all = fine_last (joined (c ∷ d ∷ cs)) (instr.Do (does.Key _)) (λ pc. tt) (joined_fine (c ∷ d ∷ cs) all)
+
   mutual
     expr_fine : (e : Expr) → Fine (expr_code e)
     expr_fine (expr.Number n) = fine_last [] (instr.Do (does.Push _)) (λ pc. tt) fine_none
@@ -133,6 +138,9 @@ module _ (code : List Instr) where
     expr_fine (expr.Sprintf' p f shape args) =
         fine_append (expr_code f) (joined (expr_codes args) ++ instr.Do (does.Sprintf (length (expr_codes args))) ∷ []) (expr_fine f) (fine_last (joined (expr_codes args)) (instr.Do (does.Sprintf (length (expr_codes args)))) (λ pc. tt) (joined_fine (expr_codes args) (exprs_fine args)))
     expr_fine expr.Getline = fine_cons (instr.ReadRecord 2) _ (λ pc. tt) (fine_cons (instr.Do (does.Push (simple.Number (pos 1)))) _ (λ pc. tt) (fine_cons (instr.GoOn 1) _ (λ pc. tt) (fine_cons (instr.Do (does.Push (simple.Number (pos 0)))) [] (λ pc. tt) fine_none)))
+    expr_fine (expr.Has' a shape subscripts) =
+        let from = key_operand (items-the_row-Expr _ subscripts) in
+        fine_last (unless_ready from (key_code (expr_codes subscripts))) (instr.Do (does.Has a from)) (λ pc. tt) (unless_fine from (key_code (expr_codes subscripts)) (key_fine (expr_codes subscripts) (exprs_fine subscripts)))
 
     exprs_fine : {m : _} → (row : Row_of-Expr m) → AllFine (expr_codes row)
     exprs_fine end_of-Expr = tt
@@ -143,12 +151,16 @@ module _ (code : List Instr) where
     place_fine (place.Local i) = fine_last [] (instr.Do (does.Push _)) (λ pc. tt) fine_none
     place_fine place.FieldCount = fine_last [] (instr.Do (does.Push _)) (λ pc. tt) fine_none
     place_fine (place.Field' p e) = pushed_fine (simple_field (constant_field e)) (expr_code e ++ instr.Do does.FieldAt ∷ []) (fine_last (expr_code e) (instr.Do does.FieldAt) (λ pc. tt) (expr_fine e))
+    place_fine (place.Element' a shape subscripts) =
+        let from = key_operand (items-the_row-Expr _ subscripts) in
+        fine_last (unless_ready from (key_code (expr_codes subscripts))) (instr.Do (does.ElementAt a from)) (λ pc. tt) (unless_fine from (key_code (expr_codes subscripts)) (key_fine (expr_codes subscripts) (exprs_fine subscripts)))
 
     parts_fine : (q : Place) → Fine (parts_code q)
     parts_fine (place.Global x) = fine_none
     parts_fine (place.Local i) = fine_none
     parts_fine place.FieldCount = fine_none
     parts_fine (place.Field' p e) = constant_fine (constant_field e) (expr_code e ++ instr.Do does.FieldNumber ∷ []) (fine_last (expr_code e) (instr.Do does.FieldNumber) (λ pc. tt) (expr_fine e))
+    parts_fine (place.Element' a shape subscripts) = key_fine (expr_codes subscripts) (exprs_fine subscripts)
 
     link_fine : (l : Link) → Fine (link_code l)
     link_fine (link.Combine op e) = fine_last (unless_ready (right_operand op e) (expr_code e)) (instr.Do (does.Combine op (right_operand op e))) (λ pc. tt) (unless_fine (right_operand op e) (expr_code e) (expr_fine e))
@@ -167,6 +179,7 @@ module _ (code : List Instr) where
   added_fine destination.FieldCount e = fine_none
   added_fine (destination.Field n) e = fine_none
   added_fine destination.FieldBelow e = fine_none
+  added_fine (destination.ElementBelow a) e = fine_none
 
   either_fine : (c other : List Instr) → Fine c → Fine other → Fine (or_else c other)
   either_fine [] other f g = g
@@ -192,6 +205,7 @@ module _ (code : List Instr) where
   effect_fine (expr.Replace' extent p s q r place) = fine_last _ (instr.Do does.Pop) (λ pc. tt) (expr_fine (expr.Replace' extent p s q r place))
   effect_fine (expr.Sprintf' p f shape args) = fine_last _ (instr.Do does.Pop) (λ pc. tt) (expr_fine (expr.Sprintf' p f shape args))
   effect_fine expr.Getline = fine_last _ (instr.Do does.Pop) (λ pc. tt) (expr_fine expr.Getline)
+  effect_fine (expr.Has' a shape subscripts) = fine_last _ (instr.Do does.Pop) (λ pc. tt) (expr_fine (expr.Has' a shape subscripts))
 
   list_fine : (es : List Expr) → AllFine (map expr_code es)
   list_fine [] = tt

@@ -68,12 +68,12 @@ names_of s = s.machine.program.names.items
 
 -- a place that can be shown and set where a session stands, or why it is refused
 abbrev pub lvalue_at : Stand → Snapshot → Place → Result Lvalue C
-lvalue_at s h place = lvalue_of (local_names s.machine.program h.state.frames) (names_of s) place
+lvalue_at s h place = lvalue_of (local_names s.machine.program h.state.frames) s.machine.program place
 
 -- Why a command is refused: where several reasons hold, that of the least number.
 abbrev pub refusal : Command → Stand → Snapshot → Option C
 refusal (Break spot) s h = if nat_le most s.made then Some BadArgument else if is_none (site_of s.machine.program spot) then Some NoSuchPlace else None
-refusal (Watch place) s h = if nat_le most s.made then Some BadArgument else reason_of (place_of (names_of s) place)
+refusal (Watch place) s h = if nat_le most s.made then Some BadArgument else reason_of (place_of s.machine.program place)
 refusal (Delete n) s h = if is_none (entry_of true n s.stops) then Some NoSuchNumber else None
 refusal (Unwatch n) s h = if is_none (entry_of false n s.stops) then Some NoSuchNumber else None
 refusal (Move Forward goal) s h = if is_some h.over then Some ProgramEnded else if leaves_none goal h then Some NotInFunction else None
@@ -119,7 +119,7 @@ Removes breaks n old answer new =
 -- What a command that is not refused does.
 abbrev pub Does : Input → Command → Stand → Answer → Observed → Stand → Type 0
 Does input (Break spot) old answer came new = (site : ℕ) × (site_of old.machine.program spot ≡ Some site) × Makes (stop.Break site) old answer new
-Does input (Watch place) old answer came new = (w : Watched) × (place_of (names_of old) place ≡ Ok w) × Makes (stop.Watch w) old answer new
+Does input (Watch place) old answer came new = (w : Watched) × (place_of old.machine.program place ≡ Ok w) × Makes (stop.Watch w) old answer new
 Does input (Delete n) old answer came new = Removes true n old answer new
 Does input (Unwatch n) old answer came new = Removes false n old answer new
 Does input (Move Forward goal) old answer came new = Forwards input goal old answer came new

@@ -2,6 +2,7 @@
 use Rattle.std.specs.Prelude.{ℕ, Bool, true, List, nat_eq, if◌then◌else◌, position, Option, Some, None, is_some, option_map, Result, Ok, Err}
 use Rattle.std.specs.Str.{bytes_eq}
 use Rattle.rawk_tree.specs.declared.tree.Program.{Program}
+use Rattle.rawk_tree.specs.Kinds.{names_array}
 use Rattle.rawk_tree.specs.Sites.{entry_of}
 use Rattle.rawk_value.specs.declared.value.Value.{Value}
 use Rattle.rawk_value.specs.declared.value.Value.TheVariants.{Number, String}
@@ -23,34 +24,44 @@ use Rattle.rawk_debug.specs.declared.stop.Lvalue.{Lvalue}
 use Rattle.rawk_debug.specs.declared.stop.Lvalue.TheVariants.{Local, Shared}
 use Rattle.rawk_code.specs.Actions.{fault_of}
 
--- what a name is: NF, a special variable, or a global of the program
-abbrev pub named : List Bytes → Bytes → Option Watched
-named names name = if is_field_count name then Some watched.FieldCount else option_map watched.Global (global_number names name)
+-- what the name of a scalar is: NF, a special variable, or a global of the program
+abbrev pub scalar_named : List Bytes → Bytes → Option Watched
+scalar_named names name = if is_field_count name then Some watched.FieldCount else option_map watched.Global (global_number names name)
 
 -- the value, or else why there is none
 abbrev pub or_refused : {A : Type 0} → C → Option A → Result A C
 or_refused reason None = Err reason
 or_refused reason (Some place) = Ok place
 
--- a place that can be watched, or why it is refused: a name that is none, or a subscript on a scalar
-abbrev pub place_of : List Bytes → Place → Result Watched C
-place_of names (Name name) = or_refused NoSuchVariable (named names name)
-place_of names (Element name key) = Err (if is_some (named names name) then BadArgument else NoSuchVariable)
-place_of names (Field number) = Ok (watched.Field number)
+-- the place that a name of a program is, or why it is none: the name of an array is no place
+abbrev pub named : Program → Bytes → Result Watched C
+named p name = if names_array p.names.items p.kinds.items name then Err BadArgument else or_refused NoSuchVariable (scalar_named p.names.items name)
 
--- what a name is where these are the locals: one of them, or else what it is everywhere
-abbrev pub local_or : Option ℕ → Option Watched → Option Lvalue
-local_or (Some number) elsewhere = Some (Local number)
-local_or None elsewhere = option_map Shared elsewhere
+-- why a name with a subscript is refused, by what the name is without one
+abbrev pub subscript_refusal : {A : Type 0} → Result A C → C
+subscript_refusal (Ok place) = BadArgument
+subscript_refusal (Err reason) = reason
 
-abbrev pub named_here : List Bytes → List Bytes → Bytes → Option Lvalue
-named_here locals names name = local_or (position (bytes_eq name) locals) (named names name)
+-- a place that can be watched, or why it is refused: a name that is none, an array, or a subscript on a scalar
+abbrev pub place_of : Program → Place → Result Watched C
+place_of p (Name name) = named p name
+place_of p (Element name key) = Err (subscript_refusal (named p name))
+place_of p (Field number) = Ok (watched.Field number)
+
+-- the place that a name is where these are the locals: one of them, or else what it is everywhere
+abbrev pub local_or : Option ℕ → Result Watched C → Result Lvalue C
+local_or (Some number) elsewhere = Ok (Local number)
+local_or None (Ok place) = Ok (Shared place)
+local_or None (Err reason) = Err reason
+
+abbrev pub named_here : List Bytes → Program → Bytes → Result Lvalue C
+named_here locals p name = local_or (position (bytes_eq name) locals) (named p name)
 
 -- a place that can be shown and set where these are the locals, or why it is refused
-abbrev pub lvalue_of : List Bytes → List Bytes → Place → Result Lvalue C
-lvalue_of locals names (Name name) = or_refused NoSuchVariable (named_here locals names name)
-lvalue_of locals names (Element name key) = Err (if is_some (named_here locals names name) then BadArgument else NoSuchVariable)
-lvalue_of locals names (Field number) = Ok (Shared (watched.Field number))
+abbrev pub lvalue_of : List Bytes → Program → Place → Result Lvalue C
+lvalue_of locals p (Name name) = named_here locals p name
+lvalue_of locals p (Element name key) = Err (subscript_refusal (named_here locals p name))
+lvalue_of locals p (Field number) = Ok (Shared (watched.Field number))
 
 -- the site of a breakpoint: the first one on a line, or the entry of a function
 abbrev pub site_of : Program → Spot → Option ℕ

@@ -3,7 +3,7 @@
 ghost use Rattle.std.specs.Prelude.{◌≡◌, position};
 ghost use Rattle.std.specs.Str.{bytes_eq};
 ghost use Rattle.rawk_debug.specs.Activations.{local_names};
-ghost use Rattle.rawk_debug.specs.Naming.{named, named_here, place_of, lvalue_of, site_of, shared_target, target_of, constant_value};
+ghost use Rattle.rawk_debug.specs.Naming.{scalar_named, named, named_here, place_of, lvalue_of, site_of, shared_target, target_of, constant_value};
 
 use crate::stepper::Stepper;
 use crate::stop::{Lvalue, Watched};
@@ -13,9 +13,9 @@ use rawk_store::Target;
 use rawk_tree::Program;
 use rawk_value::{Bytes, Value};
 
-/// What a name is everywhere.
-fn named(names: &[Bytes], name: &[u8]) -> Option<Watched>
-    ensures { result ≡ named names.now name.now }
+/// What the name of a scalar is everywhere.
+fn scalar_named(names: &[Bytes], name: &[u8]) -> Option<Watched>
+    ensures { result ≡ scalar_named names.now name.now }
 {
     if is_field_count(name) {
         return Some(Watched::FieldCount);
@@ -26,6 +26,19 @@ fn named(names: &[Bytes], name: &[u8]) -> Option<Watched>
     }
 }
 
+/// The place that a name is everywhere, or why it is none: the name of an array is no place.
+fn named(program: &Program, name: &[u8]) -> Result<Watched, C>
+    ensures { result ≡ named program.now name.now }
+{
+    if program.is_array(name) {
+        return Err(C::BadArgument);
+    }
+    match scalar_named(&program.names, name) {
+        Some(place) => Ok(place),
+        None => Err(C::NoSuchVariable),
+    }
+}
+
 /// The number of a local, by its name.
 fn local_number(locals: &[Bytes], name: &[u8]) -> Option<usize>
     ensures { result ≡ position (bytes_eq name.now) locals.now }
@@ -33,15 +46,15 @@ fn local_number(locals: &[Bytes], name: &[u8]) -> Option<usize>
     locals.iter().position(|local| name == local.as_slice())
 }
 
-/// What a name is where these are the locals.
-fn named_here(locals: &[Bytes], names: &[Bytes], name: &[u8]) -> Option<Lvalue>
-    ensures { result ≡ named_here locals.now names.now name.now }
+/// The place that a name is where these are the locals, or why it is none.
+fn named_here(locals: &[Bytes], program: &Program, name: &[u8]) -> Result<Lvalue, C>
+    ensures { result ≡ named_here locals.now program.now name.now }
 {
     match local_number(locals, name) {
-        Some(number) => Some(Lvalue::Local(number)),
-        None => match named(names, name) {
-            Some(place) => Some(Lvalue::Shared(place)),
-            None => None,
+        Some(number) => Ok(Lvalue::Local(number)),
+        None => match named(program, name) {
+            Ok(place) => Ok(Lvalue::Shared(place)),
+            Err(reason) => Err(reason),
         },
     }
 }
@@ -60,34 +73,28 @@ pub(crate) fn local_names<M: Stepper>(machine: &M) -> &[Bytes]
 }
 
 /// A place that can be shown and set where these are the locals, or why it is refused.
-pub(crate) fn lvalue_of(locals: &[Bytes], names: &[Bytes], place: &Place) -> Result<Lvalue, C>
-    ensures { result ≡ lvalue_of locals.now names.now place.now }
+pub(crate) fn lvalue_of(locals: &[Bytes], program: &Program, place: &Place) -> Result<Lvalue, C>
+    ensures { result ≡ lvalue_of locals.now program.now place.now }
 {
     match place {
-        Place::Name(name) => match named_here(locals, names, name.as_slice()) {
-            Some(place) => Ok(place),
-            None => Err(C::NoSuchVariable),
-        },
-        Place::Element(name, _) => match named_here(locals, names, name.as_slice()) {
-            Some(_) => Err(C::BadArgument),
-            None => Err(C::NoSuchVariable),
+        Place::Name(name) => named_here(locals, program, name.as_slice()),
+        Place::Element(name, _) => match named_here(locals, program, name.as_slice()) {
+            Ok(_) => Err(C::BadArgument),
+            Err(reason) => Err(reason),
         },
         Place::Field(number) => Ok(Lvalue::Shared(Watched::Field(*number))),
     }
 }
 
 /// A place that can be watched, or why it is refused.
-pub(crate) fn place_of(names: &[Bytes], place: &Place) -> Result<Watched, C>
-    ensures { result ≡ place_of names.now place.now }
+pub(crate) fn place_of(program: &Program, place: &Place) -> Result<Watched, C>
+    ensures { result ≡ place_of program.now place.now }
 {
     match place {
-        Place::Name(name) => match named(names, name.as_slice()) {
-            Some(watched) => Ok(watched),
-            None => Err(C::NoSuchVariable),
-        },
-        Place::Element(name, _) => match named(names, name.as_slice()) {
-            Some(_) => Err(C::BadArgument),
-            None => Err(C::NoSuchVariable),
+        Place::Name(name) => named(program, name.as_slice()),
+        Place::Element(name, _) => match named(program, name.as_slice()) {
+            Ok(_) => Err(C::BadArgument),
+            Err(reason) => Err(reason),
         },
         Place::Field(number) => Ok(Watched::Field(*number)),
     }

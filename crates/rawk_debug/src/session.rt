@@ -140,7 +140,7 @@ impl<M: Stepper> Session<M> {
         if self.made >= MOST {
             return Err(C::BadArgument);
         }
-        match place_of(&self.machine.program().names, &place) {
+        match place_of(self.machine.program(), &place) {
             Ok(watched) => self.make(Stop::Watch(watched)),
             Err(reason) => Err(reason),
         }
@@ -166,11 +166,7 @@ impl<M: Stepper> Session<M> {
     fn lvalue_at(&self, place: &Place) -> Result<Lvalue, C>
         ensures { result ≡ lvalue_at (stand M.position self.now) (M.held self.now.machine) place.now }
     {
-        lvalue_of(
-            local_names(&self.machine),
-            &self.machine.program().names,
-            place,
-        )
+        lvalue_of(local_names(&self.machine), self.machine.program(), place)
     }
 
     /// `print`.

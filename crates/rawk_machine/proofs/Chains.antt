@@ -11,7 +11,6 @@ use Rattle.rawk_store.specs.Saving.{saved_in}
 use Rattle.rawk_store.specs.GroupBack.{FitsIn, put_back}
 use Rattle.rawk_store.specs.Growth.{state-grown, operands-grown, keys-grown, Grown-put_back, FitsIn-grown, IsSound-put_back}
 use Rattle.rawk_history.specs.Keeping.{IsFront}
-use Rattle.std.specs.Option.{option_map}
 use Rattle.std.proofs.lemmas.List.{append-nil}
 use Rattle.rawk_code.specs.Actions.{SetAt, sets_at}
 use Rattle.rawk_frames.specs.LaidFrames.{returns_of}
@@ -41,7 +40,7 @@ moment-grown l m g h =
     ∙ ap (λ (rs : List ℕ). moment_by (state l) (operands l) (keys l) rs m.registers) (returns_of-grown l.frames m.frames g.frames h.frames.frames)
     ∙ ap (λ (r : Registers). moment_by (state l) (operands l) (keys l) (returns_of l.frames) r) g.registers
 
-placed-grown : (l m : Layout) (point size : ℕ) → Grown l m → IsPlaced l point size → IsPlaced m point size
+pub placed-grown : (l m : Layout) (point size : ℕ) → Grown l m → IsPlaced l point size → IsPlaced m point size
 placed-grown l m point size g p = let e = ap (λ (r : Registers). r.consumed) g.registers in
     record { goes = ap (λ (r : Registers). r.ending) g.registers ∙ p.goes; here = ap (λ (r : Registers). r.here) g.registers ∙ p.here; consumed = omega (arith, e, p.consumed) }
 

@@ -6,7 +6,7 @@ use Rattle.rawk_frames.specs.LaidFrames.{returns_of}
 use Rattle.rawk_store.specs.State.{Target, assigned}
 use Rattle.rawk_store.specs.Groups.{Group}
 use Rattle.rawk_store.specs.GroupBack.{FitsIn, put_back}
-use Rattle.rawk_store.specs.Layout.{Layout, state}
+use Rattle.rawk_store.specs.Layout.{Layout, Grown, state}
 use Rattle.rawk_code.specs.Actions.{or_same}
 
 -- the state is the one after the assignment, and what stands beside the state is as before
@@ -22,7 +22,7 @@ abbrev pub WrittenOr : Option Fault → Target → Value → Layout → Layout �
 WrittenOr None target value old new = IsWritten target value old new
 WrittenOr (Some fault) target value old new = new ≡ old
 
--- without a fault a group that leads back stands behind the others
+-- without a fault a group that leads back, but for slots that no program sees, stands behind the others
 abbrev pub StandsBehind : Option Fault → List Group → List Group → Layout → Layout → Type 0
-StandsBehind None here all old new = (g : Group) × (all ≡ here ++ g ∷ []) × (put_back new g ≡ old) × FitsIn g new
+StandsBehind None here all old new = (g : Group) × (all ≡ here ++ g ∷ []) × Grown old (put_back new g) × FitsIn g new
 StandsBehind (Some fault) here all old new = all ≡ here

@@ -5,7 +5,7 @@ ghost use Rattle.rawk_code.specs.Actions.{SetAt, fault_of};
 ghost use Rattle.rawk_store.specs.Groups.{Group};
 ghost use Rattle.rawk_history.specs.Steps.{Kept};
 ghost use Rattle.rawk_store.specs.GroupBack.{FitsIn};
-ghost use Rattle.rawk_store.specs.Layout.{IsSound, state};
+ghost use Rattle.rawk_store.specs.Layout.{Grown, IsSound, state};
 ghost use Rattle.rawk_store.specs.State.{assigned};
 ghost use Rattle.rawk_store.specs.Stores.{now_of, start_of};
 ghost use Rattle.rawk_machine.specs.Closing.{FitAll, HasGoneBack};
@@ -42,27 +42,31 @@ pub fn keep_below(sets: &mut Vec<SetAt>, point: u64)
 }
 
 /// Assigns a place as a change of its own, whose group stands behind the others, or answers the fault of that, and then nothing has changed. It fails where memory is
-/// refused, and then nothing has changed.
+/// refused, and then no more has changed than slots that no program sees.
 fn write(
     alloc: Global,
     store: &mut Store,
     here: &mut Vec<Group>,
-    target: Target,
+    target: &Target,
     value: Value,
 ) -> Result<Option<Fault>, AllocError>
     requires rest { start_of store.old ≡ now_of store.old }
-    ensures did { IfOk result (λ fault. WrittenOr fault target value (now_of store.old) (now_of store.new)) }
-    ensures fault { IfOk result (λ fault. fault ≡ fault_of (assigned target value (state (now_of store.old)))) }
+    ensures did { IfOk result (λ fault. WrittenOr fault target.now value (now_of store.old) (now_of store.new)) }
+    ensures fault { IfOk result (λ fault. fault ≡ fault_of (assigned target.now value (state (now_of store.old)))) }
     ensures back { IfOk result (λ fault. StandsBehind fault here.old.items here.new.items (now_of store.old) (now_of store.new)) }
     ensures sound { IfOk result (λ fault. IfNone fault (IsSound (now_of store.new))) }
-    ensures err { OnErr result (now_of store.new ≡ now_of store.old) }
+    ensures err { OnErr result (Grown (now_of store.old) (now_of store.new)) }
+    ensures kept { OnErr result (IsSound (now_of store.old) → IsSound (now_of store.new)) }
     ensures stays { OnErr result (here.new.items ≡ here.old.items) }
     ensures rest { start_of store.new ≡ now_of store.new }
 {
     here.reserve(1)?;
     match store.assign(alloc, target, value) {
         Ok(None) => {}
-        Ok(Some(fault)) => return Ok(Some(fault)),
+        Ok(Some(fault)) => {
+            store.forget();
+            return Ok(Some(fault));
+        }
         Err(refused) => {
             store.undo_step();
             return Err(refused);
@@ -86,17 +90,18 @@ pub fn write_copy(
     store: &mut Store,
     here: &mut Vec<Group>,
     sets: &mut Vec<SetAt>,
-    target: Target,
+    target: &Target,
     value: &Value,
 ) -> Result<Option<Fault>, AllocError>
     requires rest { start_of store.old ≡ now_of store.old }
-    ensures did { IfOk result (λ fault. WrittenOr fault target value.now (now_of store.old) (now_of store.new)) }
-    ensures fault { IfOk result (λ fault. fault ≡ fault_of (assigned target value.now (state (now_of store.old)))) }
+    ensures did { IfOk result (λ fault. WrittenOr fault target.now value.now (now_of store.old) (now_of store.new)) }
+    ensures fault { IfOk result (λ fault. fault ≡ fault_of (assigned target.now value.now (state (now_of store.old)))) }
     ensures back { IfOk result (λ fault. StandsBehind fault here.old.items here.new.items (now_of store.old) (now_of store.new)) }
     ensures sound { IfOk result (λ fault. IfNone fault (IsSound (now_of store.new))) }
     ensures room { OnOk result (vec_len sets.new < vec_capacity sets.new) }
     ensures sets { sets.new.items ≡ sets.old.items }
-    ensures err { OnErr result (now_of store.new ≡ now_of store.old) }
+    ensures err { OnErr result (Grown (now_of store.old) (now_of store.new)) }
+    ensures kept { OnErr result (IsSound (now_of store.old) → IsSound (now_of store.new)) }
     ensures stays { OnErr result (here.new.items ≡ here.old.items) }
     ensures rest { start_of store.new ≡ now_of store.new }
 {

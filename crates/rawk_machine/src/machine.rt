@@ -111,7 +111,14 @@ fn first_store(alloc: Global, code: &Code, settings: &Settings) -> Result<Store,
     ensures { IfOk result (λ s. IsFirst code.now settings.now s) }
 {
     let mut store = Store::new(alloc, settings.seed(), first_registers());
-    match fill_first(alloc, &mut store.globals, &mut store.ranges, code, settings) {
+    match fill_first(
+        alloc,
+        &mut store.globals,
+        &mut store.arrays,
+        &mut store.ranges,
+        code,
+        settings,
+    ) {
         Ok(()) => {
             store.forget();
             Ok(store)
@@ -355,11 +362,12 @@ impl<R: Source + Drop, K: Keeper> Machine<R, K> {
             &mut self.store,
             &mut self.here,
             &mut self.sets,
-            target,
+            &target,
             &value,
         ) {
             Ok(written) => written,
             Err(refused) => {
+                drop(target);
                 drop(value);
                 return Err(refused);
             }
@@ -367,6 +375,7 @@ impl<R: Source + Drop, K: Keeper> Machine<R, K> {
         match written {
             None => {}
             Some(fault) => {
+                drop(target);
                 drop(value);
                 return Ok(Some(fault));
             }

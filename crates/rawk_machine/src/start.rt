@@ -2,12 +2,14 @@
 
 ghost use Rattle.std.specs.Prelude.{◌≡◌, ◌++◌, [], false, length, replicate, IfOk, OnOk};
 ghost use Rattle.rawk_value.specs.declared.value.Value.{Value};
+ghost use Rattle.rawk_arrays.specs.Elements.{no_elements};
+ghost use Rattle.rawk_arrays.specs.Laid.{arrays_of};
 ghost use Rattle.rawk_special.specs.Special.{first_specials};
 ghost use Rattle.rawk_code.specs.Trace.{with_first, settled};
 
 use rawk_code::{Code, FirstValue, Settings};
 use rawk_special::{COUNT, first_value, global_number};
-use rawk_store::{Cells, Ranges};
+use rawk_store::{Arrays, Cells, Ranges};
 use rawk_value::{Bytes, Value};
 use std::alloc::{AllocError, Global};
 
@@ -88,20 +90,24 @@ fn fill_globals(
     settle_all(alloc, globals, names, settings)
 }
 
-/// The globals and the ranges before the first instruction. It fails where memory is refused.
+/// The globals, an array for each of those that are not special, and the ranges before the first instruction. It fails where memory is refused.
 pub fn fill_first(
     alloc: Global,
     globals: &mut Cells,
+    arrays: &mut Arrays,
     ranges: &mut Ranges,
     code: &Code,
     settings: &Settings,
 ) -> Result<(), AllocError>
     requires globals { globals.old.now ≡ [] }
+    requires arrays { arrays_of arrays.old.now ≡ [] }
     requires ranges { ranges.old.now ≡ [] }
     ensures globals { OnOk result (globals.new.now ≡ settled code.now.names settings.now (first_specials ++ replicate (length code.now.names) Value.Uninitialized)) }
+    ensures arrays { OnOk result (arrays_of arrays.new.now ≡ replicate (length code.now.names) no_elements) }
     ensures ranges { OnOk result (ranges.new.now ≡ replicate code.now.ranges false) }
 {
     fill_globals(alloc, globals, code.names(), settings.as_slice())?;
+    arrays.add_empty(code.names().len())?;
     add_ranges(ranges, code.ranges())
 }
 

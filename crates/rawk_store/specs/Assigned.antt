@@ -44,6 +44,7 @@ assigned_beside (place.Local i) v consumed output here site s = refl
 assigned_beside place.FieldCount v consumed output here site s = twice_alike (number_of v) field_number _ (beside consumed output here site)
 assigned_beside (place.Field zero) v consumed output here site s = next_alike (fields_of (text_of v) (global_text FS s) (is_paragraph s)) _ (beside consumed output here site)
 assigned_beside (place.Field (suc n)) v consumed output here site s = refl
+assigned_beside (place.Element a key) v consumed output here site s = refl
 
 -- the output stays
 pub same_output : (t : Target) (v : Value) (s u : State) → assigned t v s ≡ Ok u → u.output ≡ s.output

@@ -7,7 +7,7 @@ use Rattle.rawk_slots.specs.Back.{back, AreBelow}
 use Rattle.rawk_slots.specs.Stacked.{Stacked, GrownStack}
 use Rattle.rawk_slots.specs.StackLaws.{live_values-grown, GrownStack-refl, GrownStack-trans, GrownStack-back, FitsStack-over, IsLive-stack_back}
 use Rattle.rawk_arrays.specs.Elements.{Elements}
-use Rattle.rawk_arrays.specs.Laid.{GrownArrays, arrays_of}
+use Rattle.rawk_arrays.specs.Laid.{Laid, GrownArrays, arrays_of}
 use Rattle.rawk_arrays.specs.ArraysLaws.{arrays_of-grown, GrownArrays-refl, GrownArrays-trans, GrownArrays-back, FitsArrays-grown, IsLaid-back}
 use Rattle.rawk_frames.specs.Frame.{Frame}
 use Rattle.rawk_frames.specs.LaidFrames.{LaidFrames, GrownFrames, frames_of}
@@ -81,7 +81,21 @@ Grown-frames l f g = record {
   registers = refl;
 }
 
-pub ruleset grows = (Grown-refl, Grown-same, Grown-trans, Grown-then_same, Grown-stack, Grown-frames)
+-- the arrays alone have grown
+pub Grown-arrays : (l : Layout) (a : Laid) → GrownArrays l.arrays a → Grown l (record l { arrays = a })
+Grown-arrays l a g = record {
+  globals = refl;
+  arrays = g;
+  frames = GrownFrames-refl l.frames;
+  keys = GrownKeys-refl l.keys;
+  ranges = refl;
+  operands = GrownStack-refl l.operands;
+  current = refl;
+  output = refl;
+  registers = refl;
+}
+
+pub ruleset grows = (Grown-refl, Grown-same, Grown-trans, Grown-then_same, Grown-stack, Grown-frames, Grown-arrays)
 
 pub operands-grown : (l m : Layout) → Grown l m → IsSound l → operands m ≡ operands l
 operands-grown l m g h = live_values-grown l.operands m.operands g.operands h.operands

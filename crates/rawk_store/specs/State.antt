@@ -1,12 +1,15 @@
 -- The state of a program, and what can be assigned in it.
-use Rattle.std.specs.Prelude.{ℕ, zero, suc, ◌-◌, ℤ, pos, negsuc, int_le, ◌==◌, Bool, if◌then◌else◌, List, length, map, slice_index_or, slice_set, Option, Result, Ok, Err}
+use Rattle.std.specs.Prelude.{ℕ, zero, suc, ◌-◌, ℤ, pos, negsuc, int_le, ◌==◌, Bool, false, if◌then◌else◌, List, length, map, slice_index_or, slice_set, Option, None, Some, Result, Ok, Err}
+use Rattle.std.specs.Option.{unwrap_or}
+use Rattle.rawk_words.specs.declared.array.Array.{Array}
+use Rattle.rawk_words.specs.declared.array.Array.TheVariants as array
 use Rattle.rawk_limits.specs.declared.TheConstants.{LAST_FIELD}
 use Rattle.rawk_value.specs.declared.value.Value.{Value}
 use Rattle.rawk_value.specs.declared.value.Value.TheVariants.{Uninitialized, Number, Input}
 use Rattle.rawk_value.specs.declared.fault.Fault.{Fault}
 use Rattle.rawk_value.specs.declared.fault.Fault.TheVariants.{FieldNumber}
 use Rattle.rawk_value.specs.Values.{Bytes, next_ok, is_empty, number_of, text_of}
-use Rattle.rawk_arrays.specs.Elements.{Elements}
+use Rattle.rawk_arrays.specs.Elements.{Elements, element_at, is_element, touched, with_element}
 use Rattle.rawk_frames.specs.declared.frames.Local.{Local}
 use Rattle.rawk_frames.specs.declared.frames.Local.TheVariants.{Holds, Names}
 use Rattle.rawk_frames.specs.Frame.{Frame, locals_now, with_local}
@@ -63,6 +66,49 @@ local_value i s = held (slice_index_or (locals_now s.frames) i (Holds Uninitiali
 abbrev pub with_local_value : ℕ → Value → State → State
 with_local_value i v s = record s { frames = with_local i (Holds v) s.frames }
 
+-- the array that a local names; one that holds a value names none
+abbrev pub named_by : Local → Option ℕ
+named_by (Holds v) = None
+named_by (Names array) = Some array
+
+-- the number of an array, by its name and the activations
+abbrev pub array_in : Array → List Frame → Option ℕ
+array_in (array.Global a) frames = Some a
+array_in (array.Local i) frames = named_by (slice_index_or (locals_now frames) i (Holds Uninitialized))
+
+-- the element at a key of the array with a number, if both are there
+abbrev pub element_in : Option ℕ → Bytes → List Elements → Option Value
+element_in None key arrays = None
+element_in (Some a) key arrays = element_at a key arrays
+
+-- whether it is there
+abbrev pub has_element : Option ℕ → Bytes → List Elements → Bool
+has_element None key arrays = false
+has_element (Some a) key arrays = is_element a key arrays
+
+-- the arrays where it is there: what is read comes to be (POSIX awk, Arrays)
+abbrev pub read_element : Option ℕ → Bytes → List Elements → List Elements
+read_element None key arrays = arrays
+read_element (Some a) key arrays = touched a key arrays
+
+-- the arrays with a value at a key
+abbrev pub put_element : Option ℕ → Bytes → Value → List Elements → List Elements
+put_element None key v arrays = arrays
+put_element (Some a) key v arrays = with_element a key v arrays
+
+abbrev pub element_value : Array → Bytes → State → Value
+element_value a key s = unwrap_or (element_in (array_in a s.frames) key s.arrays) Uninitialized
+
+abbrev pub with_element_read : Array → Bytes → State → State
+with_element_read a key s = record s { arrays = read_element (array_in a s.frames) key s.arrays }
+
+abbrev pub with_element_value : Array → Bytes → Value → State → State
+with_element_value a key v s = record s { arrays = put_element (array_in a s.frames) key v s.arrays }
+
+-- the key that subscripts are: their texts with the SUBSEP of now between two
+abbrev pub key_of : List Value → State → Bytes
+key_of vs s = joined (global_text SUBSEP s) (map text_of vs)
+
 -- a place whose subscripts and field number are settled
 abbrev pub Target : Type 0
 Target = target.Target
@@ -103,3 +149,4 @@ assigned (place.Global x) v s = Ok (with_global x v s)
 assigned (place.Local i) v s = Ok (with_local_value i v s)
 assigned place.FieldCount v s = with_count_value v s
 assigned (place.Field n) v s = with_field_value n v s
+assigned (place.Element a key) v s = Ok (with_element_value a key v s)

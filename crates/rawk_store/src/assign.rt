@@ -1,12 +1,17 @@
 //! Assignments.
 
-ghost use Rattle.std.specs.Prelude.{◌≡◌, ◌<◌, IfOk, OnOk, slice_index_or};
+ghost use Rattle.std.specs.Prelude.{◌≡◌, ◌<◌, IfOk, OnErr, OnOk, slice_index_or};
+ghost use Rattle.std.specs.Option.{option_copied};
 ghost use Rattle.rawk_value.specs.declared.value.Value.{Value};
 ghost use Rattle.rawk_value.specs.Values.{is_empty, text_of};
 ghost use Rattle.rawk_record.specs.Changed.{rebuilt, with_value};
 ghost use Rattle.rawk_record.specs.Shown.{read_as};
+ghost use Rattle.rawk_arrays.specs.Laid.{GrownArrays, arrays_of};
+ghost use Rattle.rawk_frames.specs.LaidFrames.{frames_of};
 ghost use Rattle.rawk_store.specs.Assigned.{HasAssigned};
+ghost use Rattle.rawk_store.specs.Layout.{Grown};
 ghost use Rattle.rawk_store.specs.Records.{Becomes, counted_as};
+ghost use Rattle.rawk_store.specs.State.{array_in, element_in, has_element, put_element, read_element};
 ghost use Rattle.rawk_store.specs.Stores.{now_of, start_of};
 ghost use Rattle.rawk_special.specs.declared.special.TheConstants.{FS, OFS, RS};
 
@@ -15,11 +20,13 @@ use crate::numbering::field_number;
 use crate::store::Store;
 use crate::target::Target;
 use itoa::Buffer;
+use rawk_arrays::Arrays;
 use rawk_cells::Cells;
-use rawk_frames::Local;
+use rawk_frames::{Frames, Local};
 use rawk_special::{FS, OFS, RS};
 use rawk_value::order::text_in;
 use rawk_value::{Fault, Value};
+use rawk_words::Array;
 use std::alloc::{AllocError, Global};
 
 /// The text of a global, in place but for a number's digits, which stand in the buffer. It takes no memory.
@@ -95,22 +102,108 @@ fn assign_count(
     }
 }
 
+/// The number of the array that a name stands for; a local that holds a value names none. It takes no memory.
+fn array_number(frames: &Frames, array: Array) -> Option<usize>
+    ensures { result ≡ array_in array (frames_of frames.now.now) }
+{
+    match array {
+        Array::Global(number) => Some(number),
+        Array::Local(number) => match frames.local(number) {
+            Some(Local::Names(number)) => Some(*number),
+            Some(Local::Holds(_)) => None,
+            None => None,
+        },
+    }
+}
+
+/// Gives an element a value; an array that is not there stays away. It fails where memory is refused, and then no element has changed.
+fn assign_element(
+    alloc: Global,
+    arrays: &mut Arrays,
+    number: Option<usize>,
+    key: &[u8],
+    value: Value,
+) -> Result<(), AllocError>
+    ensures did { OnOk result (arrays_of arrays.new.now ≡ put_element number key.now value (arrays_of arrays.old.now)) }
+    ensures err { OnErr result (arrays_of arrays.new.now ≡ arrays_of arrays.old.now) }
+    ensures start { GrownArrays arrays.old.start arrays.new.start }
+{
+    match number {
+        Some(number) => arrays.set(alloc, number, key, value),
+        None => Ok(()),
+    }
+}
+
+/// Makes an element that is not there, uninitialised; an array that is not there stays away. It fails where memory is refused, and then no element has changed.
+fn touch_element(
+    alloc: Global,
+    arrays: &mut Arrays,
+    number: Option<usize>,
+    key: &[u8],
+) -> Result<(), AllocError>
+    ensures did { OnOk result (arrays_of arrays.new.now ≡ read_element number key.now (arrays_of arrays.old.now)) }
+    ensures err { OnErr result (arrays_of arrays.new.now ≡ arrays_of arrays.old.now) }
+    ensures start { GrownArrays arrays.old.start arrays.new.start }
+{
+    match number {
+        Some(number) => arrays.touch(alloc, number, key),
+        None => Ok(()),
+    }
+}
+
 impl Store {
+    /// An element of an array, if both are there. It takes no memory.
+    pub fn element(&self, array: Array, key: &[u8]) -> Option<&Value>
+        ensures { option_copied result ≡ element_in (array_in array (frames_of self.now.frames.now)) key.now (arrays_of self.now.arrays.now) }
+    {
+        match array_number(&self.frames, array) {
+            Some(number) => self.arrays.element(number, key),
+            None => None,
+        }
+    }
+
+    /// Whether an element of an array is there. It takes no memory.
+    pub fn has_element(&self, array: Array, key: &[u8]) -> bool
+        ensures { result ≡ has_element (array_in array (frames_of self.now.frames.now)) key.now (arrays_of self.now.arrays.now) }
+    {
+        match array_number(&self.frames, array) {
+            Some(number) => self.arrays.has(number, key),
+            None => false,
+        }
+    }
+
+    /// Makes an element that is not there, uninitialised, as reading it does (POSIX awk, Arrays); an array that is not there stays away. It fails where memory is
+    /// refused, and then no element has changed.
+    pub fn touch_element(
+        &mut self,
+        alloc: Global,
+        array: Array,
+        key: &[u8],
+    ) -> Result<(), AllocError>
+        ensures did { OnOk result (arrays_of self.new.arrays.now ≡ read_element (array_in array (frames_of self.old.frames.now)) key.now (arrays_of self.old.arrays.now)) }
+        ensures err { OnErr result (arrays_of self.new.arrays.now ≡ arrays_of self.old.arrays.now) }
+        ensures rest { now_of self.new ≡ record (now_of self.old) { arrays = self.new.arrays.now } }
+        ensures start { Grown (start_of self.old) (start_of self.new) }
+    {
+        let number = array_number(&self.frames, array);
+        touch_element(alloc, &mut self.arrays, number, key)
+    }
+
     /// Assigns a place, or answers the fault of that, which changes nothing (POSIX awk, Expressions in awk; Variables and Special Variables): a local that is not there
-    /// changes nothing; of NF the fields are cut or extended, of a field `$0` is built anew, and of `$0` the fields are. It fails where memory is refused, and then the step
-    /// may have changed the record or the place.
+    /// changes nothing, nor does an array; of NF the fields are cut or extended, of a field `$0` is built anew, and of `$0` the fields are. It fails where memory is
+    /// refused, and then the step may have changed the record or the place.
     pub fn assign(
         &mut self,
         alloc: Global,
-        target: Target,
+        target: &Target,
         value: Value,
     ) -> Result<Option<Fault>, AllocError>
-        ensures did { IfOk result (λ fault. HasAssigned target value fault (now_of self.old) (now_of self.new)) }
-        ensures start { start_of self.new ≡ start_of self.old }
+        ensures did { IfOk result (λ fault. HasAssigned target.now value fault (now_of self.old) (now_of self.new)) }
+        ensures start { Grown (start_of self.old) (start_of self.new) }
     {
         match target {
-            Target::Global(number) => self.globals.set(number, value)?,
-            Target::Local(number) => self.frames.set_local(number, Local::Holds(value))?,
+            Target::Global(number) => self.globals.set(*number, value)?,
+            Target::Local(number) => self.frames.set_local(*number, Local::Holds(value))?,
             Target::FieldCount => {
                 return assign_count(alloc, &self.globals, &mut self.current, &value);
             }
@@ -118,7 +211,11 @@ impl Store {
                 return assign_record(alloc, &self.globals, &mut self.current, &value);
             }
             Target::Field(number) => {
-                assign_field(alloc, &self.globals, &mut self.current, number, value)?;
+                assign_field(alloc, &self.globals, &mut self.current, *number, value)?;
+            }
+            Target::Element(array, key) => {
+                let number = array_number(&self.frames, *array);
+                assign_element(alloc, &mut self.arrays, number, key.as_slice(), value)?;
             }
         }
         Ok(None)

@@ -1,7 +1,10 @@
 //! Places that can be assigned.
 
+use rawk_value::Bytes;
+use rawk_words::Array;
+
 /// A place whose subscripts and field number are settled.
-#[derive(Clone, Copy, PartialEq, Eq)]
+#[derive(Drop)]
 pub enum Target {
     /// a global, by its number from 0
     Global(usize),
@@ -11,4 +14,6 @@ pub enum Target {
     FieldCount,
     /// a field by its number; `$0` has the number 0
     Field(usize),
+    /// an element of an array, by its key
+    Element(Array, Bytes),
 }

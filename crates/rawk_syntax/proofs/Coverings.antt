@@ -14,7 +14,7 @@ use Rattle.rawk_parsing.specs.declared.tree.Function.TheVariants as fun
 use Rattle.rawk_parsing.specs.declared.tree.Name as word
 use Rattle.rawk_parsing.specs.declared.tree.Expr.{Expr, out-Expr, roll-Expr, roll-out-Expr, map-Expr, fold-roll-Expr, fold_out-Expr}
 use Rattle.rawk_parsing.specs.declared.tree.Expr.TheVariants as tree
-use Rattle.rawk_parsing.specs.declared.tree.Expr.TheVariants.{rolls-Number, rolls-Text, rolls-Ere, rolls-Getline, rolls-Of, rolls-Group, rolls-Signed, rolls-Power, rolls-Chain, rolls-Logic, rolls-Choice, rolls-Before, rolls-After, rolls-Assign, rolls-Call, rolls-Builtin}
+use Rattle.rawk_parsing.specs.declared.tree.Expr.TheVariants.{rolls-Number, rolls-Text, rolls-Ere, rolls-Getline, rolls-Of, rolls-Group, rolls-Signed, rolls-Power, rolls-Chain, rolls-In, rolls-ListIn, rolls-Logic, rolls-Choice, rolls-Before, rolls-After, rolls-Assign, rolls-Call, rolls-Builtin}
 use Rattle.rawk_parsing.specs.declared.tree.Expr.TheOpen as expr
 use Rattle.rawk_parsing.specs.declared.tree.Expr.TheOpen.{Expr-F, Place-F, Link-F}
 use Rattle.rawk_parsing.specs.declared.tree.Link.{Link, fold_out-Link}
@@ -23,11 +23,12 @@ use Rattle.rawk_parsing.specs.declared.tree.Place.TheVariants as spot
 use Rattle.rawk_tree.specs.declared.tree.Place as spot_place
 use Rattle.rawk_parsing.specs.declared.tree.Place.TheVariants.{rolls-Name, rolls-Field, rolls-Element}
 use Rattle.rawk_builtin_trees.specs.Calls.{has_builtin}
+use Rattle.rawk_words.specs.declared.array.Array.{Array}
 use Rattle.rawk_words.specs.declared.operator.Extent.{Extent}
 use Rattle.rawk_syntax.specs.Meant.{Sense, is_there}
 use Rattle.rawk_syntax.specs.Settled.{extent_of}
 use Rattle.rawk_grammar.specs.declared.tree.Item.{Item}
-use Rattle.rawk_syntax.specs.Covered.{Judges, Cover, all_covered, replaces, builtin_step, cover_of, changes, item_gap, gap_from, functions_behind, unless, or_then, first_of, each, expr_step, place_step, link_step, covers, covers_place, covers_link}
+use Rattle.rawk_syntax.specs.Covered.{Judges, Cover, names_array, all_covered, replaces, builtin_step, cover_of, changes, item_gap, gap_from, functions_behind, unless, or_then, first_of, each, expr_step, place_step, link_step, covers, covers_place, covers_link}
 
 -- ---- tests and refusals
 
@@ -94,7 +95,7 @@ each_fails f (y ∷ xs) x ys h = second_false (f y) (each f (xs ++ x ∷ ys)) (e
 around : {A : Type 0} (xs : List A) (i : ℕ) (x : A) → i < length xs → x ≡ get_or xs i x → xs ≡ take i xs ++ x ∷ drop (suc i) xs
 around xs i x h at = sym (take-append-drop i xs) ∙ ap (λ l. take i xs ++ l) (drop-cons xs i x h ∙ ap (λ y. y ∷ drop (suc i) xs) (sym at))
 
-one_taken : {A : Type 0} (xs : List A) (i : ℕ) (x : A) → i < length xs → x ≡ get_or xs i x → take (i + 1) xs ≡ take i xs ++ x ∷ []
+pub one_taken : {A : Type 0} (xs : List A) (i : ℕ) (x : A) → i < length xs → x ≡ get_or xs i x → take (i + 1) xs ≡ take i xs ++ x ∷ []
 one_taken xs i x h at = take_more xs i x h ∙ ap (λ y. take i xs ++ y ∷ []) (sym at)
 
 pub each_more : {A : Type 0} (f : A → Bool) (xs : List A) (i : ℕ) (x : A) → i < length xs → x ≡ get_or xs i x → each f (take i xs) ≡ true → f x ≡ true → each f (take (i + 1) xs) ≡ true
@@ -185,6 +186,23 @@ pub call_covers : (m : Sense) (n : word.Name) (w : List ℕ) (o : Option ℕ) (x
 call_covers m n w o xs same found =
     ap (covers m) (sym (rolls-Call n xs)) ∙ covers_roll m (expr.Call n xs) ∙ ap (λ b. is_there (m.function n.word) && b) (each_mapped (λ (c : Cover). c.covered) (cover_of m) xs)
     ∙ ap (λ v. is_there (m.function v) && each (covers m) xs) (sym same) ∙ ap (λ v. is_there v && each (covers m) xs) (sym found)
+
+-- `in`, of one subscript and of several; the array of a name, or none
+pub in_covers : (m : Sense) (x : Expr) (ns : List word.Name) → covers m (tree.In x ns) ≡ (covers m x && each (names_array m) ns)
+in_covers m x ns = ap (covers m) (sym (rolls-In x ns)) ∙ covers_roll m (expr.In x ns)
+
+pub in_judged : {A : Type 0} (r : Result A ParseError) (m : Sense) (x : Expr) (ns : List word.Name) (left : ℕ) → covers m x ≡ true → Judges (unless (each (names_array m) ns) left) r → Judges (unless (covers m (tree.In x ns)) left) r
+in_judged r m x ns left so h =
+    let same : each (names_array m) ns ≡ covers m (tree.In x ns) = sym (in_covers m x ns ∙ ap (λ b. b && each (names_array m) ns) so) in
+    subst (λ (b : Bool). Judges (unless b left) r) same h
+
+pub names_covers : (m : Sense) (n : word.Name) (w : List ℕ) (o : Option Array) → w ≡ n.word → o ≡ m.array w → names_array m n ≡ is_there o
+names_covers m n w o same found = ap (λ v. is_there (m.array v)) (sym same) ∙ ap is_there (sym found)
+
+pub list_in_covers : (m : Sense) (n : word.Name) (w : List ℕ) (o : Option Array) (xs : List Expr) → w ≡ n.word → o ≡ m.array w → covers m (tree.ListIn xs n) ≡ (is_there o && each (covers m) xs)
+list_in_covers m n w o xs same found =
+    ap (covers m) (sym (rolls-ListIn xs n)) ∙ covers_roll m (expr.ListIn xs n) ∙ ap (λ b. names_array m n && b) (each_mapped (λ (c : Cover). c.covered) (cover_of m) xs)
+    ∙ ap (λ b. b && each (covers m) xs) (names_covers m n w o same found)
 
 -- a call of a built-in function, by its arguments
 builtin_covers : (m : Sense) (f : Function) (xs : List Expr) → covers m (tree.Builtin f xs) ≡ builtin_step f (map (cover_of m) xs)
@@ -293,8 +311,8 @@ no_change m e not = second_false (covers m e) (cover_of m e).place (no_place m e
 -- no other expression is covered
 pub other_covers : (m : Sense) (e : Expr) → ((n : ℤ) → e ≡ tree.Number n → ⊥) → ((w : List ℕ) → e ≡ tree.Text w → ⊥) → ((left : ℕ) (w : List ℕ) → e ≡ tree.Ere left w → ⊥) → (e ≡ tree.Getline → ⊥) → ((p : Place) → e ≡ tree.Of p → ⊥) → ((x : Expr) → e ≡ tree.Group x → ⊥)
     → ((s : Sign) (x : Expr) → e ≡ tree.Signed s x → ⊥) → ((x y : Expr) → e ≡ tree.Power x y → ⊥) → ((x : Expr) (xs : List Link) → e ≡ tree.Chain x xs → ⊥) → ((l : Logic) (xs : List Expr) → e ≡ tree.Logic l xs → ⊥) → ((x y z : Expr) → e ≡ tree.Choice x y z → ⊥) → ((c : Change) (p : Place) → e ≡ tree.Before c p → ⊥) → ((c : Change) (p : Place) → e ≡ tree.After c p → ⊥)
-    → ((how : Assignment) (p : Place) (x : Expr) → e ≡ tree.Assign how p x → ⊥) → ((n : word.Name) (xs : List Expr) → e ≡ tree.Call n xs → ⊥) → ((f : Function) (xs : List Expr) → e ≡ tree.Builtin f xs → ⊥) → covers m e ≡ false
-other_covers m e number text ere getline place group signed power chain logic choice before after assign call builtin = covers_out m e ∙ go (out-Expr e) (sym (roll-out-Expr e))
+    → ((x : Expr) (ns : List word.Name) → e ≡ tree.In x ns → ⊥) → ((xs : List Expr) (n : word.Name) → e ≡ tree.ListIn xs n → ⊥) → ((how : Assignment) (p : Place) (x : Expr) → e ≡ tree.Assign how p x → ⊥) → ((n : word.Name) (xs : List Expr) → e ≡ tree.Call n xs → ⊥) → ((f : Function) (xs : List Expr) → e ≡ tree.Builtin f xs → ⊥) → covers m e ≡ false
+other_covers m e number text ere getline place group signed power chain logic choice before after within list_within assign call builtin = covers_out m e ∙ go (out-Expr e) (sym (roll-out-Expr e))
   where
     go : (d : Expr-F Expr Place Link) → e ≡ roll-Expr d → (expr_step m (map-Expr Expr Place Link Cover Bool Bool (cover_of m) (covers_place m) (covers_link m) d)).covered ≡ false
     go (expr.Number n) q = absurd (number n (q ∙ rolls-Number n))
@@ -310,6 +328,8 @@ other_covers m e number text ere getline place group signed power chain logic ch
     go (expr.Choice x y z) q = absurd (choice x y z (q ∙ rolls-Choice x y z))
     go (expr.Before c p) q = absurd (before c p (q ∙ rolls-Before c p))
     go (expr.After c p) q = absurd (after c p (q ∙ rolls-After c p))
+    go (expr.In x ns) q = absurd (within x ns (q ∙ rolls-In x ns))
+    go (expr.ListIn xs n) q = absurd (list_within xs n (q ∙ rolls-ListIn xs n))
     go (expr.Assign how p x) q = absurd (assign how p x (q ∙ rolls-Assign how p x))
     go (expr.Call n xs) q = absurd (call n xs (q ∙ rolls-Call n xs))
     go (expr.Builtin f xs) q = absurd (builtin f xs (q ∙ rolls-Builtin f xs))
@@ -328,8 +348,11 @@ name_covers m p n w o is same found = ap (covers_place m) (is ∙ sym (rolls-Nam
 pub field_covers : (m : Sense) (p : Place) (x y : Expr) → p ≡ spot.Field x → y ≡ x → covers_place m p ≡ covers m y
 field_covers m p x y is same = ap (covers_place m) (is ∙ sym (rolls-Field x)) ∙ place_roll m (expr.Field x) ∙ ap (covers m) (sym same)
 
-pub element_covers : (m : Sense) (p : Place) (n : word.Name) (es : List Expr) → p ≡ spot.Element n es → covers_place m p ≡ false
-element_covers m p n es is = ap (covers_place m) (is ∙ sym (rolls-Element n es)) ∙ place_roll m (expr.Element n es)
+-- an element of the array of a name, or of none
+pub element_covers : (m : Sense) (n : word.Name) (w : List ℕ) (o : Option Array) (xs : List Expr) → w ≡ n.word → o ≡ m.array w → covers_place m (spot.Element n xs) ≡ (is_there o && each (covers m) xs)
+element_covers m n w o xs same found =
+    ap (covers_place m) (sym (rolls-Element n xs)) ∙ place_roll m (expr.Element n xs) ∙ ap (λ b. names_array m n && b) (each_mapped (λ (c : Cover). c.covered) (cover_of m) xs)
+    ∙ ap (λ b. b && each (covers m) xs) (names_covers m n w o same found)
 
 -- ---- links
 

@@ -1,5 +1,6 @@
 -- Whole texts, over plain variables.
-use Rattle.std.proofs.Common.{◌≡◌, ◌≢◌, ◌<◌, ◌≤◌, inl, inr, ℕ, ◌+◌, ◌-◌, List, length, None, Some, Result, Ok, Err, IfOk, refl, sym, ap, subst, ◌∙◌, arith}
+use Rattle.std.proofs.Common.{◌≡◌, ◌≢◌, ◌<◌, ◌≤◌, inl, inr, ℕ, ◌+◌, ◌-◌, Bool, true, false, if◌then◌else◌, List, length, Option, None, Some, Result, Ok, Err, IfOk, refl, sym, ap, subst, ◌∙◌, arith}
+use Rattle.std.proofs.Math.Path.{fun_ext}
 use Rattle.rawk_limits.specs.declared.TheConstants.{OPEN_CONSTRUCTS, PROGRAM_BYTES}
 use Rattle.rawk_parsing.specs.declared.refusal.Refusal.{Refusal}
 use Rattle.rawk_parsing.specs.declared.parse_error.ParseError.{ParseError}
@@ -11,25 +12,54 @@ use Rattle.rawk_grammar.specs.Items.{program}
 use Rattle.rawk_grammar.specs.Texts as grammar
 use Rattle.rawk_grammar.specs.Plain.{IsPlainText}
 use Rattle.rawk_names.specs.declared.names.NameError.{NameError}
+use Rattle.rawk_names.specs.declared.names.Meaning.{Meaning}
+use Rattle.rawk_names.specs.declared.names.Meaning.TheVariants as meaning
+use Rattle.rawk_names.specs.Marking.{is_marked}
 use Rattle.rawk_names.specs.Noted.{Noted}
 use Rattle.rawk_names.specs.Items as naming
-use Rattle.rawk_names.specs.Named.{Known, IsNamed, IsRefused, meaning_of}
+use Rattle.rawk_names.specs.Named.{Known, IsNamed, IsRefused, meaning_of, variable_of}
 use Rattle.rawk_names.proofs.Refusals.{refused_once, named_or_refused}
 use Rattle.rawk_tree.specs.declared.tree.Program.{Program}
-use Rattle.rawk_syntax.specs.Meant.{sense}
+use Rattle.rawk_syntax.specs.Meant.{sense, place_at, array_at, function_of, variable_place, global_array}
 use Rattle.rawk_syntax.specs.Covered.{Judges, program_gap}
 use Rattle.rawk_syntax.specs.Laid.{IsLaid}
 use Rattle.rawk_syntax.specs.Texts.{IsSettled, IsReading, IsPlain, IsSettledAs, IsFlaw, IsFlawIn, IsFlawOf, AreFlawed, IsRefusal, Tells, told, told_of}
 
 -- ---- names in order
 
--- names stand for what the program says, whatever is told of arrays
+-- the same variables are marked, if not in marks of one length
+agree : (x y : Bool) → (x ≡ true → y ≡ true) → (y ≡ true → x ≡ true) → x ≡ y
+agree true y f g = sym (f refl)
+agree false true f g = g refl
+agree false false f g = refl
+
+marked_same : (noted : Noted) (a b : Known) → IsNamed noted a → IsNamed noted b → (v : ℕ) → is_marked a.arrays v ≡ is_marked b.arrays v
+marked_same noted a b h g v = agree (is_marked a.arrays v) (is_marked b.arrays v) (λ t. (g.arrays v).1 ((h.arrays v).0 t)) (λ t. (h.arrays v).1 ((g.arrays v).0 t))
+
+same_place : (n : Known) (x y : List Bool) → ((v : ℕ) → is_marked x v ≡ is_marked y v) → (scope : ℕ) (o : Option Meaning) → place_at (record n { arrays = x }) scope o ≡ place_at (record n { arrays = y }) scope o
+same_place n x y same scope None = refl
+same_place n x y same scope (Some (meaning.Function f)) = refl
+same_place n x y same scope (Some (meaning.Variable v)) = ap (λ b. if b then None else Some (variable_place n scope (variable_of n v))) (same v)
+
+same_array : (n : Known) (x y : List Bool) → ((v : ℕ) → is_marked x v ≡ is_marked y v) → (o : Option Meaning) → array_at (record n { arrays = x }) o ≡ array_at (record n { arrays = y }) o
+same_array n x y same None = refl
+same_array n x y same (Some (meaning.Function f)) = refl
+same_array n x y same (Some (meaning.Variable v)) = ap (λ b. if b then global_array n v else None) (same v)
+
+same_sense : (n : Known) (x y : List Bool) → ((v : ℕ) → is_marked x v ≡ is_marked y v) → sense (record n { arrays = x }) ≡ sense (record n { arrays = y })
+unfolding meaning_of
+same_sense n x y same = fun_ext (λ scope.
+    ap (λ places. record { place = places; array = λ word. array_at (record n { arrays = x }) (meaning_of n scope word); function = function_of n }) (fun_ext (λ word. same_place n x y same scope (meaning_of n scope word)))
+    ∙ ap (λ arrays. record { place = λ word. place_at (record n { arrays = y }) scope (meaning_of n scope word); array = arrays; function = function_of n }) (fun_ext (λ word. same_array n x y same (meaning_of n scope word))))
+
+-- names stand for what the program says
 senses : (noted : Noted) (a b : Known) → IsNamed noted a → IsNamed noted b → sense a ≡ sense b
 unfolding meaning_of
 senses noted a b h g =
     ap (λ fs. sense (record a { functions = fs })) (h.functions ∙ sym g.functions)
     ∙ ap (λ ss. sense (record a { functions = b.functions; signatures = ss })) (h.signatures ∙ sym g.signatures)
     ∙ ap (λ vs. sense (record a { functions = b.functions; signatures = b.signatures; variables = vs })) (h.variables ∙ sym g.variables)
+    ∙ same_sense b a.arrays b.arrays (marked_same noted a b h g)
 
 gaps : (items : List Item) (a b : Known) → IsNamed (naming.program items) a → IsNamed (naming.program items) b → program_gap (sense a) items ≡ program_gap (sense b) items
 gaps items a b h g = ap (λ means. program_gap means items) (senses (naming.program items) a b h g)

@@ -6,6 +6,7 @@ use Rattle.std.proofs.lemmas.Result.{IfOk-at_ok}
 use Rattle.std.specs.Global.{Box, Vec}
 use Rattle.rawk_value.specs.declared.operator.Arithmetic.TheVariants.{Pow}
 use Rattle.rawk_parsing.specs.declared.parse_error.ParseError.{ParseError}
+use Rattle.rawk_words.specs.declared.array.Array.{Array}
 use Rattle.rawk_words.specs.declared.operator.Extent.{Extent}
 use Rattle.rawk_words.specs.declared.operator.Sign.{Sign}
 use Rattle.rawk_words.specs.declared.operator.Logic.{Logic}
@@ -32,7 +33,7 @@ use Rattle.rawk_builtin_trees.specs.Calls.{Applies}
 use Rattle.rawk_syntax.specs.Covered.{Judges, unless}
 use Rattle.rawk_syntax.specs.Settled as spec
 use Rattle.rawk_syntax.specs.Meant.{Sense}
-use Rattle.rawk_syntax.specs.Settled.{AnExpr, APlace, ASought, IsMatchOf, IsRecord, SomeLinks, SomeTests, SomeExprs, Settles, joiner_of, operator_of, right_of, extent_of}
+use Rattle.rawk_syntax.specs.Settled.{AnExpr, APlace, ASought, IsIn, IsMatchOf, IsMember, IsRecord, SomeLinks, SomeTests, SomeExprs, Settles, joiner_of, operator_of, right_of, extent_of}
 
 pub number_settles : (m : Sense) {E : Type 0} (r : Result Expr E) (e : parsed.Expr) (n : ℤ) → e ≡ from.Number n → r ≡ Ok (tree.Number n) → IfOk r (λ s. Settles m (AnExpr e s))
 number_settles m r e n is made = rw (made, is) spec.number
@@ -143,6 +144,36 @@ expr_settles m xs i x y ys zs (Err e) h held same none more g f' = cc
 pub call_settles : (m : Sense) (n : word.Name) (w : List ℕ) (f : ℕ) (xs : List parsed.Expr) (ss : Vec Expr)
     → w ≡ n.word → Some f ≡ m.function w → Settles m (SomeExprs xs ss.items) → Settles m (AnExpr (from.Call n xs) (tree.Call f ss))
 call_settles m n w f xs ss same found h = spec.call ss (ap m.function (sym same) ∙ sym found) h
+
+-- elements of arrays, and whether there are some
+pub element_settles : (m : Sense) (n : word.Name) (w : List ℕ) (a : Array) (xs : List parsed.Expr) (ss : Vec Expr)
+    → w ≡ n.word → Some a ≡ m.array w → Settles m (SomeExprs xs ss.items) → Settles m (APlace (from_place.Element n xs) (tree_place.Element a ss))
+element_settles m n w a xs ss same found h = spec.element ss (ap m.array (sym same) ∙ sym found) h
+
+pub list_in_settles : (m : Sense) (n : word.Name) (w : List ℕ) (a : Array) (xs : List parsed.Expr) (ss : Vec Expr)
+    → w ≡ n.word → Some a ≡ m.array w → Settles m (SomeExprs xs ss.items) → Settles m (AnExpr (from.ListIn xs n) (tree.Has a ss))
+list_in_settles m n w a xs ss same found h = spec.list_member ss (ap m.array (sym same) ∙ sym found) h
+
+pub one_member : (m : Sense) (n : word.Name) (w : List ℕ) (a : Array) (s : Expr) (old : List Expr) (ss : Vec Expr)
+    → w ≡ n.word → Some a ≡ m.array w → old ≡ [] → ss.items ≡ old ++ s ∷ [] → IsMember m n s (tree.Has a ss)
+one_member m n w a s old ss same found bare more = record {
+  array = a;
+  subscripts = ss;
+  named = ap m.array (sym same) ∙ sym found;
+  one = more ∙ ap (λ l. l ++ s ∷ []) bare;
+  is = refl;
+}
+
+pub more_members : (m : Sense) (s : Expr) (ns : List word.Name) (i : ℕ) (n : word.Name) (t u : Expr)
+    → i < length ns → n ≡ get_or ns i n → IsIn m s (take i ns) t → IsMember m n t u → IsIn m s (take (i + 1) ns) u
+more_members m s ns i n t u h at before one =
+    let e : take (i + 1) ns ≡ take i ns ++ n ∷ [] = take_more ns i n h ∙ ap (λ y. take i ns ++ y ∷ []) (sym at) in
+    rw e (spec.in_next before one)
+
+pub in_settles : (m : Sense) {E : Type 0} (r : Result Expr E) (x : parsed.Expr) (ns : List word.Name) (s : Expr)
+    → Settles m (AnExpr x s) → IfOk r (λ t. IsIn m s ns t) → IfOk r (λ t. Settles m (AnExpr (from.In x ns) t))
+in_settles m (Ok t) x ns s h g = spec.member h g
+in_settles m (Err d) x ns s h g = tt
 
 -- as many arguments are settled as there are
 pub same_count : (m : Sense) {es : List parsed.Expr} {ss : List Expr} → Settles m (SomeExprs es ss) → length ss ≡ length es

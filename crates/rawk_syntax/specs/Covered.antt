@@ -9,6 +9,7 @@ use Rattle.rawk_parsing.specs.declared.tree.Expr.TheOpen.{Expr-F, Place-F, Link-
 use Rattle.rawk_parsing.specs.declared.tree.Function.{Function}
 use Rattle.rawk_parsing.specs.declared.tree.Function.TheVariants as fun
 use Rattle.rawk_parsing.specs.declared.tree.Link.{Link, fold-Link}
+use Rattle.rawk_parsing.specs.declared.tree.Name.{Name}
 use Rattle.rawk_parsing.specs.declared.tree.Place.{Place, fold-Place}
 use Rattle.rawk_grammar.specs.declared.tree.Act.{Act}
 use Rattle.rawk_grammar.specs.declared.tree.Act.TheVariants as act
@@ -94,6 +95,10 @@ builtin_step fun.Sub es = replaces es
 builtin_step fun.Gsub es = replaces es
 builtin_step f es = has_builtin f (length es) && all_covered es
 
+-- whether a name is that of an array that the settled tree has
+abbrev pub names_array : Sense → Name → Bool
+names_array means n = is_there (means.array n.word)
+
 -- by what names stand for; a call is one of a function of the program
 abbrev pub expr_step : Sense → Expr-F Cover Bool Bool → Cover
 expr_step means (expr.Number n) = plain true
@@ -110,6 +115,8 @@ expr_step means (expr.Choice e f g) = plain (e.covered && (f.covered && g.covere
 expr_step means (expr.Before c p) = plain p
 expr_step means (expr.After c p) = plain p
 expr_step means (expr.Assign how p e) = plain (p && e.covered)
+expr_step means (expr.In e ns) = plain (e.covered && each (names_array means) ns)
+expr_step means (expr.ListIn es n) = plain (names_array means n && all_covered es)
 expr_step means (expr.Call n es) = plain (is_there (means.function n.word) && all_covered es)
 expr_step means (expr.Builtin f es) = plain (builtin_step f es)
 expr_step means _ = plain false
@@ -117,7 +124,7 @@ expr_step means _ = plain false
 abbrev pub place_step : Sense → Place-F Cover Bool Bool → Bool
 place_step means (expr.Name n) = is_there (means.place n.word)
 place_step means (expr.Field e) = e.covered
-place_step means (expr.Element n es) = false
+place_step means (expr.Element n es) = names_array means n && all_covered es
 
 abbrev pub link_step : Link-F Cover Bool Bool → Bool
 link_step l = l.operand.covered

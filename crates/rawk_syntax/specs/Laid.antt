@@ -32,7 +32,7 @@ use Rattle.rawk_tree.specs.declared.tree.Rule.{Rule}
 use Rattle.rawk_tree.specs.declared.tree.Function.{Function}
 use Rattle.rawk_tree.specs.declared.tree.Program.{Program}
 use Rattle.rawk_names.specs.Named.{Known}
-use Rattle.rawk_syntax.specs.Meant.{Sense, sense, global_words}
+use Rattle.rawk_syntax.specs.Meant.{Sense, sense, global_words, global_kinds}
 use Rattle.rawk_syntax.specs.Settled.{Settles, AnExpr, SomeExprs, Prints}
 
 -- behind the others stands one more, of which P holds
@@ -202,3 +202,4 @@ IsLaidWith text means items p lines = Sorts text means items p.functions.items p
 pub record IsLaid (text : List ℕ) (names : Known) (items : List Item) (p : Program) : Type 0 where
   pub sorted : IsLaidWith text (sense names) items p p.lines.items
   pub named : p.names.items ≡ global_words names
+  pub kinds : p.kinds.items ≡ global_kinds names

@@ -1,20 +1,26 @@
 -- What names stand for in the settled tree.
-use Rattle.std.specs.Prelude.{ℕ, ◌-◌, Bool, true, false, List, map, slice_get, Option, Some, None}
+use Rattle.std.specs.Prelude.{ℕ, ◌-◌, suc, Bool, true, false, if◌then◌else◌, nat_lt, List, [], ◌∷◌, map, slice_get, Option, Some, None}
 use Rattle.rawk_keys.specs.ArrayKey.{ArrayKey, array_key}
 use Rattle.rawk_names.specs.declared.names.Meaning.{Meaning}
 use Rattle.rawk_names.specs.declared.names.Meaning.TheVariants as meaning
 use Rattle.rawk_names.specs.declared.names.Variable.{Variable}
 use Rattle.rawk_names.specs.declared.names.Variable.TheVariants as variable
 use Rattle.rawk_names.specs.declared.usage.Signature.{Signature}
-use Rattle.rawk_names.specs.Named.{Known, known, meaning_of, variable_of, own_globals}
+use Rattle.rawk_names.specs.Named.{Known, known, meaning_of, variable_of, end_of_last, own_globals}
+use Rattle.rawk_names.specs.Marking.{is_marked}
 use Rattle.rawk_names.specs.Table.{place_of}
 use Rattle.rawk_syntax.specs.declared.scope.Scope.{Scope}
 use Rattle.rawk_tree.specs.declared.tree.Place.{Place}
 use Rattle.rawk_tree.specs.declared.tree.Place.TheVariants as place
+use Rattle.rawk_tree.specs.declared.tree.Kind.{Kind}
+use Rattle.rawk_tree.specs.declared.tree.Kind.TheVariants as kind
+use Rattle.rawk_words.specs.declared.array.Array.{Array}
+use Rattle.rawk_words.specs.declared.array.Array.TheVariants as array
 
--- what each name stands for: a place, where the settled tree has it, or the number of a function
+-- what each name stands for: a place or an array, where the settled tree has it, or the number of a function
 pub record Sense : Type 0 where
   pub place : List ℕ → Option Place
+  pub array : List ℕ → Option Array
   pub function : List ℕ → Option ℕ
 
 -- where the parameters of a function stand among all variables
@@ -32,10 +38,26 @@ variable_place names scope variable.FieldCount = place.FieldCount
 variable_place names scope (variable.Global n) = place.Global n
 variable_place names scope (variable.Parameter v) = place.Local (v - first_parameter names scope)
 
+-- an array is no place: only its elements are (POSIX awk, "Variables and Special Variables")
+abbrev pub scalar_place : Known → ℕ → ℕ → Option Place
+scalar_place names scope v = if is_marked names.arrays v then None else Some (variable_place names scope (variable_of names v))
+
 abbrev pub place_at : Known → ℕ → Option Meaning → Option Place
 place_at names scope None = None
 place_at names scope (Some (meaning.Function f)) = None
-place_at names scope (Some (meaning.Variable v)) = Some (variable_place names scope (variable_of names v))
+place_at names scope (Some (meaning.Variable v)) = scalar_place names scope v
+
+-- a global array has the number of its name among the globals that are not special; a parameter that is an array is left out
+abbrev pub global_array : Known → ℕ → Option Array
+global_array names v = if nat_lt v (end_of_last names.signatures) then None else Some (array.Global (v - end_of_last names.signatures))
+
+abbrev pub marked_array : Known → ℕ → Option Array
+marked_array names v = if is_marked names.arrays v then global_array names v else None
+
+abbrev pub array_at : Known → Option Meaning → Option Array
+array_at names None = None
+array_at names (Some (meaning.Function f)) = None
+array_at names (Some (meaning.Variable v)) = marked_array names v
 
 -- functions have numbers from 0, in the order of the text
 abbrev pub function_of : Known → List ℕ → Option ℕ
@@ -43,7 +65,11 @@ function_of names word = place_of (array_key 0 word) names.functions
 
 -- by what is known of the names of a program, in each scope
 abbrev pub sense : Known → ℕ → Sense
-sense names scope = record { place = λ word. place_at names scope (meaning_of names scope word); function = function_of names }
+sense names scope = record {
+  place = λ word. place_at names scope (meaning_of names scope word);
+  array = λ word. array_at names (meaning_of names scope word);
+  function = function_of names;
+}
 
 abbrev pub sense_of : Scope → Sense
 sense_of s = sense (known s.names.now) s.number
@@ -55,3 +81,16 @@ is_there (Some a) = true
 -- the names of the globals that are not special, in the order in which they appear
 abbrev pub global_words : Known → List (List ℕ)
 global_words names = map (λ (entry : ArrayKey). entry.key) (own_globals names)
+
+abbrev pub kind_of : Bool → Kind
+kind_of true = kind.Array
+kind_of false = kind.Scalar
+
+-- what variables are that stand side by side from this place on
+abbrev pub kinds_from : Known → ℕ → List ArrayKey → List Kind
+kinds_from names v [] = []
+kinds_from names v (entry ∷ entries) = kind_of (is_marked names.arrays v) ∷ kinds_from names (suc v) entries
+
+-- what each of these globals is, in the same order
+abbrev pub global_kinds : Known → List Kind
+global_kinds names = kinds_from names (end_of_last names.signatures) (own_globals names)

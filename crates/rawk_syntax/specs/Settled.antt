@@ -1,11 +1,12 @@
 -- How the settled tree of an expression comes from the parser's.
-use Rattle.std.specs.Prelude.{◌≡◌, ℕ, ℤ, pos, true, List, [], ◌∷◌, ◌++◌, Option, None, Some}
+use Rattle.std.specs.Prelude.{◌≡◌, ℕ, ℤ, pos, List, [], ◌∷◌, ◌++◌, Option, None, Some}
 use Rattle.std.specs.Global.{Box, Vec}
 use Rattle.rawk_value.specs.declared.operator.Arithmetic.{Arithmetic}
 use Rattle.rawk_value.specs.declared.operator.Arithmetic.TheVariants.{Add, Sub, Pow}
 use Rattle.rawk_parsing.specs.declared.tree.Assignment.TheVariants as setting
 use Rattle.rawk_parsing.specs.declared.tree.Operator.{Operator}
 use Rattle.rawk_parsing.specs.declared.tree.Operator.TheVariants as op
+use Rattle.rawk_words.specs.declared.array.Array.{Array}
 use Rattle.rawk_words.specs.declared.operator.Extent.{Extent}
 use Rattle.rawk_words.specs.declared.operator.Extent.TheVariants as extent
 use Rattle.rawk_words.specs.declared.operator.Sign.{Sign}
@@ -93,6 +94,19 @@ abbrev pub neutral : Logic → ℤ
 neutral logic.And = pos 1
 neutral logic.Or = pos 0
 
+-- whether the array of a name has the element of one subscript (POSIX awk, "Expressions in awk", "Arrays")
+pub record IsMember (means : Sense) (n : word.Name) (subscript : Expr) (e : Expr) : Type 0 where
+  pub array : Array
+  pub subscripts : Vec Expr
+  pub named : means.array n.word ≡ Some array
+  pub one : subscripts.items ≡ subscript ∷ []
+  pub is : e ≡ tree.Has array subscripts
+
+-- `in` from left to right: a value, whether the first array has it as a subscript, whether the second has that answer, and so on
+pub data IsIn (means : Sense) (subscript : Expr) : List word.Name → Expr → Type 0 where
+  itself : IsIn means subscript [] subscript
+  in_next : {ns : List word.Name} {n : word.Name} {s t : Expr} → IsIn means subscript ns s → IsMember means n s t → IsIn means subscript (ns ++ n ∷ []) t
+
 -- By what names stand for, the one is settled as the other; parentheses are gone.
 pub data Settles (means : Sense) : Pair → Type 0 where
   number : {n : ℤ} → Settles means (AnExpr (from.Number n) (tree.Number n))
@@ -124,6 +138,10 @@ pub data Settles (means : Sense) : Pair → Type 0 where
       → Settles means (APlace p q) → Settles means (AnExpr e s.value) → Settles means (AnExpr (from.Assign setting.Plain p e) (tree.Assign q s))
   update : {operator : Arithmetic} {p : spot.Place} {q : Place} {e : parsed.Expr} (s : Box Expr)
       → Settles means (APlace p q) → Settles means (AnExpr e s.value) → Settles means (AnExpr (from.Assign (setting.Update operator) p e) (tree.Update operator q s))
+  -- whether an array has an element, of one subscript and of several
+  member : {e : parsed.Expr} {ns : List word.Name} {s t : Expr} → Settles means (AnExpr e s) → IsIn means s ns t → Settles means (AnExpr (from.In e ns) t)
+  list_member : {n : word.Name} {es : List parsed.Expr} {a : Array} (ss : Vec Expr)
+      → means.array n.word ≡ Some a → Settles means (SomeExprs es ss.items) → Settles means (AnExpr (from.ListIn es n) (tree.Has a ss))
   call : {n : word.Name} {es : List parsed.Expr} {f : ℕ} (ss : Vec Expr) → means.function n.word ≡ Some f → Settles means (SomeExprs es ss.items) → Settles means (AnExpr (from.Call n es) (tree.Call f ss))
   builtin : {f : Function} {es : List parsed.Expr} {ss : List Expr} {s : Expr} → Settles means (SomeExprs es ss) → Applies f ss s → Settles means (AnExpr (from.Builtin f es) s)
   -- the first argument of `sub` and `gsub` is sought, and the third is a place that is changed; a missing one is the record
@@ -136,6 +154,9 @@ pub data Settles (means : Sense) : Pair → Type 0 where
       → Settles means (AnExpr e s.value) → Settles means (ASought f t.value) → Settles means (AnExpr (from.Builtin fun.Match (e ∷ f ∷ [])) (tree.Match s t))
   name : {n : word.Name} {q : Place} → means.place n.word ≡ Some q → Settles means (APlace (from_place.Name n) q)
   field : {e : parsed.Expr} (s : Box Expr) → Settles means (AnExpr e s.value) → Settles means (APlace (from_place.Field e) (tree_place.Field s))
+  -- an element has its subscripts in the order of the text (POSIX awk, "Arrays")
+  element : {n : word.Name} {es : List parsed.Expr} {a : Array} (ss : Vec Expr)
+      → means.array n.word ≡ Some a → Settles means (SomeExprs es ss.items) → Settles means (APlace (from_place.Element n es) (tree_place.Element a ss))
   no_links : Settles means (SomeLinks [] [])
   a_link : {xs : List join.Link} {ys : List Link} (operator : Operator) (e : parsed.Expr) (s : Expr)
       → Settles means (SomeLinks xs ys) → Settles means (right_of (joiner_of operator) e s) → Settles means (SomeLinks (xs ++ link operator e ∷ []) (ys ++ tree_link.Combine (joiner_of operator) s ∷ []))

@@ -17,10 +17,10 @@ ghost use Rattle.rawk_builtin_trees.specs.Calls.{Applies, has_builtin};
 ghost use Rattle.rawk_syntax.specs.Covered as cover;
 ghost use Rattle.rawk_syntax.specs.Covered.{Judges, unless};
 ghost use Rattle.rawk_syntax.specs.Meant.{Sense, sense_of};
-ghost use Rattle.rawk_syntax.specs.Settled.{Settles, AnExpr, APlace, ASought, IsMatchOf, IsRecord, IsRecordPlace, SomeLinks, SomeTests, SomeExprs, Prints, joiner_of, operator_of, neutral, right_of, extent_of};
+ghost use Rattle.rawk_syntax.specs.Settled.{Settles, AnExpr, APlace, ASought, IsIn, IsMatchOf, IsMember, IsRecord, IsRecordPlace, SomeLinks, SomeTests, SomeExprs, Prints, joiner_of, operator_of, neutral, right_of, extent_of};
 
 use crate::growth::{boxed, boxed_if, push, push_if};
-use crate::scope::{Scope, called, meant};
+use crate::scope::{Scope, array_of, called, meant};
 use rawk_builtin_trees::{apply, format_and_arguments};
 use rawk_items::Boxed;
 use rawk_parsing::tree::{Assignment, Change, Function, Operator};
@@ -123,6 +123,25 @@ fn neutral(logic: Logic) -> Expr
     }
 }
 
+/// An element of an array.
+#[cycle(settle)]
+fn settle_element(
+    alloc: Global,
+    scope: &Scope<'_>,
+    left: usize,
+    name: &parsed::Name,
+    subscripts: &[Boxed<parsed::Expr>],
+) -> Result<Place, ParseError>
+    ensures settled { IfOk result (λ s. Settles (sense_of scope.now) (APlace (from_place.Element name.now subscripts.now) s)) }
+    ensures judged { Judges (unless (cover.covers_place (sense_of scope.now) (from_place.Element name.now subscripts.now)) left) result }
+{
+    let Some(array) = array_of(scope, name.word.as_slice()) else {
+        return Err(left_out(left));
+    };
+    let subscripts = settle_list(alloc, scope, left, subscripts)?;
+    Ok(Place::Element(array, subscripts))
+}
+
 /// What is read or assigned.
 #[cycle(settle)]
 fn settle_place(
@@ -140,7 +159,9 @@ fn settle_place(
             let number = settle_boxed(alloc, scope, left, e.get())?;
             Ok(Place::Field(number))
         }
-        parsed::Place::Element(_, _) => Err(left_out(left)),
+        parsed::Place::Element(name, subscripts) => {
+            settle_element(alloc, scope, left, name, subscripts.as_slice())
+        }
     }
 }
 
@@ -430,6 +451,83 @@ fn settle_assign(
     }
 }
 
+/// Whether the array of a name has the element of one subscript.
+fn member_of(
+    alloc: Global,
+    scope: &Scope<'_>,
+    left: usize,
+    name: &parsed::Name,
+    subscript: Expr,
+) -> Result<Expr, ParseError>
+    ensures settled { IfOk result (λ s. IsMember (sense_of scope.now) name.now subscript s) }
+    ensures judged { Judges (unless (cover.names_array (sense_of scope.now) name.now) left) result }
+{
+    match array_of(scope, name.word.as_slice()) {
+        Some(array) => {
+            let mut alone = Vec::new(alloc);
+            push(&mut alone, subscript)?;
+            Ok(Expr::Has(array, alone))
+        }
+        None => {
+            drop(subscript);
+            Err(left_out(left))
+        }
+    }
+}
+
+/// Whether the arrays of these names have the element of the answer before, from left to right.
+fn members_of(
+    alloc: Global,
+    scope: &Scope<'_>,
+    left: usize,
+    subscript: Expr,
+    names: &[parsed::Name],
+) -> Result<Expr, ParseError>
+    ensures settled { IfOk result (λ s. IsIn (sense_of scope.now) subscript names.now s) }
+    ensures judged { Judges (unless (cover.each (cover.names_array (sense_of scope.now)) names.now) left) result }
+{
+    let mut answer = subscript;
+    for name in names {
+        answer = member_of(alloc, scope, left, name, answer)?;
+    }
+    Ok(answer)
+}
+
+/// `in`, with the arrays of these names.
+#[cycle(settle)]
+fn settle_in(
+    alloc: Global,
+    scope: &Scope<'_>,
+    left: usize,
+    subscript: &parsed::Expr,
+    names: &[parsed::Name],
+) -> Result<Expr, ParseError>
+    ensures settled { IfOk result (λ s. Settles (sense_of scope.now) (AnExpr (from.In subscript.now names.now) s)) }
+    ensures judged { Judges (unless (cover.covers (sense_of scope.now) (from.In subscript.now names.now)) left) result }
+{
+    let subscript = settle_expr(alloc, scope, left, subscript)?;
+    members_of(alloc, scope, left, subscript, names)
+}
+
+/// `in`, with several subscripts.
+#[cycle(settle)]
+fn settle_list_in(
+    alloc: Global,
+    scope: &Scope<'_>,
+    left: usize,
+    subscripts: &[Boxed<parsed::Expr>],
+    name: &parsed::Name,
+) -> Result<Expr, ParseError>
+    ensures settled { IfOk result (λ s. Settles (sense_of scope.now) (AnExpr (from.ListIn subscripts.now name.now) s)) }
+    ensures judged { Judges (unless (cover.covers (sense_of scope.now) (from.ListIn subscripts.now name.now)) left) result }
+{
+    let Some(array) = array_of(scope, name.word.as_slice()) else {
+        return Err(left_out(left));
+    };
+    let subscripts = settle_list(alloc, scope, left, subscripts)?;
+    Ok(Expr::Has(array, subscripts))
+}
+
 /// A call of a function of the program.
 #[cycle(settle)]
 fn settle_call(
@@ -598,6 +696,12 @@ pub fn settle_expr(
         }
         parsed::Expr::Assign(how, place, value) => {
             settle_assign(alloc, scope, left, *how, place, value.get())
+        }
+        parsed::Expr::In(subscript, names) => {
+            settle_in(alloc, scope, left, subscript.get(), names.as_slice())
+        }
+        parsed::Expr::ListIn(subscripts, name) => {
+            settle_list_in(alloc, scope, left, subscripts.as_slice(), name)
         }
         parsed::Expr::Call(name, arguments) => {
             settle_call(alloc, scope, left, name, arguments.as_slice())

@@ -10,7 +10,7 @@ ghost use Rattle.rawk_tree.specs.declared.tree.Stmt.TheVariants as tree;
 ghost use Rattle.rawk_syntax.specs.Covered as cover;
 ghost use Rattle.rawk_syntax.specs.Covered.{Judges};
 ghost use Rattle.rawk_names.specs.Named.{known};
-ghost use Rattle.rawk_syntax.specs.Meant.{global_words, sense, sense_of};
+ghost use Rattle.rawk_syntax.specs.Meant.{global_kinds, global_words, kind_of, sense, sense_of};
 ghost use Rattle.rawk_syntax.specs.Laid.{sited, rule_of, Adds, Does, Guards, Rules, Defines, IsLaidWith, IsLaid, ranges_of, words_of};
 
 use crate::expressions::{settle_expr, settle_printed};
@@ -24,7 +24,7 @@ use rawk_items::Boxed;
 use rawk_names::Names;
 use rawk_parsing::ParseError;
 use rawk_parsing::tree::Name;
-use rawk_tree::{Expr, Function, Guard, Program, Rule, Stmt};
+use rawk_tree::{Expr, Function, Guard, Kind, Program, Rule, Stmt};
 use rawk_value::Bytes;
 use std::alloc::{AllocError, Global};
 
@@ -310,6 +310,24 @@ fn global_words(alloc: Global, names: &Names) -> Result<Vec<Bytes>, AllocError>
     Ok(words)
 }
 
+/// What a global is.
+fn kind_of(array: bool) -> Kind
+    ensures { result ≡ kind_of array }
+{
+    if array { Kind::Array } else { Kind::Scalar }
+}
+
+/// What each of these globals is, in the same order.
+fn global_kinds(alloc: Global, names: &Names) -> Result<Vec<Kind>, AllocError>
+    ensures { IfOk result (λ kinds. kinds.items ≡ global_kinds (known names.now)) }
+{
+    let mut kinds = Vec::new(alloc);
+    for global in names.first_own_global()..names.variable_count() {
+        kinds.push(kind_of(names.is_array(global)))?;
+    }
+    Ok(kinds)
+}
+
 /// The program of the items of a text, by their names. What the settled tree does not have yet is refused as left out, at the place of
 /// its statement, condition or pattern.
 pub fn settle(
@@ -322,8 +340,10 @@ pub fn settle(
     ensures judged { Judges (cover.program_gap (sense (known names.now)) items.now) result }
 {
     let words = global_words(alloc, names)?;
+    let kinds = global_kinds(alloc, names)?;
     let mut program = Program {
         names: Vec::new(alloc),
+        kinds: Vec::new(alloc),
         functions: Vec::new(alloc),
         ranges: 0,
         begin: Vec::new(alloc),
@@ -336,6 +356,7 @@ pub fn settle(
         settle_item(alloc, &mut sites, names, &mut program, item)?;
     }
     program.names = words;
+    program.kinds = kinds;
     program.lines = sites.lines;
     Ok(program)
 }

@@ -14,5 +14,6 @@ pub use parsing::parse;
 pub use rawk_lexer::unescaped;
 pub use rawk_parsing::{Refusal, RefusalKind};
 pub use rawk_tree::{
-    Branch, Expr, Function, Guard, Joiner, Link, Logic, Place, Program, Rule, Sign, Stmt, Unary,
+    Array, Branch, Expr, Function, Guard, Joiner, Kind, Link, Logic, Place, Program, Rule, Sign,
+    Stmt, Unary,
 };

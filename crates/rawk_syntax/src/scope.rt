@@ -2,10 +2,10 @@
 
 ghost use Rattle.std.specs.Prelude.{◌≡◌};
 ghost use Rattle.rawk_names.specs.Named.{known};
-ghost use Rattle.rawk_syntax.specs.Meant.{first_parameter, place_at, sense_of, variable_place};
+ghost use Rattle.rawk_syntax.specs.Meant.{array_at, first_parameter, global_array, marked_array, place_at, scalar_place, sense_of, variable_place};
 
 use rawk_names::{Meaning, Names, Variable};
-use rawk_tree::Place;
+use rawk_tree::{Array, Place};
 
 /// The names of a program, and the scope: 0 outside functions, inside one more than the function's number.
 #[derive(Drop)]
@@ -35,15 +35,24 @@ fn variable_place(scope: &Scope<'_>, variable: Variable) -> Place
     }
 }
 
+/// The place of a variable by its place among all, if it is no array.
+fn scalar_place(scope: &Scope<'_>, variable: usize) -> Option<Place>
+    ensures { result ≡ scalar_place (known scope.now.names.now) scope.now.number variable }
+{
+    if scope.names.is_array(variable) {
+        None
+    } else {
+        Some(variable_place(scope, scope.names.variable(variable)))
+    }
+}
+
 fn place_at(scope: &Scope<'_>, meaning: Option<Meaning>) -> Option<Place>
     ensures { result ≡ place_at (known scope.now.names.now) scope.now.number meaning }
 {
     match meaning {
         None => None,
         Some(Meaning::Function(_)) => None,
-        Some(Meaning::Variable(variable)) => {
-            Some(variable_place(scope, scope.names.variable(variable)))
-        }
+        Some(Meaning::Variable(variable)) => scalar_place(scope, variable),
     }
 }
 
@@ -52,6 +61,46 @@ pub fn meant(scope: &Scope<'_>, word: &[u8]) -> Option<Place>
     ensures { result ≡ (sense_of scope.now).place word.now }
 {
     place_at(scope, scope.names.meaning(scope.number, word))
+}
+
+/// The array of a global that is not special, by its place among all variables.
+fn global_array(names: &Names, variable: usize) -> Option<Array>
+    ensures { result ≡ global_array (known names.now) variable }
+{
+    let first = names.first_own_global();
+    if variable < first {
+        None
+    } else {
+        Some(Array::Global(variable - first))
+    }
+}
+
+/// The array of a variable, if it is one.
+fn marked_array(names: &Names, variable: usize) -> Option<Array>
+    ensures { result ≡ marked_array (known names.now) variable }
+{
+    if names.is_array(variable) {
+        global_array(names, variable)
+    } else {
+        None
+    }
+}
+
+fn array_at(names: &Names, meaning: Option<Meaning>) -> Option<Array>
+    ensures { result ≡ array_at (known names.now) meaning }
+{
+    match meaning {
+        None => None,
+        Some(Meaning::Function(_)) => None,
+        Some(Meaning::Variable(variable)) => marked_array(names, variable),
+    }
+}
+
+/// The array that a name stands for, if the settled tree has it. It takes no memory.
+pub fn array_of(scope: &Scope<'_>, word: &[u8]) -> Option<Array>
+    ensures { result ≡ (sense_of scope.now).array word.now }
+{
+    array_at(scope.names, scope.names.meaning(scope.number, word))
 }
 
 /// The number of the function that a name stands for. It takes no memory.

@@ -1,5 +1,6 @@
 pub mod Quiets
 pub mod Acts
+pub mod Touches
 pub mod Assigns
 pub mod BorrowedLemmas
 pub mod Faults
@@ -15,3 +16,4 @@ pub mod Turns
 pub mod Calls
 pub mod Oks
 pub mod Replaces
+pub mod Subscripts

@@ -8,6 +8,7 @@ mod at_once;
 mod borrowed;
 mod call;
 pub mod count;
+mod elements;
 mod formats;
 mod operands;
 mod print;

@@ -1,7 +1,7 @@
 //! The tree of a program. Names are numbers, what the text leaves out is filled in, and each place where a point is reached has its site.
 
 use rawk_value::{Arithmetic, Bytes, Comparison};
-use rawk_words::{Extent, Logic, Sign};
+use rawk_words::{Array, Extent, Logic, Sign};
 
 /// What joins two values.
 #[derive(Clone, Copy, PartialEq, Eq)]
@@ -63,6 +63,8 @@ pub enum Expr {
     Sprintf(Box<Expr>, Vec<Expr>),
     /// `getline`: the next record becomes `$0`; 1, or 0 where there is none
     Getline,
+    /// `in`: whether an array has the element of these subscripts
+    Has(Array, Vec<Expr>),
 }
 
 /// A right operand, with its operator.
@@ -85,6 +87,8 @@ pub enum Place {
     FieldCount,
     /// `$0` has the number 0
     Field(Box<Expr>),
+    /// an element of an array, by its subscripts
+    Element(Array, Vec<Expr>),
 }
 
 /// A statement. Its number is the site of its point.
@@ -152,11 +156,20 @@ pub struct Function {
     pub body: Stmt,
 }
 
+/// What a global is.
+#[derive(Clone, Copy, PartialEq, Eq)]
+pub enum Kind {
+    Scalar,
+    Array,
+}
+
 /// A program.
 #[derive(Drop)]
 pub struct Program {
-    /// the names of the global scalars that are not special, in the order of their first appearance
+    /// the names of the globals that are not special, in the order of their first appearance; where a name is an array's, the array has the name's number here
     pub names: Vec<Bytes>,
+    /// what each of these is
+    pub kinds: Vec<Kind>,
     /// in the order of the text; their numbers count from 0
     pub functions: Vec<Function>,
     /// how many ranges the main rules have

@@ -4,14 +4,15 @@ use Rattle.std.proofs.lemmas.Result.{err_from_is_err_and}
 use Rattle.rawk_builtin_trees.specs.Calls.{has_builtin}
 use Rattle.rawk_parsing.specs.declared.tree.Expr.TheVariants as from
 use Rattle.rawk_parsing.specs.declared.tree.Function.TheVariants as fun
+use Rattle.rawk_parsing.specs.declared.tree.Place.TheVariants as from_place
 use Rattle.rawk_tree.specs.declared.tree.Expr.TheVariants as tree
 use Rattle.rawk_tree.specs.declared.tree.Unary.TheVariants as unary
-use Rattle.rawk_syntax.specs.Covered.{unless, each, covers, changes, covers_place, covers_link}
+use Rattle.rawk_syntax.specs.Covered.{unless, each, names_array, covers, changes, covers_place, covers_link}
 use Rattle.rawk_syntax.specs.Meant.{is_there, sense_of}
 use Rattle.rawk_syntax.specs.Settled as spec
-use Rattle.rawk_syntax.proofs.Coverings.{exits, passes, holds, sure, fails, both, first_false, second_false, was_settled, was_refused, judges_on, each_more, each_stops, number_covers, text_covers, ere_covers, getline_covers, of_covers, group_covers, signed_covers, power_covers, chain_covers, logic_covers, choice_covers, before_covers, after_covers, assign_covers, call_covers, match_covers, match_uncovered, applied_covers, applied_judged, none_there, other_covers, field_covers, element_covers, link_covers, pair_of, three_of, record_covers, changed_covers, replace_uncovered, of_changes, no_change}
+use Rattle.rawk_syntax.proofs.Coverings.{in_covers, in_judged, list_in_covers, exits, passes, holds, sure, fails, both, first_false, second_false, was_settled, was_refused, judges_on, each_more, each_stops, number_covers, text_covers, ere_covers, getline_covers, of_covers, group_covers, signed_covers, power_covers, chain_covers, logic_covers, choice_covers, before_covers, after_covers, assign_covers, call_covers, match_covers, match_uncovered, applied_covers, applied_judged, none_there, other_covers, field_covers, element_covers, link_covers, pair_of, three_of, record_covers, changed_covers, replace_uncovered, of_changes, no_change}
 use Rattle.rawk_syntax.proofs.Gaps.{made_judged}
-use Rattle.rawk_syntax.proofs.Settlements.{number_settles, number_judged, text_settles, ere_settles, sought_settles, made_settles, right_settles, read_settles, group_settles, boxed_settles, signed_settles, power_settles, before_settles, after_settles, test_settles, field_settles, link_settles, call_settles, builtin_settles, found_settles, replaced_settles, record_settles, same_count, expr_settles}
+use Rattle.rawk_syntax.proofs.Settlements.{element_settles, in_settles, list_in_settles, number_settles, number_judged, text_settles, ere_settles, sought_settles, made_settles, right_settles, read_settles, group_settles, boxed_settles, signed_settles, power_settles, before_settles, after_settles, test_settles, field_settles, link_settles, call_settles, builtin_settles, found_settles, replaced_settles, record_settles, same_count, expr_settles}
 use Rattle.rawk_syntax.proofs.expressions.+settle.Goals as goal
 use Rattle.rawk_syntax.proofs.expressions.+settle.Goals.{settle_match-in_default-via-then-arguments-lt2, settle_match-in_default-via-else-arguments-lt2+else-arguments-lt3, settle_replace-in_default-via-then-arguments-lt2, settle_replace-in_default-via-else-arguments-lt2+else-arguments-lt3+else-arguments-lt4}
 
@@ -103,7 +104,7 @@ pub settle_expr-returns-in_default : goal.settle_expr-returns-in_default
 settle_expr-returns-in_default t c =
     record {
       settled = tt;
-      judged = λ ne. fails (covers (sense_of c.args.scope.now) c.args.e.now) c.args.left (other_covers (sense_of c.args.scope.now) c.args.e.now c.in_default.not-Number c.in_default.not-Text c.in_default.not-Ere c.in_default.not-Getline c.in_default.not-Of c.in_default.not-Group c.in_default.not-Signed c.in_default.not-Power c.in_default.not-Chain c.in_default.not-Logic c.in_default.not-Choice c.in_default.not-Before c.in_default.not-After c.in_default.not-Assign c.in_default.not-Call c.in_default.not-Builtin) ∙ ap Some (sym c.left_out.ensures);
+      judged = λ ne. fails (covers (sense_of c.args.scope.now) c.args.e.now) c.args.left (other_covers (sense_of c.args.scope.now) c.args.e.now c.in_default.not-Number c.in_default.not-Text c.in_default.not-Ere c.in_default.not-Getline c.in_default.not-Of c.in_default.not-Group c.in_default.not-Signed c.in_default.not-Power c.in_default.not-Chain c.in_default.not-Logic c.in_default.not-Choice c.in_default.not-Before c.in_default.not-After c.in_default.not-In c.in_default.not-ListIn c.in_default.not-Assign c.in_default.not-Call c.in_default.not-Builtin) ∙ ap Some (sym c.left_out.ensures);
     }
 
 pub settle_boxed-returns-clause-settled : goal.settle_boxed-returns-clause-settled
@@ -229,6 +230,53 @@ settle_call-returns-clause-settled t c =
 pub settle_call-returns-clause-judged : goal.settle_call-returns-clause-judged
 settle_call-returns-clause-judged t c =
     holds (covers (sense_of c.args.scope.now) (from.Call c.args.name.now c.args.arguments.now)) c.args.left (call_covers (sense_of c.args.scope.now) c.args.name.now c.as_slice.result.now (Some c.in-Some.function) c.args.arguments.now c.as_slice.ensures c.in-Some.ensures ∙ sure (each (covers (sense_of c.args.scope.now)) c.args.arguments.now) c.args.left c.in_ok-arguments.ensures.judged)
+
+pub settle_element-returns-in_default-clause-judged : goal.settle_element-returns-in_default-clause-judged
+settle_element-returns-in_default-clause-judged t c =
+    λ ne. fails (covers_place (sense_of c.args.scope.now) (from_place.Element c.args.name.now c.args.subscripts.now)) c.args.left (element_covers (sense_of c.args.scope.now) c.args.name.now c.as_slice.result.now c.array_of.result c.args.subscripts.now c.as_slice.ensures c.array_of.ensures ∙ first_false (is_there c.array_of.result) (each (covers (sense_of c.args.scope.now)) c.args.subscripts.now) (none_there c.array_of.result c.in_default.not-Some)) ∙ ap Some (sym c.left_out.ensures)
+
+pub settle_element-returns-in_err-subscripts-clause-judged : goal.settle_element-returns-in_err-subscripts-clause-judged
+settle_element-returns-in_err-subscripts-clause-judged t c =
+    let p = err_from_is_err_and c.from_residual.result c.from_residual.ensures.1 in
+    exits c.from_residual.result (unless (covers_place (sense_of c.args.scope.now) (from_place.Element c.args.name.now c.args.subscripts.now)) c.args.left) c.in_err-subscripts.field-0.0 p.0 p.1 p.2 (passes (each (covers (sense_of c.args.scope.now)) c.args.subscripts.now) (covers_place (sense_of c.args.scope.now) (from_place.Element c.args.name.now c.args.subscripts.now)) c.args.left c.in_err-subscripts.field-0.0 (λ h. element_covers (sense_of c.args.scope.now) c.args.name.now c.as_slice.result.now (Some c.in-Some.array) c.args.subscripts.now c.as_slice.ensures c.in-Some.ensures ∙ h) c.in_err-subscripts.ensures.judged)
+
+pub settle_element-returns-clause-settled : goal.settle_element-returns-clause-settled
+settle_element-returns-clause-settled t c =
+    element_settles (sense_of c.args.scope.now) c.args.name.now c.as_slice.result.now c.in-Some.array c.args.subscripts.now c.in_ok-subscripts.subscripts c.as_slice.ensures c.in-Some.ensures c.in_ok-subscripts.ensures.settled
+
+pub settle_element-returns-clause-judged : goal.settle_element-returns-clause-judged
+settle_element-returns-clause-judged t c =
+    holds (covers_place (sense_of c.args.scope.now) (from_place.Element c.args.name.now c.args.subscripts.now)) c.args.left (element_covers (sense_of c.args.scope.now) c.args.name.now c.as_slice.result.now (Some c.in-Some.array) c.args.subscripts.now c.as_slice.ensures c.in-Some.ensures ∙ sure (each (covers (sense_of c.args.scope.now)) c.args.subscripts.now) c.args.left c.in_ok-subscripts.ensures.judged)
+
+pub settle_list_in-returns-in_default-clause-judged : goal.settle_list_in-returns-in_default-clause-judged
+settle_list_in-returns-in_default-clause-judged t c =
+    λ ne. fails (covers (sense_of c.args.scope.now) (from.ListIn c.args.subscripts.now c.args.name.now)) c.args.left (list_in_covers (sense_of c.args.scope.now) c.args.name.now c.as_slice.result.now c.array_of.result c.args.subscripts.now c.as_slice.ensures c.array_of.ensures ∙ first_false (is_there c.array_of.result) (each (covers (sense_of c.args.scope.now)) c.args.subscripts.now) (none_there c.array_of.result c.in_default.not-Some)) ∙ ap Some (sym c.left_out.ensures)
+
+pub settle_list_in-returns-in_err-subscripts-clause-judged : goal.settle_list_in-returns-in_err-subscripts-clause-judged
+settle_list_in-returns-in_err-subscripts-clause-judged t c =
+    let p = err_from_is_err_and c.from_residual.result c.from_residual.ensures.1 in
+    exits c.from_residual.result (unless (covers (sense_of c.args.scope.now) (from.ListIn c.args.subscripts.now c.args.name.now)) c.args.left) c.in_err-subscripts.field-0.0 p.0 p.1 p.2 (passes (each (covers (sense_of c.args.scope.now)) c.args.subscripts.now) (covers (sense_of c.args.scope.now) (from.ListIn c.args.subscripts.now c.args.name.now)) c.args.left c.in_err-subscripts.field-0.0 (λ h. list_in_covers (sense_of c.args.scope.now) c.args.name.now c.as_slice.result.now (Some c.in-Some.array) c.args.subscripts.now c.as_slice.ensures c.in-Some.ensures ∙ h) c.in_err-subscripts.ensures.judged)
+
+pub settle_list_in-returns-clause-settled : goal.settle_list_in-returns-clause-settled
+settle_list_in-returns-clause-settled t c =
+    list_in_settles (sense_of c.args.scope.now) c.args.name.now c.as_slice.result.now c.in-Some.array c.args.subscripts.now c.in_ok-subscripts.subscripts c.as_slice.ensures c.in-Some.ensures c.in_ok-subscripts.ensures.settled
+
+pub settle_list_in-returns-clause-judged : goal.settle_list_in-returns-clause-judged
+settle_list_in-returns-clause-judged t c =
+    holds (covers (sense_of c.args.scope.now) (from.ListIn c.args.subscripts.now c.args.name.now)) c.args.left (list_in_covers (sense_of c.args.scope.now) c.args.name.now c.as_slice.result.now (Some c.in-Some.array) c.args.subscripts.now c.as_slice.ensures c.in-Some.ensures ∙ sure (each (covers (sense_of c.args.scope.now)) c.args.subscripts.now) c.args.left c.in_ok-subscripts.ensures.judged)
+
+pub settle_in-returns-in_err-subscript-clause-judged : goal.settle_in-returns-in_err-subscript-clause-judged
+settle_in-returns-in_err-subscript-clause-judged t c =
+    let p = err_from_is_err_and c.from_residual.result c.from_residual.ensures.1 in
+    exits c.from_residual.result (unless (covers (sense_of c.args.scope.now) (from.In c.args.subscript.now c.args.names.now)) c.args.left) c.in_err-subscript.field-0.0 p.0 p.1 p.2 (passes (covers (sense_of c.args.scope.now) c.args.subscript.now) (covers (sense_of c.args.scope.now) (from.In c.args.subscript.now c.args.names.now)) c.args.left c.in_err-subscript.field-0.0 (λ h. in_covers (sense_of c.args.scope.now) c.args.subscript.now c.args.names.now ∙ first_false (covers (sense_of c.args.scope.now) c.args.subscript.now) (each (names_array (sense_of c.args.scope.now)) c.args.names.now) h) c.in_err-subscript.ensures.judged)
+
+pub settle_in-returns-clause-settled : goal.settle_in-returns-clause-settled
+settle_in-returns-clause-settled t c =
+    in_settles (sense_of c.args.scope.now) c.members_of.result c.args.subscript.now c.args.names.now c.in_ok-subscript.subscript c.in_ok-subscript.ensures.settled c.members_of.ensures.settled
+
+pub settle_in-returns-clause-judged : goal.settle_in-returns-clause-judged
+settle_in-returns-clause-judged t c =
+    in_judged c.members_of.result (sense_of c.args.scope.now) c.args.subscript.now c.args.names.now c.args.left (sure (covers (sense_of c.args.scope.now) c.args.subscript.now) c.args.left c.in_ok-subscript.ensures.judged) c.members_of.ensures.judged
 
 pub settle_match-returns-in_default-clause-judged : goal.settle_match-returns-in_default-clause-judged
 settle_match-returns-in_default-clause-judged t c =
@@ -406,10 +454,6 @@ settle_place-returns-in_ok-number-in-Field-clause-settled t c =
 pub settle_place-returns-in_ok-number-in-Field-clause-judged : goal.settle_place-returns-in_ok-number-in-Field-clause-judged
 settle_place-returns-in_ok-number-in-Field-clause-judged t c =
     holds (covers_place (sense_of c.args.scope.now) c.args.place.now) c.args.left (field_covers (sense_of c.args.scope.now) c.args.place.now c.in-Field.e c.get.result.now c.in-Field.is c.get.ensures ∙ sure (covers (sense_of c.args.scope.now) c.get.result.now) c.args.left c.in_ok-number-in-Field.ensures.judged)
-
-pub settle_place-returns-in-Element-clause-judged : goal.settle_place-returns-in-Element-clause-judged
-settle_place-returns-in-Element-clause-judged t c =
-    λ ne. fails (covers_place (sense_of c.args.scope.now) c.args.place.now) c.args.left (element_covers (sense_of c.args.scope.now) c.args.place.now _ _ c.in-Element.is) ∙ ap Some (sym c.left_out.ensures)
 
 pub settle_list-loop-e-init : goal.settle_list-loop-e-init
 settle_list-loop-e-init t c = record { settled = rw c.new-settled.ensures.items spec.no_exprs; judged = refl }

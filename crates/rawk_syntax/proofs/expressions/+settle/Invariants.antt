@@ -84,3 +84,12 @@ decreases-settle_choice l = 5 * max (expr.the_size l.test.now) (max (expr.the_si
 
 abbrev pub decreases-settle_assign : goal.decreases-settle_assign
 decreases-settle_assign l = 5 * max (place.the_size l.place.now) (expr.the_size l.value.now) + 2
+
+abbrev pub decreases-settle_element : goal.decreases-settle_element
+decreases-settle_element l = 5 * goal.size-settle_element l + 2
+
+abbrev pub decreases-settle_in : goal.decreases-settle_in
+decreases-settle_in l = 5 * goal.size-settle_in l + 2
+
+abbrev pub decreases-settle_list_in : goal.decreases-settle_list_in
+decreases-settle_list_in l = 5 * goal.size-settle_list_in l + 2

@@ -11,8 +11,8 @@ use Rattle.rawk_syntax.proofs.items.settle.Goals as goal
 pub loop-item-init : goal.loop-item-init
 loop-item-init c = record {
   text = c.new-sites.ensures.text;
-  settled = rw (c.new-2.ensures.items, c.new-3.ensures.items, c.new-4.ensures.items, c.new-5.ensures.items, c.new-sites.ensures.lines) spec.no_item;
-  judged = rw c.new-2.ensures.items refl;
+  settled = rw (c.new-3.ensures.items, c.new-4.ensures.items, c.new-5.ensures.items, c.new-6.ensures.items, c.new-sites.ensures.lines) spec.no_item;
+  judged = rw c.new-3.ensures.items refl;
   bounded = omega arith;
 }
 

@@ -6,7 +6,6 @@ use Rattle.rawk_history.specs.Steps.{Kept}
 use Rattle.rawk_store.specs.declared.registers.Registers.{Registers}
 use Rattle.rawk_store.specs.Stores.{now_of}
 use Rattle.rawk_machine.specs.Last.{Last, On, last_of}
-use Rattle.std.specs.Option.{option_map}
 use Rattle.rawk_machine.specs.Standing.{Standing, Moment, Past, IsAt, StandsAt, MovesOn, ground_of, given_of, moment_of}
 use Rattle.rawk_machine.specs.Kept.{IsPlaced, unsets, pasts, before_of, Chain, Few}
 use Rattle.rawk_machine.specs.Stood.{standing_of, IsBelow}

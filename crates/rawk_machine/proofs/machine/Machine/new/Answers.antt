@@ -8,9 +8,8 @@ use Rattle.rawk_machine.specs.Standing.{Ground, StandsAt, AllStood, AllPassed}
 use Rattle.rawk_machine.specs.Kept.{moment_in, unsets, pasts}
 use Rattle.rawk_store.specs.Layout.{Layout}
 use Rattle.rawk_store.specs.Stores.{now_of}
-use Rattle.rawk_travel.specs.Moving.{going, moving_of}
-use Rattle.rawk_travel.specs.Reading.{run_in}
-use Rattle.rawk_machine.proofs.Stands.{at_start, come_some, come_first}
+use Rattle.rawk_travel.specs.Moving.{moving_of}
+use Rattle.rawk_machine.proofs.Stands.{at_start, come_some, come_first, starts_first}
 use Rattle.rawk_value.specs.Values.{Bytes}
 use Rattle.rawk_tape.specs.Inputs.{CountsUp, before}
 use Rattle.rawk_code.specs.Trace.{FirstValue}
@@ -30,7 +29,7 @@ returns-clause-still g c = λ gone. come_some g.R.Source.may_give gone g.met.R.S
 pub returns-clause-stands : goal.returns-clause-stands
 returns-clause-stands g c = λ input may.
     let l = now_of c.in-Ok.parts.1 in
-    let starts = ap (λ (x : Layout). going (moving_of x) x.registers.place (run_in (moving_of x) [] [] [])) (sym c.in-Ok.ensures.first.now) in
+    let starts = starts_first c.args.code c.in-Ok.parts.0 l c.in-Ok.ensures.first.now c.in-Ok.ensures.first.arrays in
     let ground : Ground = record { code = c.args.code; settings = c.in-Ok.parts.0; steps = c.args.steps; input = input } in
     subst (λ (xs : List SetAt). StandsAt ground xs 0 (moment_in (now_of c.forget.new.self)) [] []) (sym c.new.ensures.items)
     (subst (λ (x : Layout). StandsAt ground [] 0 (moment_in x) [] []) (sym c.forget.ensures.now)
@@ -40,7 +39,7 @@ returns-clause-stands g c = λ input may.
 pub returns-clause-asks : goal.returns-clause-asks
 returns-clause-asks g c = λ input may.
     let l = now_of c.in-Ok.parts.1 in
-    let starts = ap (λ (x : Layout). going (moving_of x) x.registers.place (run_in (moving_of x) [] [] [])) (sym c.in-Ok.ensures.first.now) in
+    let starts = starts_first c.args.code c.in-Ok.parts.0 l c.in-Ok.ensures.first.now c.in-Ok.ensures.first.arrays in
     let empty = ap (λ (t : TapeState g.row.R.Denot). t.bytes) c.new-tape.ensures in
     subst (λ (xs : List SetAt). HasAsked c.args.code c.in-Ok.parts.0 (record { input = input; sets = xs; steps = c.args.steps }) 0 c.step.new.tape.bytes) (sym c.new.ensures.items)
     (asked_first g.R.Source.may_give c.args.code c.in-Ok.parts.0 c.args.steps c.step.new.tape l input starts
@@ -69,7 +68,7 @@ returns-in-Err-clause-err g c = record { read = []; given = λ rest comes. comes
 pub returns-in-Err-step-clause-err : goal.returns-in-Err-step-clause-err
 returns-in-Err-step-clause-err g c =
     let l = now_of c.in-Ok.parts.1 in
-    let starts = ap (λ (x : Layout). going (moving_of x) x.registers.place (run_in (moving_of x) [] [] [])) (sym c.in-Ok.ensures.first.now) in
+    let starts = starts_first c.args.code c.in-Ok.parts.0 l c.in-Ok.ensures.first.now c.in-Ok.ensures.first.arrays in
     let empty = ap (λ (t : TapeState g.row.R.Denot). t.bytes) c.new-tape.ensures in
     let source = ap (λ (t : TapeState g.row.R.Denot). t.source) c.new-tape.ensures in
     let read : Bytes = c.step.new.tape.bytes in

@@ -6,6 +6,7 @@ use Rattle.rawk_store.specs.Groups.{Group}
 use Rattle.rawk_store.specs.Layout.{IsSound}
 use Rattle.rawk_store.specs.declared.registers.Registers.{Registers}
 use Rattle.rawk_store.specs.Saving.{saved_in}
+use Rattle.rawk_store.specs.GroupBack.{put_back}
 use Rattle.rawk_store.specs.Stores.{now_of}
 use Rattle.rawk_code.specs.Actions.{SetAt}
 use Rattle.rawk_machine.specs.Last.{Nothing, last_of}
@@ -14,8 +15,8 @@ use Rattle.rawk_machine.specs.Kept.{IsPlaced, Chain}
 use Rattle.rawk_machine.specs.Stood.{standing_of, IsBelow}
 use Rattle.rawk_machine.specs.Written.{StandsBehind, WrittenOr}
 use Rattle.rawk_machine.specs.Arrival.{ends_quietly}
-use Rattle.rawk_machine.proofs.Chains.{chain_set}
-use Rattle.rawk_machine.proofs.Leads.{set_is}
+use Rattle.rawk_machine.proofs.Chains.{chain_set, chain-grown, placed-grown}
+use Rattle.rawk_machine.proofs.Leads.{set_is, stands_grown}
 use Rattle.rawk_machine.proofs.Stands.{stood_set}
 use Rattle.rawk_machine.proofs.machine.Machine.set.Goals as goal
 
@@ -37,7 +38,9 @@ invariant_of-self-2 g c =
     let going = ap (λ (m : Standing g.row.R.Denot). m.ending) c.self.view_is ∙ c.requires in
     let placed : IsPlaced l i.point size = record { goes = going; here = (v.below going).0; consumed = omega (arith, v.consumed, c.consumed-consumed.ensures.in_range, c.consumed-consumed.ensures.value) } in
     let last : reverse c.write_copy.new.here.items ≡ x ∷ here = ap (λ (gs : List Group). reverse gs) back.1 ∙ reverse-append i.here.items (x ∷ []) in
-    let chain : Chain n i.point size (i.sets.items ++ e ∷ []) (x ∷ here) kept = chain_set l n i.point size i.sets.items e x here kept placed back.2 back.3 refl v.chain in
+    let m = put_back n x in
+    let chain : Chain n i.point size (i.sets.items ++ e ∷ []) (x ∷ here) kept =
+    chain_set m n i.point size i.sets.items e x here kept (placed-grown l m i.point size back.2 placed) refl back.3 refl (chain-grown l m i.point size i.sets.items here kept back.2 v.chain) in
     let pushed : c.push.new.self.items ≡ i.sets.items ++ e ∷ [] = c.in_ok-push.ensures.items ∙ ap (λ (xs : List SetAt). xs ++ e ∷ []) c.write_copy.ensures.sets in
     let chain2 = subst (λ (xs : List SetAt). Chain n i.point size xs (x ∷ here) kept) (sym pushed) chain in
     record {
@@ -78,7 +81,7 @@ returns-clause-made g c =
       saved_in x,
       ap (λ (xs : List SetAt). standing xs (reverse c.write_copy.new.here.items)) pushed
           ∙ ap (standing (i.sets.items ++ e ∷ [])) last
-          ∙ set_is i.code i.settings i.steps i.sets.items i.point i.tape l n i.executed x here kept limit (last_of i.last (g.K.Keeper.forth i.keeper)) target value did back.2
+          ∙ set_is i.code i.settings i.steps i.sets.items i.point size i.tape l n i.executed x here kept limit (last_of i.last (g.K.Keeper.forth i.keeper)) target value did back.2 v.sound v.chain
           ∙ ap (set_made (saved_in x) target value) c.self.view_is,
     )
 
@@ -91,3 +94,52 @@ returns-clause-stood g c = λ input stood.
 
 pub returns-in-Err-clause-made : goal.returns-in-Err-clause-made
 returns-in-Err-clause-made g c = tt
+
+-- where memory was refused the parts are the same but for slots that no program sees
+pub returns-in-Err-clause-err : goal.returns-in-Err-clause-err
+returns-in-Err-clause-err g c =
+    let i = c.self.inside in
+    let v = c.self.invariant in
+    let e = c.in-Err.ensures in
+    let l = now_of i.store in
+    let n = now_of c.write_copy.new.store in
+    let size = length i.tape.bytes in
+    let kept = g.K.Keeper.kept i.keeper in
+    let limit = g.K.Keeper.limit i.keeper in
+    let last = last_of i.last (g.K.Keeper.forth i.keeper) in
+    let standing = λ (xs : List SetAt) (gs : List Group). standing_of i.code i.settings i.steps xs i.point i.tape n i.executed (reverse gs) kept limit last in
+    ap (λ (xs : List SetAt). standing xs c.write_copy.new.here.items) c.write_copy.ensures.sets
+    ∙ ap (standing i.sets.items) e.stays
+    ∙ stands_grown i.code i.settings i.steps i.sets.items i.point size i.tape l n i.executed (reverse i.here.items) kept limit last e.err v.sound v.chain
+    ∙ c.self.view_is
+
+pub returns-in-Err-clause-stood : goal.returns-in-Err-clause-stood
+returns-in-Err-clause-stood g c = λ input stood. subst (λ (m : Standing g.row.R.Denot). Stood m input) (sym (returns-in-Err-clause-err g c)) stood
+
+pub invariant_of-self : goal.invariant_of-self
+invariant_of-self g c =
+    let i = c.self.inside in
+    let v = c.self.invariant in
+    let e = c.in-Err.ensures in
+    let l = now_of i.store in
+    let n = now_of c.write_copy.new.store in
+    let here = reverse i.here.items in
+    let size = length i.tape.bytes in
+    let kept = g.K.Keeper.kept i.keeper in
+    let same : n.registers ≡ l.registers = e.err.registers in
+    let grew : Chain n i.point size i.sets.items here kept = chain-grown l n i.point size i.sets.items here kept e.err v.chain in
+    let stays : reverse c.write_copy.new.here.items ≡ here = ap (λ (gs : List Group). reverse gs) e.stays in
+    let sets = c.write_copy.ensures.sets in
+    record {
+      rest = c.write_copy.ensures.rest;
+      sound = e.kept v.sound;
+      consumed = v.consumed ∙ sym (ap (λ (r : Registers). r.consumed) same);
+      below = subst (λ (r : Registers). IsBelow r i.point i.steps) (sym same) v.below;
+      within = v.within;
+      quiet = subst (λ (r : Registers). ends_quietly r.ending) (sym same) v.quiet;
+      failed = λ y. v.failed (sym (ap (λ (r : Registers). r.ending) same) ∙ y);
+      chain = subst (λ (xs : List SetAt). Chain n i.point size xs (reverse c.write_copy.new.here.items) kept) (sym sets) (subst (λ (gs : List Group). Chain n i.point size i.sets.items gs kept) (sym stays) grew);
+      few = v.few;
+      clean = λ is. stays ∙ v.clean is;
+      room = λ y ys is. v.room y ys (sym stays ∙ is);
+    }
