@@ -1,5 +1,5 @@
 -- The code of small expressions with elements, computed from the definitions.
-use Rattle.std.specs.Prelude.{◌≡◌, pos, [], ◌∷◌, Box, Vec}
+use Rattle.std.specs.Prelude.{◌≡◌, pos, [], ◌∷◌, Some, Box, Vec}
 use Rattle.std.proofs.Common.{refl, arith}
 use Rattle.std.specs.declared.alloc.Global.{Global}
 use denote.RawPtr.{Ptr}
@@ -9,12 +9,15 @@ use Rattle.rawk_tree.specs.declared.tree.Expr.{Expr, end_of-Expr, more_of-Expr}
 use Rattle.rawk_tree.specs.declared.tree.Expr.TheVariants as expr
 use Rattle.rawk_tree.specs.declared.tree.Place.{Place}
 use Rattle.rawk_tree.specs.declared.tree.Place.TheVariants as place
+use Rattle.rawk_tree.specs.declared.tree.Scalar.TheVariants as scalar
+use Rattle.rawk_tree.specs.declared.tree.Stmt.TheVariants as stmt
+use Rattle.rawk_code.specs.declared.code.Variable.TheVariants as cell
 use Rattle.rawk_code.specs.declared.code.Op.TheVariants as does
 use Rattle.rawk_code.specs.declared.code.Instr.TheVariants as instr
 use Rattle.rawk_code.specs.declared.code.Operand.TheVariants.{Given as Known, Popped}
 use Rattle.rawk_code.specs.declared.code.Destination.TheVariants as destination
 use Rattle.rawk_code.specs.declared.code.Simple.TheVariants as simple
-use Rattle.rawk_compiler.specs.Code.{expr_code, effect_code}
+use Rattle.rawk_compiler.specs.Code.{expr_code, effect_code, stmt_code, nowhere}
 use Rattle.rawk_compiler.proofs.Rows.{vec, x}
 
 module _ (b : Box (Unit {0}) Global) (ptr : Ptr) (alloc : Global) where
@@ -43,3 +46,12 @@ module _ (b : Box (Unit {0}) Global) (ptr : Ptr) (alloc : Global) where
 
   has-code : expr_code (expr.Has' (array.Global 1) (two tt tt) (more_of-Expr (expr.Number (pos 1)) (more_of-Expr (expr.Read (place.Global x)) end_of-Expr))) ≡ instr.Do (does.Push (simple.Number (pos 1))) ∷ instr.Do (does.Push (simple.Global x)) ∷ instr.Do (does.Key 2) ∷ instr.Do (does.Has (array.Global 1) Popped) ∷ []
   has-code = refl
+
+  -- the code of a turn that returns from inside two loops over keys: both lists are dropped
+  returning-code : stmt_code (stmt.ForIn' 0 (scalar.Global x) (array.Global 1) b (stmt.ForIn' 1 (scalar.Local 0) (array.Global 1) b (stmt.Return 2))) nowhere 0
+      ≡ instr.TakeKeys (array.Global 1) ∷ instr.GoOn 12 ∷ instr.GoOn 12 ∷ instr.Point (Some 0) ∷ instr.AssignKey (destination.Variable (cell.Global x))
+      ∷ instr.TakeKeys (array.Global 1) ∷ instr.GoOn 5 ∷ instr.GoOn 5 ∷ instr.Point (Some 1) ∷ instr.AssignKey (destination.Variable (cell.Local 0))
+      ∷ instr.Point (Some 2) ∷ instr.Return 2 (Known simple.Uninitialized)
+      ∷ instr.BackIfKey 8 ∷ instr.DropKeys
+      ∷ instr.BackIfKey 3 ∷ instr.DropKeys ∷ []
+  returning-code = refl

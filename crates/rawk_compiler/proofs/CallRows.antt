@@ -165,8 +165,8 @@ module _ (b : Box (Unit {0}) Global) (ptr : Ptr) (alloc : Global) where
       ∷ instr.BeginEnd ∷ instr.Halt
       ∷ instr.Point (Some 0)
       ∷ instr.Point (Some 1) ∷ instr.Do (does.Store (destination.Variable (cell.Global x)) (Computed (computation.Arithmetic Add) (simple.Global x) (simple.Number (pos 1))))
-      ∷ instr.Point (Some 2) ∷ instr.Return (Computed (computation.Arithmetic Mul) (simple.Local 0) (simple.Local 0))
-      ∷ instr.Return (Known simple.Uninitialized) ∷ []
+      ∷ instr.Point (Some 2) ∷ instr.Return 0 (Computed (computation.Arithmetic Mul) (simple.Local 0) (simple.Local 0))
+      ∷ instr.Return 0 (Known simple.Uninitialized) ∷ []
   squaring-code = refl
 
   squaring-entries : entries_of squaring ≡ record { place = 8; parameters = 1 } ∷ []
@@ -307,5 +307,5 @@ module _ (b : Box (Unit {0}) Global) (ptr : Ptr) (alloc : Global) where
       ∷ instr.Point (Some 2) ∷ instr.Do (does.Print 0 (simple.Field 0 ∷ []))
       ∷ instr.GoTo 1
       ∷ instr.BeginEnd ∷ instr.Halt
-      ∷ instr.Point (Some 0) ∷ instr.Return (Known simple.Uninitialized) ∷ []
+      ∷ instr.Point (Some 0) ∷ instr.Return 0 (Known simple.Uninitialized) ∷ []
   between-code = refl

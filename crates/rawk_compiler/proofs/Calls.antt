@@ -38,9 +38,9 @@ module _ (given : Given) (code : List Instr) (fin : Places) where
   inner l to ops = record { returns = to ∷ l.returns; phase = l.phase; base = ops; keys = l.keys; around = nowhere }
 
   -- the end of a function's body
-  value_follows : (l : Level) (a : Config) (k to p : ℕ) (ops : List Value) (o : Outcome (Unit {0})) → slice_get code p ≡ Some (instr.Return (operand.Given simple.Uninitialized)) → Follows given code fin (inner l to ops) a k (λ _. Going p ops l.keys (to ∷ l.returns) l.phase) o → Follows given code fin l a k (λ v. Going to (v ∷ ops) l.keys l.returns l.phase) (value_of o)
+  value_follows : (l : Level) (a : Config) (k to p : ℕ) (ops : List Value) (o : Outcome (Unit {0})) → slice_get code p ≡ Some (instr.Return 0 (operand.Given simple.Uninitialized)) → Follows given code fin (inner l to ops) a k (λ _. Going p ops l.keys (to ∷ l.returns) l.phase) o → Follows given code fin l a k (λ v. Going to (v ∷ ops) l.keys l.returns l.phase) (value_of o)
   value_follows l a k to p ops (Goes u run) h f =
-      (same_points given code fin k left run f.0, leads_on given code fin a _ _ f.1 (one_step given code fin p ops l.keys (to ∷ l.returns) l.phase run (instr.Return (operand.Given simple.Uninitialized)) _ h refl))
+      (same_points given code fin k left run f.0, leads_on given code fin a _ _ f.1 (one_step given code fin p ops l.keys (to ∷ l.returns) l.phase run (instr.Return 0 (operand.Given simple.Uninitialized)) _ h refl))
   value_follows l a k to p ops (Breaks (Returns v) run) h f = (same_points given code fin k left run f.0, f.1)
   value_follows l a k to p ops (Breaks (Stops ending) run) h f = f
   value_follows l a k to p ops (Breaks Exits run) h f = f
@@ -79,7 +79,7 @@ module _ (given : Given) (code : List Instr) (fin : Places) where
       let w = scene_of given code fin depth call in
       let o = do_first (reach given (Some g.site)) (exec w g.body) run1 in
       lower given code fin l a k (k + 1) (λ v. Going to (v ∷ ops) l.keys l.returns l.phase) (value_of o) (omega arith)
-      (value_follows l a (k + 1) to p ops o (has_back code (e.place + 1) body (instr.Return (operand.Given simple.Uninitialized) ∷ []) placed.1.1).0
+      (value_follows l a (k + 1) to p ops o (has_back code (e.place + 1) body (instr.Return 0 (operand.Given simple.Uninitialized) ∷ []) placed.1.1).0
       (after_leads given code fin level a _ (k + 1) next o there
       (point_then given code fin level e.place ops k (Some g.site) run1 (exec w g.body) next placed.1.0 (same_points given code fin k enters run late) (λ run2 late2.
       (exec_runs given code fin depth call good g.body).by level (e.place + 1) p (k + 1) run2 (has_front code (e.place + 1) body _ placed.1.1) refl late2 (omega (arith, time))))))

@@ -1,5 +1,5 @@
 -- Nothing is written before point 0: a code reaches a point before it can write.
-use Rattle.std.proofs.Common.{◌≡◌, ℕ, zero, suc, ◌+◌, Bool, true, false, List, [], ◌∷◌, ◌++◌, length, map, Option, Some, None, if◌then◌else◌, refl, sym, ap, ◌∙◌, subst, arith, length-append}
+use Rattle.std.proofs.Common.{◌≡◌, ℕ, zero, suc, ◌+◌, Bool, true, false, List, [], ◌∷◌, ◌++◌, length, map, drop, Option, Some, None, if◌then◌else◌, refl, sym, ap, ◌∙◌, subst, arith, length-append}
 use Rattle.std.specs.Prelude.{slice_get, nat_eq}
 use Rattle.rawk_tree.specs.declared.tree.Stmt.{Stmt, Row_of-Stmt, end_of-Stmt, more_of-Stmt, Row_of-Branch, end_of-Branch, more_of-Branch}
 use Rattle.rawk_tree.specs.declared.tree.Stmt.TheVariants as stmt
@@ -8,13 +8,18 @@ use Rattle.rawk_tree.specs.declared.tree.Program.{Program}
 use Rattle.rawk_value.specs.declared.value.Value.{Value}
 use Rattle.rawk_value.specs.Values.{Bytes}
 use Rattle.rawk_compiler.specs.declared.loops.Around.{Around}
+use Rattle.rawk_words.specs.declared.array.Array.{Array}
+use Rattle.rawk_store.specs.State.{array_keys}
+use Rattle.rawk_code.specs.declared.code.Destination.{Destination}
+use Rattle.rawk_code.specs.declared.code.Simple.TheVariants as simple
 use Rattle.rawk_code.specs.declared.code.Operand.{Operand}
+use Rattle.rawk_code.specs.declared.code.Operand.TheVariants as operand
 use Rattle.rawk_code.specs.declared.code.Instr.{Instr}
 use Rattle.rawk_code.specs.declared.code.Instr.TheVariants as instr
 use Rattle.rawk_code.specs.Actions.{Point, Run, Ended, Limited, Stops, Goes, Breaks, sets_at, Given}
 use Rattle.rawk_code.specs.Trace.{reads, start}
-use Rattle.rawk_code.specs.Machine.{Phase, InBegin, InEnd, to_main, Places, Config, Going, goes_on, act, steps}
-use Rattle.rawk_compiler.specs.Code.{operand_of, unless_ready, expr_code, Piece, nowhere, always, in_turn, Arm, then_to, branch_to, if_code, step_around, body_around, loop_code, jump_code, test_code, stmt_code, stmt_codes, arms_of, main_code, begin_code, end_at_of, functions_at_of, functions_code, program_code, HasAt}
+use Rattle.rawk_code.specs.Machine.{Phase, InBegin, InEnd, to_main, has_next, Places, Config, Going, goes_on, act, steps}
+use Rattle.rawk_compiler.specs.Code.{operand_of, unless_ready, expr_code, Piece, nowhere, always, in_turn, Arm, then_to, branch_to, if_code, step_around, body_around, loop_code, keys_around, keys_code, scalar_destination, jump_code, test_code, stmt_code, stmt_codes, arms_of, main_code, begin_code, end_at_of, functions_at_of, functions_code, program_code, HasAt}
 use Rattle.rawk_code.specs.Laws.{IsBeginning, FirstIsSilent, FirstOutputLaw}
 use Rattle.rawk_code.specs.Steps.{run_of, with_point, all_set_same, steps_grow, over_stays}
 use Rattle.rawk_compiler.proofs.Follows.{has_front, has_back, has_all}
@@ -56,6 +61,9 @@ data Calm (code : List Instr) : ℕ → Type 0 where
   at_main : (q : ℕ) → slice_get code q ≡ Some instr.BeginMain → Calm code (q + 1) → Calm code q
   at_end : (q : ℕ) → slice_get code q ≡ Some instr.BeginEnd → Calm code (q + 1) → Calm code q
   at_halt : (q : ℕ) → slice_get code q ≡ Some instr.Halt → Calm code q
+  at_keys : (q : ℕ) (a : Array) → slice_get code q ≡ Some (instr.TakeKeys a) → Calm code (q + 1) → Calm code q
+  at_back : (q p : ℕ) → slice_get code q ≡ Some (instr.BackIfKey p) → Calm code p → Calm code (q + 1) → Calm code q
+  at_drop : (q : ℕ) → slice_get code q ≡ Some instr.DropKeys → Calm code (q + 1) → Calm code q
 
 module _ (code : List Instr) where
   -- code that leads from its first place on to behind its last
@@ -133,6 +141,24 @@ module _ (code : List Instr) where
             at_jump pc far has.0 leads;
       }
 
+  keys_opens : (site : ℕ) (a : Array) (x : Destination) (pb : Piece) → Opens (keys_code site a x pb)
+  keys_opens site a x pb =
+      record {
+        by = λ w pc has calm.
+            let b = pb (keys_around pc w) (pc + 5) in
+            let over = length b + 3 in
+            let tail : List Instr = instr.BackIfKey (pc + 3) ∷ (instr.DropKeys ∷ []) in
+            let q = pc + 5 + length b in
+            let e3 : pc + 1 + 1 + 1 ≡ pc + 3 = omega arith in
+            let e5 : pc + 1 + 1 + 1 + 1 + 1 ≡ pc + 5 = omega arith in
+            let ends : pc + length (keys_code site a x pb w pc) ≡ q + 1 + 1 = omega (arith, length-append b tail) in
+            let there : q ≡ pc + 1 + 1 + over = omega arith in
+            let has_tail = has_back code (pc + 5) b tail (subst (λ p. HasAt code p (b ++ tail)) e5 has.1.1.1.1.1) in
+            let point : Calm code (pc + 3) = at_point (pc + 3) (Some site) (subst (λ p. slice_get code p ≡ Some (instr.Point (Some site))) e3 has.1.1.1.0) in
+            let test : Calm code q = at_back q (pc + 3) has_tail.0 point (at_drop (q + 1) has_tail.1.0 (subst (Calm code) ends calm)) in
+            at_keys pc a has.0 (at_jump (pc + 1) over has.1.0 (subst (Calm code) there test));
+      }
+
   none_opens : Opens (λ w at. [])
   none_opens = in_turn_opens [] tt
 
@@ -152,8 +178,11 @@ module _ (code : List Instr) where
     stmt_opens (stmt.Next site) = point_opens site (always _)
     stmt_opens (stmt.Exit site) = point_opens site (always _)
     stmt_opens (stmt.ExitWith site e) = point_opens site (always _)
-    stmt_opens (stmt.Return site) = point_opens site (always _)
-    stmt_opens (stmt.ReturnWith site e) = point_opens site (always _)
+    stmt_opens (stmt.Return site) = point_opens site (λ w at. instr.Return w.held (operand.Given simple.Uninitialized) ∷ [])
+    stmt_opens (stmt.ReturnWith site e) = point_opens site (λ w at. unless_ready (operand_of e) (expr_code e) ++ instr.Return w.held (operand_of e) ∷ [])
+    stmt_opens (stmt.Delete site a subscripts) = point_opens site (always _)
+    stmt_opens (stmt.Clear site a) = point_opens site (always _)
+    stmt_opens (stmt.ForIn' site x a p body) = keys_opens site a (scalar_destination x) (stmt_code body)
 
     stmts_open : {m : _} → (row : Row_of-Stmt m) → AllOpen (stmt_codes row)
     stmts_open end_of-Stmt = tt
@@ -202,6 +231,16 @@ module _ (given : Given) (code : List Instr) (fin : Places) where
   from_calm (suc m) _ ops keys rets phase run (at_end q h calm) none silent = subst (λ i. Silent (steps given code fin m (act given fin i q ops keys rets phase run))) (sym h) (from_calm m (q + 1) [] [] rets InEnd run calm none silent)
   from_calm (suc m) _ ops keys rets phase run (at_halt q h) none silent =
       subst (λ i. Silent (steps given code fin m (act given fin i q ops keys rets phase run))) (sym h) (subst Silent (sym (over_stays given code fin m Ended run)) (λ a e. absurd (cc), λ e. silent))
+  from_calm (suc m) _ ops keys rets phase run (at_keys q a h calm) none silent =
+      subst (λ i. Silent (steps given code fin m (act given fin i q ops keys rets phase run))) (sym h) (from_calm m (q + 1) ops (array_keys a run.state ∷ keys) rets phase run calm none silent)
+  from_calm (suc m) _ ops keys rets phase run (at_back q p h first second) none silent =
+      subst (λ i. Silent (steps given code fin m (act given fin i q ops keys rets phase run))) (sym h)
+      (elim (has_next keys) as (λ b. Silent (steps given code fin m (Going (if b then p else q + 1) ops keys rets phase run))) [
+        | true ↦ from_calm m p ops keys rets phase run first none silent
+        | false ↦ from_calm m (q + 1) ops keys rets phase run second none silent
+      ])
+  from_calm (suc m) _ ops keys rets phase run (at_drop q h calm) none silent =
+      subst (λ i. Silent (steps given code fin m (act given fin i q ops keys rets phase run))) (sym h) (from_calm m (q + 1) ops (drop 1 keys) rets phase run calm none silent)
 
 pub first_output_law : FirstOutputLaw
 first_output_law p settings given =

@@ -1,22 +1,23 @@
 -- The code of subscripts follows them: the key that they are, whether an array has it, and the element there.
-use Rattle.std.proofs.Common.{◌≡◌, ℕ, ◌+◌, List, [], ◌∷◌, ◌++◌, length, take, drop, refl, sym, ap, ◌∙◌, subst, arith, length-append, Some}
+use Rattle.std.proofs.Common.{◌≡◌, ℕ, ◌+◌, List, [], ◌∷◌, ◌++◌, length, map, take, drop, refl, sym, ap, ◌∙◌, subst, arith, length-append, Some}
 use Rattle.std.proofs.Math.Seq.{take-append_seam, drop-append_seam}
 use Rattle.rawk_words.specs.declared.array.Array.{Array}
-use Rattle.rawk_tree.specs.declared.tree.Expr.{Row_of-Expr, end_of-Expr, more_of-Expr, items-the_row-Expr}
+use Rattle.rawk_tree.specs.declared.tree.Expr.{Expr, Row_of-Expr, end_of-Expr, more_of-Expr, items-the_row-Expr}
 use Rattle.rawk_value.specs.declared.value.Value.{Value}
 use Rattle.rawk_value.specs.declared.value.Value.TheVariants.{String}
 use Rattle.rawk_value.specs.Values.{text_of}
 use Rattle.rawk_store.specs.declared.target.Target.TheVariants as target
+use Rattle.rawk_store.specs.State.{element_count}
 use Rattle.rawk_code.specs.declared.code.Destination.TheVariants as destination
 use Rattle.rawk_code.specs.declared.code.Instr.{Instr}
 use Rattle.rawk_code.specs.declared.code.Op.TheVariants as does
 use Rattle.rawk_code.specs.declared.code.Instr.TheVariants as instr
-use Rattle.rawk_code.specs.Actions.{Run, Outcome, Goes, Breaks, Action, and_then, bind, give, Given, read, join_key, has_key}
-use Rattle.rawk_code.specs.Meaning.{values, evals, Scene}
+use Rattle.rawk_code.specs.Actions.{Run, Outcome, Goes, Breaks, Action, and_then, bind, give, Given, read, join_key, has_key, count_elements}
+use Rattle.rawk_code.specs.Meaning.{values, eval, evals, Scene}
 use Rattle.rawk_code.specs.Machine.{Places, Config, Going, target_of, past, pushing, goes_on, act}
 use Rattle.rawk_code.specs.Steps.{goes_after, key_keeps, has_keeps, read_keeps}
 use Rattle.rawk_compiler.specs.Code.{key_code, key_operand, unless_ready, joined}
-use Rattle.rawk_compiler.proofs.Follows.{has_front, has_back, then_assoc, leads_here, Follows, follows_then, keeps_plain, instr_runs}
+use Rattle.rawk_compiler.proofs.Follows.{has_front, has_back, then_assoc, leads_here, one_step, Follows, follows_then, keeps_plain, instr_runs}
 use Rattle.rawk_compiler.proofs.Expressions.{Seen, seen, Good, AllGood, all_length, values_run, values_length, taking_good, Aims, gives_one}
 
 -- subscripts as one action: the only one is the key, and several are joined
@@ -30,7 +31,7 @@ one_key : {A : Type 0} (o : Outcome Value) (f : Value → Action A) → ((v : Va
 one_key (Goes v run) f same = same v run
 one_key (Breaks why run) f same = refl
 
-key_same : {A : Type 0} (ms : List (Action Value)) (f : Value → Action A) → ((v : Value) (run : Run) → f (String (text_of v)) run ≡ f v run) → (run : Run) → bind (bind (values ms []) join_key) f run ≡ bind (key_action ms) f run
+pub key_same : {A : Type 0} (ms : List (Action Value)) (f : Value → Action A) → ((v : Value) (run : Run) → f (String (text_of v)) run ≡ f v run) → (run : Run) → bind (bind (values ms []) join_key) f run ≡ bind (key_action ms) f run
 key_same [] f same run = refl
 key_same (m ∷ []) f same run = one_key (m run) f same
 key_same (m ∷ n ∷ ms) f same run = refl
@@ -40,7 +41,21 @@ key_seen w end_of-Expr = tt
 key_seen w (more_of-Expr e end_of-Expr) = seen w e
 key_seen w (more_of-Expr e (more_of-Expr f rest)) = tt
 
+pub listed_seen : (w : Scene) (es : List Expr) → Seen (key_action (map (eval w) es)) (key_operand es)
+listed_seen w [] = tt
+listed_seen w (e ∷ []) = seen w e
+listed_seen w (e ∷ f ∷ es) = tt
+
 module _ (given : Given) (code : List Instr) (fin : Places) where
+  -- how many elements an array has
+  pub count_good : (depth : ℕ) (a : Array) → Good given code fin depth (count_elements a) (instr.Do (does.Count a) ∷ [])
+  count_good depth a =
+      record {
+        by = λ l pc to ops k run has at late time.
+            let there : pc + 1 ≡ to = sym at in
+            (late, one_step given code fin pc ops l.keys l.returns l.phase run (instr.Do (does.Count a)) _ has.0 (ap (λ n. Going n (element_count a run.state ∷ ops) l.keys l.returns l.phase run) there));
+      }
+
   -- several subscripts, and behind them the instruction that joins them
   joined_good : (depth : ℕ) (ms : List (Action Value)) (cs : List (List Instr)) → AllGood given code fin depth ms cs → Good given code fin depth (bind (values ms []) join_key) (joined cs ++ instr.Do (does.Key (length cs)) ∷ [])
   joined_good depth ms cs all =
@@ -64,7 +79,7 @@ module _ (given : Given) (code : List Instr) (fin : Places) where
             instr_runs given code fin l p (vs ++ ops) k run1 i next (join_key vs run1) (has_back code pc c _ has).0 acted (keeps_plain given code fin k run1 (join_key vs run1) late1 (key_keeps vs run1)));
       }
 
-  key_good : (depth : ℕ) (ms : List (Action Value)) (cs : List (List Instr)) → AllGood given code fin depth ms cs → Good given code fin depth (key_action ms) (key_code cs)
+  pub key_good : (depth : ℕ) (ms : List (Action Value)) (cs : List (List Instr)) → AllGood given code fin depth ms cs → Good given code fin depth (key_action ms) (key_code cs)
   key_good depth [] [] all = joined_good depth [] [] all
   key_good depth [] (c ∷ cs) all = absurd all
   key_good depth (m ∷ []) [] all = absurd all

@@ -3,6 +3,7 @@ pub mod Expressions
 pub mod Keys
 pub mod Statements
 pub mod Adding
+pub mod KeyLoops
 pub mod Runs
 pub mod Calls
 pub mod Whole

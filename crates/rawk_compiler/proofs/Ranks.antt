@@ -17,6 +17,7 @@ use Rattle.rawk_tree.specs.declared.tree.Rule.{Rule}
 use Rattle.rawk_tree.specs.declared.tree.Function.{Function}
 use Rattle.rawk_tree.specs.declared.tree.Program.{Program}
 use Rattle.rawk_value.specs.declared.operator.Arithmetic.{Arithmetic}
+use Rattle.rawk_words.specs.declared.array.Array.{Array}
 use Rattle.rawk_words.specs.declared.operator.Logic.{Logic}
 use Rattle.rawk_compiler.specs.declared.loops.Around.{Around}
 use Rattle.rawk_code.specs.declared.code.Simple.{Simple}
@@ -32,7 +33,7 @@ use Rattle.rawk_code.specs.declared.code.Op.{Op}
 use Rattle.rawk_code.specs.declared.code.Op.TheVariants as does
 use Rattle.rawk_code.specs.declared.code.Instr.TheVariants as instr
 use Rattle.rawk_code.specs.Trace.{reads}
-use Rattle.rawk_compiler.specs.Code.{appending, constant_field, simple_field, unless_constant, destination_of, operand_of, sought_operand, constant_operand, right_operand, unless_ready, pushed, joined, key_code, key_operand, choice_code, decide_code, expr_code, expr_codes, effect_code, place_code, parts_code, link_code, link_codes, front_of, simples_behind, Piece, nowhere, always, in_turn, when_code, Arm, then_to, branch_to, if_code, step_around, body_around, loop_code, jump_code, test_code, stmt_code, stmt_codes, arms_of, added, added_to, or_else, closing_code, opened_code, guard_code, rule_code, records_code, main_code, begin_code, record_at_of, end_at_of, functions_at_of, function_code, functions_code, entries_of, program_code, HasAt}
+use Rattle.rawk_compiler.specs.Code.{appending, constant_field, simple_field, unless_constant, destination_of, operand_of, sought_operand, constant_operand, right_operand, unless_ready, pushed, joined, key_code, key_operand, choice_code, decide_code, expr_code, expr_codes, effect_code, place_code, parts_code, link_code, link_codes, front_of, simples_behind, Piece, nowhere, always, in_turn, when_code, Arm, then_to, branch_to, if_code, step_around, body_around, loop_code, keys_around, keys_code, scalar_destination, jump_code, test_code, stmt_code, stmt_codes, arms_of, added, added_to, or_else, closing_code, opened_code, guard_code, rule_code, records_code, main_code, begin_code, record_at_of, end_at_of, functions_at_of, function_code, functions_code, entries_of, program_code, HasAt}
 use Rattle.rawk_code.specs.Valid.{rank_of, rank, IsEntry, Descends, IsValid}
 use Rattle.rawk_compiler.proofs.Follows.{has_front, has_back, has_all}
 use Rattle.rawk_compiler.proofs.Statements.{branches_length}
@@ -47,6 +48,7 @@ module _ (code : List Instr) where
 
   abbrev BackAt : ℕ → Instr → Type 0
   BackAt pc (instr.GoTo p) = Lands pc p (slice_get code p)
+  BackAt pc (instr.BackIfKey p) = Lands pc p (slice_get code p)
   BackAt pc _ = Unit {0}
 
   abbrev Backs : ℕ → List Instr → Type 0
@@ -138,6 +140,7 @@ module _ (code : List Instr) where
     expr_fine (expr.Sprintf' p f shape args) =
         fine_append (expr_code f) (joined (expr_codes args) ++ instr.Do (does.Sprintf (length (expr_codes args))) ∷ []) (expr_fine f) (fine_last (joined (expr_codes args)) (instr.Do (does.Sprintf (length (expr_codes args)))) (λ pc. tt) (joined_fine (expr_codes args) (exprs_fine args)))
     expr_fine expr.Getline = fine_cons (instr.ReadRecord 2) _ (λ pc. tt) (fine_cons (instr.Do (does.Push (simple.Number (pos 1)))) _ (λ pc. tt) (fine_cons (instr.GoOn 1) _ (λ pc. tt) (fine_cons (instr.Do (does.Push (simple.Number (pos 0)))) [] (λ pc. tt) fine_none)))
+    expr_fine (expr.Count a) = fine_last [] (instr.Do (does.Count a)) (λ pc. tt) fine_none
     expr_fine (expr.Has' a shape subscripts) =
         let from = key_operand (items-the_row-Expr _ subscripts) in
         fine_last (unless_ready from (key_code (expr_codes subscripts))) (instr.Do (does.Has a from)) (λ pc. tt) (unless_fine from (key_code (expr_codes subscripts)) (key_fine (expr_codes subscripts) (exprs_fine subscripts)))
@@ -206,6 +209,7 @@ module _ (code : List Instr) where
   effect_fine (expr.Sprintf' p f shape args) = fine_last _ (instr.Do does.Pop) (λ pc. tt) (expr_fine (expr.Sprintf' p f shape args))
   effect_fine expr.Getline = fine_last _ (instr.Do does.Pop) (λ pc. tt) (expr_fine expr.Getline)
   effect_fine (expr.Has' a shape subscripts) = fine_last _ (instr.Do does.Pop) (λ pc. tt) (expr_fine (expr.Has' a shape subscripts))
+  effect_fine (expr.Count a) = fine_last _ (instr.Do does.Pop) (λ pc. tt) (expr_fine (expr.Count a))
 
   list_fine : (es : List Expr) → AllFine (map expr_code es)
   list_fine [] = tt
@@ -320,6 +324,26 @@ module _ (code : List Instr) where
             (tt, (tt, (tt, subst (λ p. Backs p (t ++ tail)) (sym e3) backs_test)));
       }
 
+  keys_fine : (site : ℕ) (a : Array) (x : Destination) (pb : Piece) → FinePiece pb → FinePiece (keys_code site a x pb)
+  keys_fine site a x pb fb =
+      record {
+        by = λ w pc to has le safe.
+            let start = pc + 5 in
+            let wb = keys_around pc w in
+            let b = pb wb start in
+            let over = length b + 3 in
+            let tail : List Instr = instr.BackIfKey (pc + 3) ∷ (instr.DropKeys ∷ []) in
+            let e2 : pc + 1 + 1 ≡ pc + 2 = omega arith in
+            let e3 : pc + 1 + 1 + 1 ≡ pc + 3 = omega arith in
+            let e5 : pc + 1 + 1 + 1 + 1 + 1 ≡ start = omega arith in
+            let has_body = subst (λ p. HasAt code p (b ++ tail)) e5 has.1.1.1.1.1 in
+            let point = subst (λ p. slice_get code p ≡ Some (instr.Point (Some site))) e3 has.1.1.1.0 in
+            let exits : SafeJump (Some (pc + 2)) (start + length b) = λ q lt. subst (Lands q (pc + 2)) (sym (subst (λ p. slice_get code p ≡ Some (instr.GoOn over)) e2 has.1.1.0)) (omega (arith, lt)) in
+            let agains : SafeJump (Some (pc + 1)) (start + length b) = λ q lt. subst (Lands q (pc + 1)) (sym has.1.0) (omega (arith, lt)) in
+            let backs = backs_append start b tail (fb.by wb start (start + length b) (has_front code start b tail has_body) (omega arith) (record { exit = exits; again = agains })) (subst (Lands (start + length b) (pc + 3)) (sym point) tt, (tt, tt)) in
+            (tt, (tt, (tt, (tt, (tt, subst (λ p. Backs p (b ++ tail)) (sym e5) backs)))));
+      }
+
   jump_fine : (site : ℕ) (target : Around → Option ℕ) → ((w : Around) (to : ℕ) → Safe w to → SafeJump (target w) to) → FinePiece (λ w at. instr.Point (Some site) ∷ jump_code (target w))
   jump_fine site target safe_at =
       record { by = λ w pc to has le safe. (tt, go (pc + 1) (target w) to (safe_at w to safe) (omega (arith, le))) }
@@ -354,8 +378,15 @@ module _ (code : List Instr) where
     stmt_fine (stmt.Exit site) = always_fine _ (fine_cons (instr.Point (Some site)) _ (λ pc. tt) (fine_cons instr.Quit [] (λ pc. tt) fine_none))
     stmt_fine (stmt.ExitWith site e) =
         always_fine _ (fine_append (test_code site e) _ (fine_cons (instr.Point (Some site)) _ (λ pc. tt) (tested_fine e)) (fine_cons (instr.Do (does.SetStatus (operand_of e))) _ (λ pc. tt) (fine_cons instr.Quit [] (λ pc. tt) fine_none)))
-    stmt_fine (stmt.Return site) = always_fine _ (fine_cons (instr.Point (Some site)) _ (λ pc. tt) (fine_cons (instr.Return (operand.Given simple.Uninitialized)) [] (λ pc. tt) fine_none))
-    stmt_fine (stmt.ReturnWith site e) = always_fine _ (fine_append (test_code site e) _ (fine_cons (instr.Point (Some site)) _ (λ pc. tt) (tested_fine e)) (fine_cons (instr.Return (operand_of e)) [] (λ pc. tt) fine_none))
+    stmt_fine (stmt.Return site) = record { by = λ w pc to has le safe. (tt, (tt, tt)) }
+    stmt_fine (stmt.ReturnWith site e) =
+        record { by = λ w pc to has le safe. (fine_last (test_code site e) (instr.Return w.held (operand_of e)) (λ pc. tt) (fine_cons (instr.Point (Some site)) _ (λ pc. tt) (tested_fine e))).by pc has }
+    stmt_fine (stmt.Delete site a subscripts) =
+        let from = key_operand subscripts.items in
+        let c = key_code (map expr_code subscripts.items) in
+        always_fine _ (fine_cons (instr.Point (Some site)) _ (λ pc. tt) (fine_last (unless_ready from c) (instr.Do (does.Delete a from)) (λ pc. tt) (unless_fine from c (key_fine (map expr_code subscripts.items) (list_fine subscripts.items)))))
+    stmt_fine (stmt.Clear site a) = always_fine _ (fine_cons (instr.Point (Some site)) _ (λ pc. tt) (fine_cons (instr.Do (does.Clear a)) [] (λ pc. tt) fine_none))
+    stmt_fine (stmt.ForIn' site x a p body) = keys_fine site a (scalar_destination x) (stmt_code body) (stmt_fine body)
 
     stmts_fine : {m : _} → (row : Row_of-Stmt m) → AllPieces (stmt_codes row)
     stmts_fine end_of-Stmt = tt
@@ -397,7 +428,7 @@ module _ (code : List Instr) where
           record {
             by = λ w pc to has le safe.
                 let b = stmt_code f.body w (pc + 1) in
-                let last : List Instr = instr.Return (operand.Given simple.Uninitialized) ∷ [] in
+                let last : List Instr = instr.Return 0 (operand.Given simple.Uninitialized) ∷ [] in
                 (tt, backs_append (pc + 1) b last ((stmt_fine f.body).by w (pc + 1) to (has_front code (pc + 1) b last has.1) (omega (arith, le, length-append b last)) safe) (tt, tt));
           }
 
@@ -510,7 +541,12 @@ module _ (code : List Instr) where
   descends again entries ready begins pc (Some instr.Halt) h back = tt
   descends again entries ready begins pc (Some instr.Quit) h back = tt
   descends again entries ready begins pc (Some (instr.Call f m)) h back = ready f
-  descends again entries ready begins pc (Some (instr.Return from)) h back = tt
+  descends again entries ready begins pc (Some (instr.Return held from)) h back = tt
+  descends again entries ready begins pc (Some (instr.TakeKeys a)) h back = onward pc (instr.TakeKeys a) h refl (pc + 1) (omega arith)
+  descends again entries ready begins pc (Some (instr.AssignKey x)) h back = onward pc (instr.AssignKey x) h refl (pc + 1) (omega arith)
+  descends again entries ready begins pc (Some (instr.BackIfKey p)) h back =
+      (lands pc (instr.BackIfKey p) h refl p (slice_get code p) refl (back (instr.BackIfKey p) refl), onward pc (instr.BackIfKey p) h refl (pc + 1) (omega arith))
+  descends again entries ready begins pc (Some instr.DropKeys) h back = onward pc instr.DropKeys h refl (pc + 1) (omega arith)
   descends again entries ready begins pc (Some (instr.SkipIfOn range k)) h back = (onward pc (instr.SkipIfOn range k) h refl (pc + 1) (omega arith), onward pc (instr.SkipIfOn range k) h refl (pc + 1 + k) (omega arith))
   descends again entries ready begins pc (Some (instr.Do o)) h back = onward pc (instr.Do o) h refl (pc + 1) (omega arith)
   descends again entries ready begins pc (Some instr.NextRecord) h back = next_down again pc begins h

@@ -244,7 +244,10 @@ fn emit_function(
 {
     put_point(code, function.site)?;
     emit_stmt(alloc, code, NOWHERE, &function.body)?;
-    put(code, Instr::Return(Operand::Given(Simple::Uninitialized)))
+    put(
+        code,
+        Instr::Return(0, Operand::Given(Simple::Uninitialized)),
+    )
 }
 
 // END, and the place of its first instruction.

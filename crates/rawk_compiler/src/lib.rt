@@ -4,6 +4,7 @@
 pub mod compiler;
 mod emit;
 mod instructions;
+mod key_loops;
 pub mod laws;
 mod loops;
 mod operands;

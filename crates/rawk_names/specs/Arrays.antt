@@ -1,4 +1,4 @@
--- The arrays of a program, and the misuses of its names (POSIX awk, "Arrays", "User-Defined Functions").
+-- The arrays of a program, and the misuses of its names (POSIX awk, "Expressions in awk", "User-Defined Functions").
 use Rattle.std.specs.Prelude.{◌≡◌, ◌<◌, ℕ, ⊤, List, slice_get, Some}
 use Rattle.rawk_names.specs.declared.usage.Manner.TheVariants.{Scalar, Array, Either, Argument}
 use Rattle.rawk_names.specs.declared.usage.What.{What}

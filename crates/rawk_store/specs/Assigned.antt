@@ -1,5 +1,5 @@
 -- What an assignment changes, and what it neither looks at nor changes.
-use Rattle.std.specs.Prelude.{◌≡◌, ℕ, zero, suc, ℤ, Option, None, Some, Result, Ok, Err}
+use Rattle.std.specs.Prelude.{◌≡◌, ℕ, zero, suc, Option, None, Some, Result, Ok, Err}
 use Rattle.std.proofs.Common.{refl, sym, ap, ◌∙◌}
 use Rattle.rawk_value.specs.declared.value.Value.{Value}
 use Rattle.rawk_value.specs.declared.fault.Fault.{Fault}

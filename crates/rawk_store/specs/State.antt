@@ -1,6 +1,7 @@
 -- The state of a program, and what can be assigned in it.
-use Rattle.std.specs.Prelude.{ℕ, zero, suc, ◌-◌, ℤ, pos, negsuc, int_le, ◌==◌, Bool, false, if◌then◌else◌, List, length, map, slice_index_or, slice_set, Option, None, Some, Result, Ok, Err}
+use Rattle.std.specs.Prelude.{ℕ, zero, suc, ◌-◌, ℤ, pos, negsuc, int_le, ◌==◌, Bool, false, if◌then◌else◌, List, [], length, map, slice_index_or, slice_set, Option, None, Some, Result, Ok, Err}
 use Rattle.std.specs.Option.{unwrap_or}
+use Rattle.std.specs.FinMap.{len}
 use Rattle.rawk_words.specs.declared.array.Array.{Array}
 use Rattle.rawk_words.specs.declared.array.Array.TheVariants as array
 use Rattle.rawk_limits.specs.declared.TheConstants.{LAST_FIELD}
@@ -9,7 +10,7 @@ use Rattle.rawk_value.specs.declared.value.Value.TheVariants.{Uninitialized, Num
 use Rattle.rawk_value.specs.declared.fault.Fault.{Fault}
 use Rattle.rawk_value.specs.declared.fault.Fault.TheVariants.{FieldNumber}
 use Rattle.rawk_value.specs.Values.{Bytes, next_ok, is_empty, number_of, text_of}
-use Rattle.rawk_arrays.specs.Elements.{Elements, element_at, is_element, touched, with_element}
+use Rattle.rawk_arrays.specs.Elements.{Elements, array_at, cleared, element_at, is_element, keys_at, touched, with_element, without_element}
 use Rattle.rawk_frames.specs.declared.frames.Local.{Local}
 use Rattle.rawk_frames.specs.declared.frames.Local.TheVariants.{Holds, Names}
 use Rattle.rawk_frames.specs.Frame.{Frame, locals_now, with_local}
@@ -86,7 +87,7 @@ abbrev pub has_element : Option ℕ → Bytes → List Elements → Bool
 has_element None key arrays = false
 has_element (Some a) key arrays = is_element a key arrays
 
--- the arrays where it is there: what is read comes to be (POSIX awk, Arrays)
+-- the arrays where it is there: what is read comes to be (POSIX awk, Expressions in awk)
 abbrev pub read_element : Option ℕ → Bytes → List Elements → List Elements
 read_element None key arrays = arrays
 read_element (Some a) key arrays = touched a key arrays
@@ -96,6 +97,26 @@ abbrev pub put_element : Option ℕ → Bytes → Value → List Elements → Li
 put_element None key v arrays = arrays
 put_element (Some a) key v arrays = with_element a key v arrays
 
+-- the arrays without the element at a key
+abbrev pub delete_element : Option ℕ → Bytes → List Elements → List Elements
+delete_element None key arrays = arrays
+delete_element (Some a) key arrays = without_element a key arrays
+
+-- the arrays without all elements of one
+abbrev pub clear_elements : Option ℕ → List Elements → List Elements
+clear_elements None arrays = arrays
+clear_elements (Some a) arrays = cleared a arrays
+
+-- the keys of an array, in byte order
+abbrev pub keys_in : Option ℕ → List Elements → List Bytes
+keys_in None arrays = []
+keys_in (Some a) arrays = keys_at a arrays
+
+-- how many elements it has
+abbrev pub count_in : Option ℕ → List Elements → ℕ
+count_in None arrays = 0
+count_in (Some a) arrays = len (array_at a arrays)
+
 abbrev pub element_value : Array → Bytes → State → Value
 element_value a key s = unwrap_or (element_in (array_in a s.frames) key s.arrays) Uninitialized
 
@@ -104,6 +125,18 @@ with_element_read a key s = record s { arrays = read_element (array_in a s.frame
 
 abbrev pub with_element_value : Array → Bytes → Value → State → State
 with_element_value a key v s = record s { arrays = put_element (array_in a s.frames) key v s.arrays }
+
+abbrev pub without_element_at : Array → Bytes → State → State
+without_element_at a key s = record s { arrays = delete_element (array_in a s.frames) key s.arrays }
+
+abbrev pub without_elements : Array → State → State
+without_elements a s = record s { arrays = clear_elements (array_in a s.frames) s.arrays }
+
+abbrev pub array_keys : Array → State → List Bytes
+array_keys a s = keys_in (array_in a s.frames) s.arrays
+
+abbrev pub element_count : Array → State → Value
+element_count a s = Number (pos (count_in (array_in a s.frames) s.arrays))
 
 -- the key that subscripts are: their texts with the SUBSEP of now between two
 abbrev pub key_of : List Value → State → Bytes

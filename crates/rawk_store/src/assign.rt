@@ -7,11 +7,12 @@ ghost use Rattle.rawk_value.specs.Values.{is_empty, text_of};
 ghost use Rattle.rawk_record.specs.Changed.{rebuilt, with_value};
 ghost use Rattle.rawk_record.specs.Shown.{read_as};
 ghost use Rattle.rawk_arrays.specs.Laid.{GrownArrays, arrays_of};
+ghost use Rattle.rawk_arrays.specs.Walks.{texts};
 ghost use Rattle.rawk_frames.specs.LaidFrames.{frames_of};
 ghost use Rattle.rawk_store.specs.Assigned.{HasAssigned};
 ghost use Rattle.rawk_store.specs.Layout.{Grown};
 ghost use Rattle.rawk_store.specs.Records.{Becomes, counted_as};
-ghost use Rattle.rawk_store.specs.State.{array_in, element_in, has_element, put_element, read_element};
+ghost use Rattle.rawk_store.specs.State.{array_in, clear_elements, count_in, delete_element, element_in, has_element, keys_in, put_element, read_element};
 ghost use Rattle.rawk_store.specs.Stores.{now_of, start_of};
 ghost use Rattle.rawk_special.specs.declared.special.TheConstants.{FS, OFS, RS};
 
@@ -151,7 +152,81 @@ fn touch_element(
     }
 }
 
+/// Deletes an element; an array that is not there stays away. It fails where memory is refused, and then no element has changed.
+fn delete_element(
+    alloc: Global,
+    arrays: &mut Arrays,
+    number: Option<usize>,
+    key: &[u8],
+) -> Result<(), AllocError>
+    ensures did { OnOk result (arrays_of arrays.new.now ≡ delete_element number key.now (arrays_of arrays.old.now)) }
+    ensures err { OnErr result (arrays_of arrays.new.now ≡ arrays_of arrays.old.now) }
+    ensures start { GrownArrays arrays.old.start arrays.new.start }
+{
+    match number {
+        Some(number) => arrays.delete(alloc, number, key),
+        None => Ok(()),
+    }
+}
+
+/// Deletes all elements of an array; one that is not there stays away. It fails where memory is refused; some are deleted then.
+fn clear_elements(arrays: &mut Arrays, number: Option<usize>) -> Result<(), AllocError>
+    ensures did { OnOk result (arrays_of arrays.new.now ≡ clear_elements number (arrays_of arrays.old.now)) }
+    ensures start { arrays.new.start ≡ arrays.old.start }
+{
+    match number {
+        Some(number) => arrays.clear(number),
+        None => Ok(()),
+    }
+}
+
 impl Store {
+    /// Deletes an element of an array, if both are there (POSIX awk, Actions). It fails where memory is refused, and then no element has changed.
+    pub fn delete_element(
+        &mut self,
+        alloc: Global,
+        array: Array,
+        key: &[u8],
+    ) -> Result<(), AllocError>
+        ensures did { OnOk result (arrays_of self.new.arrays.now ≡ delete_element (array_in array (frames_of self.old.frames.now)) key.now (arrays_of self.old.arrays.now)) }
+        ensures err { OnErr result (arrays_of self.new.arrays.now ≡ arrays_of self.old.arrays.now) }
+        ensures rest { now_of self.new ≡ record (now_of self.old) { arrays = self.new.arrays.now } }
+        ensures start { Grown (start_of self.old) (start_of self.new) }
+    {
+        let number = array_number(&self.frames, array);
+        delete_element(alloc, &mut self.arrays, number, key)
+    }
+
+    /// Deletes all elements of an array, if it is there, in a time linear in the slots that it has. It fails where memory is refused; some are deleted then.
+    pub fn clear_elements(&mut self, array: Array) -> Result<(), AllocError>
+        ensures did { OnOk result (arrays_of self.new.arrays.now ≡ clear_elements (array_in array (frames_of self.old.frames.now)) (arrays_of self.old.arrays.now)) }
+        ensures rest { now_of self.new ≡ record (now_of self.old) { arrays = self.new.arrays.now } }
+        ensures start { start_of self.new ≡ start_of self.old }
+    {
+        let number = array_number(&self.frames, array);
+        clear_elements(&mut self.arrays, number)
+    }
+
+    /// The keys of an array in byte order, none where it is not there: a copy of each. It fails where memory is refused.
+    pub fn array_keys(&self, alloc: Global, array: Array) -> Result<Vec<Vec<u8>>, AllocError>
+        ensures { IfOk result (λ keys. texts keys.items ≡ keys_in (array_in array (frames_of self.now.frames.now)) (arrays_of self.now.arrays.now)) }
+    {
+        match array_number(&self.frames, array) {
+            Some(number) => self.arrays.keys(alloc, number),
+            None => Ok(Vec::new(alloc)),
+        }
+    }
+
+    /// How many elements an array has, 0 where it is not there. It is linear in the slots that the array has.
+    pub fn element_count(&self, array: Array) -> usize
+        ensures { result ≡ count_in (array_in array (frames_of self.now.frames.now)) (arrays_of self.now.arrays.now) }
+    {
+        match array_number(&self.frames, array) {
+            Some(number) => self.arrays.count(number),
+            None => 0,
+        }
+    }
+
     /// An element of an array, if both are there. It takes no memory.
     pub fn element(&self, array: Array, key: &[u8]) -> Option<&Value>
         ensures { option_copied result ≡ element_in (array_in array (frames_of self.now.frames.now)) key.now (arrays_of self.now.arrays.now) }
@@ -172,7 +247,7 @@ impl Store {
         }
     }
 
-    /// Makes an element that is not there, uninitialised, as reading it does (POSIX awk, Arrays); an array that is not there stays away. It fails where memory is
+    /// Makes an element that is not there, uninitialised, as reading it does (POSIX awk, Expressions in awk); an array that is not there stays away. It fails where memory is
     /// refused, and then no element has changed.
     pub fn touch_element(
         &mut self,

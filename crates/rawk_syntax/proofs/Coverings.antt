@@ -1,5 +1,5 @@
 -- What of the parser's tree is covered, from its parts.
-use Rattle.std.proofs.Common.{◌≡◌, ◌≢◌, ℕ, ℤ, ◌+◌, ◌<◌, ◌≤◌, suc, Bool, true, false, not, ◌&&◌, List, [], ◌∷◌, ◌++◌, length, take, drop, map, get_or, Option, Some, None, Result, Ok, Err, refl, sym, ap, subst, ◌∙◌, arith}
+use Rattle.std.proofs.Common.{◌≡◌, ◌≢◌, ℕ, ℤ, ◌+◌, ◌<◌, ◌≤◌, suc, Bool, true, false, not, ◌&&◌, ◌||◌, List, [], ◌∷◌, ◌++◌, length, take, drop, map, get_or, Option, Some, None, Result, Ok, Err, refl, sym, ap, subst, ◌∙◌, arith}
 use Rattle.std.specs.Result.{result_err}
 use Rattle.std.proofs.lemmas.List.{take_more, take-append-drop, drop_all, length-map}
 use Rattle.std.proofs.Math.Seq.{drop-cons}
@@ -18,17 +18,17 @@ use Rattle.rawk_parsing.specs.declared.tree.Expr.TheVariants.{rolls-Number, roll
 use Rattle.rawk_parsing.specs.declared.tree.Expr.TheOpen as expr
 use Rattle.rawk_parsing.specs.declared.tree.Expr.TheOpen.{Expr-F, Place-F, Link-F}
 use Rattle.rawk_parsing.specs.declared.tree.Link.{Link, fold_out-Link}
-use Rattle.rawk_parsing.specs.declared.tree.Place.{Place, roll-Place, map-Place, fold-roll-Place}
+use Rattle.rawk_parsing.specs.declared.tree.Place.{Place, out-Place, roll-Place, roll-out-Place, map-Place, fold-roll-Place}
 use Rattle.rawk_parsing.specs.declared.tree.Place.TheVariants as spot
-use Rattle.rawk_tree.specs.declared.tree.Place as spot_place
 use Rattle.rawk_parsing.specs.declared.tree.Place.TheVariants.{rolls-Name, rolls-Field, rolls-Element}
+use Rattle.rawk_tree.specs.declared.tree.Scalar.{Scalar}
 use Rattle.rawk_builtin_trees.specs.Calls.{has_builtin}
 use Rattle.rawk_words.specs.declared.array.Array.{Array}
 use Rattle.rawk_words.specs.declared.operator.Extent.{Extent}
 use Rattle.rawk_syntax.specs.Meant.{Sense, is_there}
 use Rattle.rawk_syntax.specs.Settled.{extent_of}
 use Rattle.rawk_grammar.specs.declared.tree.Item.{Item}
-use Rattle.rawk_syntax.specs.Covered.{Judges, Cover, names_array, all_covered, replaces, builtin_step, cover_of, changes, item_gap, gap_from, functions_behind, unless, or_then, first_of, each, expr_step, place_step, link_step, covers, covers_place, covers_link}
+use Rattle.rawk_syntax.specs.Covered.{Judges, Cover, names_array, names_scalar, counts, place_cover, all_covered, replaces, builtin_step, cover_of, changes, item_gap, gap_from, functions_behind, unless, or_then, first_of, each, expr_step, place_step, link_step, covers, covers_place, covers_link}
 
 -- ---- tests and refusals
 
@@ -124,11 +124,11 @@ first_alone : (a b : Bool) → b ≡ true → (a && b) ≡ a
 first_alone true b h = h
 first_alone false b h = refl
 
-cover_roll : (m : Sense) (d : Expr-F Expr Place Link) → cover_of m (roll-Expr d) ≡ expr_step m (map-Expr Expr Place Link Cover Bool Bool (cover_of m) (covers_place m) (covers_link m) d)
-unfolding cover_of covers_place covers_link
-cover_roll m d = fold-roll-Expr Cover Bool Bool (expr_step m) (place_step m) link_step d
+cover_roll : (m : Sense) (d : Expr-F Expr Place Link) → cover_of m (roll-Expr d) ≡ expr_step m (map-Expr Expr Place Link Cover Cover Bool (cover_of m) (place_cover m) (covers_link m) d)
+unfolding cover_of place_cover covers_link
+cover_roll m d = fold-roll-Expr Cover Cover Bool (expr_step m) (place_step m) link_step d
 
-covers_roll : (m : Sense) (d : Expr-F Expr Place Link) → covers m (roll-Expr d) ≡ (expr_step m (map-Expr Expr Place Link Cover Bool Bool (cover_of m) (covers_place m) (covers_link m) d)).covered
+covers_roll : (m : Sense) (d : Expr-F Expr Place Link) → covers m (roll-Expr d) ≡ (expr_step m (map-Expr Expr Place Link Cover Cover Bool (cover_of m) (place_cover m) (covers_link m) d)).covered
 covers_roll m d = ap (λ (c : Cover). c.covered) (cover_roll m d)
 
 each_mapped : {A B : Type 0} (g : B → Bool) (f : A → B) (xs : List A) → each g (map f xs) ≡ each (λ x. g (f x)) xs
@@ -266,39 +266,78 @@ pub replace_uncovered : (m : Sense) (f : Function) (extent : Extent) (xs : List 
 replace_uncovered m f extent xs is first second = replace_covers m f extent xs is ∙ not_so_many m xs first second
 
 -- any other function is one of its values
-applied : (f : Function) (es : List Cover) → (f ≡ fun.Match → ⊥) → (f ≡ fun.Sub → ⊥) → (f ≡ fun.Gsub → ⊥) → builtin_step f es ≡ (has_builtin f (length es) && all_covered es)
-applied fun.Match es match_not sub_not gsub_not = absurd (match_not refl)
-applied fun.Sub es match_not sub_not gsub_not = absurd (sub_not refl)
-applied fun.Gsub es match_not sub_not gsub_not = absurd (gsub_not refl)
-applied _ es match_not sub_not gsub_not = refl
+applied : (f : Function) (es : List Cover) → (f ≡ fun.Length → ⊥) → (f ≡ fun.Match → ⊥) → (f ≡ fun.Sub → ⊥) → (f ≡ fun.Gsub → ⊥) → builtin_step f es ≡ (has_builtin f (length es) && all_covered es)
+applied fun.Length es length_not match_not sub_not gsub_not = absurd (length_not refl)
+applied fun.Match es length_not match_not sub_not gsub_not = absurd (match_not refl)
+applied fun.Sub es length_not match_not sub_not gsub_not = absurd (sub_not refl)
+applied fun.Gsub es length_not match_not sub_not gsub_not = absurd (gsub_not refl)
+applied _ es length_not match_not sub_not gsub_not = refl
 
-pub applied_covers : (m : Sense) (f : Function) (xs : List Expr) → (f ≡ fun.Match → ⊥) → (f ≡ fun.Sub → ⊥) → (f ≡ fun.Gsub → ⊥) → covers m (tree.Builtin f xs) ≡ (has_builtin f (length xs) && each (covers m) xs)
-applied_covers m f xs match_not sub_not gsub_not =
-    builtin_covers m f xs ∙ applied f (map (cover_of m) xs) match_not sub_not gsub_not
-    ∙ ap (λ n. has_builtin f n && all_covered (map (cover_of m) xs)) (length-map xs (cover_of m)) ∙ ap (λ b. has_builtin f (length xs) && b) (each_mapped (λ (c : Cover). c.covered) (cover_of m) xs)
+values_covered : (m : Sense) (f : Function) (xs : List Expr) → (has_builtin f (length (map (cover_of m) xs)) && all_covered (map (cover_of m) xs)) ≡ (has_builtin f (length xs) && each (covers m) xs)
+values_covered m f xs =
+    ap (λ n. has_builtin f n && all_covered (map (cover_of m) xs)) (length-map xs (cover_of m)) ∙ ap (λ b. has_builtin f (length xs) && b) (each_mapped (λ (c : Cover). c.covered) (cover_of m) xs)
+
+pub applied_covers : (m : Sense) (f : Function) (xs : List Expr) → (f ≡ fun.Length → ⊥) → (f ≡ fun.Match → ⊥) → (f ≡ fun.Sub → ⊥) → (f ≡ fun.Gsub → ⊥) → covers m (tree.Builtin f xs) ≡ (has_builtin f (length xs) && each (covers m) xs)
+applied_covers m f xs length_not match_not sub_not gsub_not = builtin_covers m f xs ∙ applied f (map (cover_of m) xs) length_not match_not sub_not gsub_not ∙ values_covered m f xs
 
 -- of covered arguments
 pub applied_judged : {A : Type 0} (r : Result A ParseError) (m : Sense) (f : Function) (xs : List Expr) (n left : ℕ)
-    → (f ≡ fun.Match → ⊥) → (f ≡ fun.Sub → ⊥) → (f ≡ fun.Gsub → ⊥) → each (covers m) xs ≡ true → n ≡ length xs → Judges (unless (has_builtin f n) left) r → Judges (unless (covers m (tree.Builtin f xs)) left) r
-applied_judged r m f xs n left match_not sub_not gsub_not so count h =
-    let same : has_builtin f n ≡ covers m (tree.Builtin f xs) = ap (has_builtin f) count ∙ sym (first_alone (has_builtin f (length xs)) (each (covers m) xs) so) ∙ sym (applied_covers m f xs match_not sub_not gsub_not) in
+    → each (covers m) xs ≡ true → n ≡ length xs → Judges (unless (has_builtin f n) left) r → Judges (unless (has_builtin f (length xs) && each (covers m) xs) left) r
+applied_judged r m f xs n left so count h =
+    let same : has_builtin f n ≡ (has_builtin f (length xs) && each (covers m) xs) = ap (has_builtin f) count ∙ sym (first_alone (has_builtin f (length xs)) (each (covers m) xs) so) in
     subst (λ (b : Bool). Judges (unless b left) r) same h
 
-cover_out : (m : Sense) (e : Expr) → cover_of m e ≡ expr_step m (map-Expr Expr Place Link Cover Bool Bool (cover_of m) (covers_place m) (covers_link m) (out-Expr e))
-unfolding cover_of covers_place covers_link
-cover_out m e = fold_out-Expr Cover Bool Bool (expr_step m) (place_step m) link_step e
+-- `length` of the name of an array alone, and of anything else
+length_covers : (m : Sense) (xs : List Expr) → covers m (tree.Builtin fun.Length xs) ≡ (counts (map (cover_of m) xs) || (has_builtin fun.Length (length xs) && each (covers m) xs))
+length_covers m xs = builtin_covers m fun.Length xs ∙ ap (λ b. counts (map (cover_of m) xs) || b) (values_covered m fun.Length xs)
 
-covers_out : (m : Sense) (e : Expr) → covers m e ≡ (expr_step m (map-Expr Expr Place Link Cover Bool Bool (cover_of m) (covers_place m) (covers_link m) (out-Expr e))).covered
+pub counted_covers : (m : Sense) (xs : List Expr) → true ≡ counts (map (cover_of m) xs) → covers m (tree.Builtin fun.Length xs) ≡ true
+counted_covers m xs h = length_covers m xs ∙ ap (λ b. b || (has_builtin fun.Length (length xs) && each (covers m) xs)) (sym h)
+
+pub uncounted_covers : (m : Sense) (xs : List Expr) → false ≡ counts (map (cover_of m) xs) → covers m (tree.Builtin fun.Length xs) ≡ (has_builtin fun.Length (length xs) && each (covers m) xs)
+uncounted_covers m xs h = length_covers m xs ∙ ap (λ b. b || (has_builtin fun.Length (length xs) && each (covers m) xs)) (sym h)
+
+cover_out : (m : Sense) (e : Expr) → cover_of m e ≡ expr_step m (map-Expr Expr Place Link Cover Cover Bool (cover_of m) (place_cover m) (covers_link m) (out-Expr e))
+unfolding cover_of place_cover covers_link
+cover_out m e = fold_out-Expr Cover Cover Bool (expr_step m) (place_step m) link_step e
+
+covers_out : (m : Sense) (e : Expr) → covers m e ≡ (expr_step m (map-Expr Expr Place Link Cover Cover Bool (cover_of m) (place_cover m) (covers_link m) (out-Expr e))).covered
 covers_out m e = ap (λ (c : Cover). c.covered) (cover_out m e)
 
+place_cover_roll : (m : Sense) (d : Place-F Expr Place Link) → place_cover m (roll-Place d) ≡ place_step m (map-Place Expr Place Link Cover Cover Bool (cover_of m) (place_cover m) (covers_link m) d)
+unfolding cover_of place_cover covers_link
+place_cover_roll m d = fold-roll-Place Cover Cover Bool (expr_step m) (place_step m) link_step d
+
+name_cover : (m : Sense) (n : word.Name) → place_cover m (spot.Name n) ≡ place_step m (expr.Name n)
+name_cover m n = ap (place_cover m) (sym (rolls-Name n)) ∙ place_cover_roll m (expr.Name n)
+
+field_cover : (m : Sense) (x : Expr) → place_cover m (spot.Field x) ≡ place_step m (expr.Field (cover_of m x))
+field_cover m x = ap (place_cover m) (sym (rolls-Field x)) ∙ place_cover_roll m (expr.Field x)
+
+element_cover : (m : Sense) (n : word.Name) (xs : List Expr) → place_cover m (spot.Element n xs) ≡ place_step m (expr.Element n (map (cover_of m) xs))
+element_cover m n xs = ap (place_cover m) (sym (rolls-Element n xs)) ∙ place_cover_roll m (expr.Element n xs)
+
 -- what is a place
+all_placed : (m : Sense) (d : Place-F Cover Cover Bool) → (place_step m d).place ≡ true
+all_placed m (expr.Name n) = refl
+all_placed m (expr.Field c) = refl
+all_placed m (expr.Element n cs) = refl
+
+always_place : (m : Sense) (p : Place) → (place_cover m p).place ≡ true
+always_place m p =
+    ap (λ q. (place_cover m q).place) (sym (roll-out-Place p)) ∙ ap (λ (c : Cover). c.place) (place_cover_roll m (out-Place p))
+    ∙ all_placed m (map-Place Expr Place Link Cover Cover Bool (cover_of m) (place_cover m) (covers_link m) (out-Place p))
+
+of_cover : (m : Sense) (e : Expr) (p : Place) → e ≡ tree.Of p → cover_of m e ≡ place_cover m p
+of_cover m e p is = ap (cover_of m) (is ∙ sym (rolls-Of p)) ∙ cover_roll m (expr.Of p)
+
 is_place : (m : Sense) (e : Expr) (p : Place) → e ≡ tree.Of p → (cover_of m e).place ≡ true
-is_place m e p is = ap (λ x. (cover_of m x).place) (is ∙ sym (rolls-Of p)) ∙ ap (λ (c : Cover). c.place) (cover_roll m (expr.Of p))
+is_place m e p is = ap (λ (c : Cover). c.place) (of_cover m e p is) ∙ always_place m p
 
 no_place : (m : Sense) (e : Expr) → ((p : Place) → e ≡ tree.Of p → ⊥) → (cover_of m e).place ≡ false
 no_place m e not = ap (λ (c : Cover). c.place) (cover_out m e) ∙ go (out-Expr e) (sym (roll-out-Expr e))
   where
-    go : (d : Expr-F Expr Place Link) → e ≡ roll-Expr d → (expr_step m (map-Expr Expr Place Link Cover Bool Bool (cover_of m) (covers_place m) (covers_link m) d)).place ≡ false
+    go : (d : Expr-F Expr Place Link) → e ≡ roll-Expr d → (expr_step m (map-Expr Expr Place Link Cover Cover Bool (cover_of m) (place_cover m) (covers_link m) d)).place ≡ false
     go (expr.Of p) q = absurd (not p (q ∙ rolls-Of p))
     go _ q = refl
 
@@ -308,13 +347,35 @@ of_changes m e p is = first_alone (covers m e) (cover_of m e).place (is_place m 
 pub no_change : (m : Sense) (e : Expr) → ((p : Place) → e ≡ tree.Of p → ⊥) → changes m e ≡ false
 no_change m e not = second_false (covers m e) (cover_of m e).place (no_place m e not)
 
+-- what is the name of an array alone
+pub name_array : (m : Sense) (p : Place) (n : word.Name) (w : List ℕ) (o : Option Array) → p ≡ spot.Name n → w ≡ n.word → o ≡ m.array w → is_there o ≡ (place_cover m p).array
+name_array m p n w o is same found = sym (ap (λ q. (place_cover m q).array) is ∙ ap (λ (c : Cover). c.array) (name_cover m n) ∙ names_covers m n w o same found)
+
+pub no_name : (m : Sense) (p : Place) → ((n : word.Name) → p ≡ spot.Name n → ⊥) → false ≡ (place_cover m p).array
+no_name m p not = go (out-Place p) (sym (roll-out-Place p))
+  where
+    go : (d : Place-F Expr Place Link) → p ≡ roll-Place d → false ≡ (place_cover m p).array
+    go (expr.Name n) q = absurd (not n (q ∙ rolls-Name n))
+    go (expr.Field x) q = sym (ap (λ v. (place_cover m v).array) q ∙ ap (λ (c : Cover). c.array) (place_cover_roll m (expr.Field x)))
+    go (expr.Element n xs) q = sym (ap (λ v. (place_cover m v).array) q ∙ ap (λ (c : Cover). c.array) (place_cover_roll m (expr.Element n xs)))
+
+pub of_array : (m : Sense) (e : Expr) (p : Place) → e ≡ tree.Of p → (place_cover m p).array ≡ (cover_of m e).array
+of_array m e p is = sym (ap (λ (c : Cover). c.array) (of_cover m e p is))
+
+pub no_array : (m : Sense) (e : Expr) → ((p : Place) → e ≡ tree.Of p → ⊥) → false ≡ (cover_of m e).array
+no_array m e not = sym (ap (λ (c : Cover). c.array) (cover_out m e) ∙ go (out-Expr e) (sym (roll-out-Expr e)))
+  where
+    go : (d : Expr-F Expr Place Link) → e ≡ roll-Expr d → (expr_step m (map-Expr Expr Place Link Cover Cover Bool (cover_of m) (place_cover m) (covers_link m) d)).array ≡ false
+    go (expr.Of p) q = absurd (not p (q ∙ rolls-Of p))
+    go _ q = refl
+
 -- no other expression is covered
 pub other_covers : (m : Sense) (e : Expr) → ((n : ℤ) → e ≡ tree.Number n → ⊥) → ((w : List ℕ) → e ≡ tree.Text w → ⊥) → ((left : ℕ) (w : List ℕ) → e ≡ tree.Ere left w → ⊥) → (e ≡ tree.Getline → ⊥) → ((p : Place) → e ≡ tree.Of p → ⊥) → ((x : Expr) → e ≡ tree.Group x → ⊥)
     → ((s : Sign) (x : Expr) → e ≡ tree.Signed s x → ⊥) → ((x y : Expr) → e ≡ tree.Power x y → ⊥) → ((x : Expr) (xs : List Link) → e ≡ tree.Chain x xs → ⊥) → ((l : Logic) (xs : List Expr) → e ≡ tree.Logic l xs → ⊥) → ((x y z : Expr) → e ≡ tree.Choice x y z → ⊥) → ((c : Change) (p : Place) → e ≡ tree.Before c p → ⊥) → ((c : Change) (p : Place) → e ≡ tree.After c p → ⊥)
     → ((x : Expr) (ns : List word.Name) → e ≡ tree.In x ns → ⊥) → ((xs : List Expr) (n : word.Name) → e ≡ tree.ListIn xs n → ⊥) → ((how : Assignment) (p : Place) (x : Expr) → e ≡ tree.Assign how p x → ⊥) → ((n : word.Name) (xs : List Expr) → e ≡ tree.Call n xs → ⊥) → ((f : Function) (xs : List Expr) → e ≡ tree.Builtin f xs → ⊥) → covers m e ≡ false
 other_covers m e number text ere getline place group signed power chain logic choice before after within list_within assign call builtin = covers_out m e ∙ go (out-Expr e) (sym (roll-out-Expr e))
   where
-    go : (d : Expr-F Expr Place Link) → e ≡ roll-Expr d → (expr_step m (map-Expr Expr Place Link Cover Bool Bool (cover_of m) (covers_place m) (covers_link m) d)).covered ≡ false
+    go : (d : Expr-F Expr Place Link) → e ≡ roll-Expr d → (expr_step m (map-Expr Expr Place Link Cover Cover Bool (cover_of m) (place_cover m) (covers_link m) d)).covered ≡ false
     go (expr.Number n) q = absurd (number n (q ∙ rolls-Number n))
     go (expr.Text w) q = absurd (text w (q ∙ rolls-Text w))
     go (expr.Ere left w) q = absurd (ere left w (q ∙ rolls-Ere left w))
@@ -337,28 +398,27 @@ other_covers m e number text ere getline place group signed power chain logic ch
 
 -- ---- places
 
-place_roll : (m : Sense) (d : Place-F Expr Place Link) → covers_place m (roll-Place d) ≡ place_step m (map-Place Expr Place Link Cover Bool Bool (cover_of m) (covers_place m) (covers_link m) d)
-unfolding cover_of covers_place covers_link
-place_roll m d = fold-roll-Place Cover Bool Bool (expr_step m) (place_step m) link_step d
+-- the scalar of a name, or none
+scalar_covers : (m : Sense) (n : word.Name) (w : List ℕ) (o : Option Scalar) → w ≡ n.word → o ≡ m.scalar w → names_scalar m n ≡ is_there o
+scalar_covers m n w o same found = ap (λ v. is_there (m.scalar v)) (sym same) ∙ ap is_there (sym found)
 
--- what a name stands for, or that it stands for nothing
-pub name_covers : (m : Sense) (p : Place) (n : word.Name) (w : List ℕ) (o : Option spot_place.Place) → p ≡ spot.Name n → w ≡ n.word → o ≡ m.place w → covers_place m p ≡ is_there o
-name_covers m p n w o is same found = ap (covers_place m) (is ∙ sym (rolls-Name n)) ∙ place_roll m (expr.Name n) ∙ ap (λ v. is_there (m.place v)) (sym same) ∙ ap is_there (sym found)
+pub name_covers : (m : Sense) (p : Place) (n : word.Name) (w : List ℕ) (o : Option Scalar) → p ≡ spot.Name n → w ≡ n.word → o ≡ m.scalar w → covers_place m p ≡ is_there o
+name_covers m p n w o is same found = ap (covers_place m) is ∙ ap (λ (c : Cover). c.covered) (name_cover m n) ∙ scalar_covers m n w o same found
 
 pub field_covers : (m : Sense) (p : Place) (x y : Expr) → p ≡ spot.Field x → y ≡ x → covers_place m p ≡ covers m y
-field_covers m p x y is same = ap (covers_place m) (is ∙ sym (rolls-Field x)) ∙ place_roll m (expr.Field x) ∙ ap (covers m) (sym same)
+field_covers m p x y is same = ap (covers_place m) is ∙ ap (λ (c : Cover). c.covered) (field_cover m x) ∙ ap (covers m) (sym same)
 
 -- an element of the array of a name, or of none
 pub element_covers : (m : Sense) (n : word.Name) (w : List ℕ) (o : Option Array) (xs : List Expr) → w ≡ n.word → o ≡ m.array w → covers_place m (spot.Element n xs) ≡ (is_there o && each (covers m) xs)
 element_covers m n w o xs same found =
-    ap (covers_place m) (sym (rolls-Element n xs)) ∙ place_roll m (expr.Element n xs) ∙ ap (λ b. names_array m n && b) (each_mapped (λ (c : Cover). c.covered) (cover_of m) xs)
+    ap (λ (c : Cover). c.covered) (element_cover m n xs) ∙ ap (λ b. names_array m n && b) (each_mapped (λ (c : Cover). c.covered) (cover_of m) xs)
     ∙ ap (λ b. b && each (covers m) xs) (names_covers m n w o same found)
 
 -- ---- links
 
 pub link_covers : (m : Sense) (l : Link) → covers_link m l ≡ covers m l.operand
-unfolding cover_of covers_place covers_link
-link_covers m l = fold_out-Link Cover Bool Bool (expr_step m) (place_step m) link_step l
+unfolding cover_of place_cover covers_link
+link_covers m l = fold_out-Link Cover Cover Bool (expr_step m) (place_step m) link_step l
 
 pub none_uncovered : (m : Sense) (es : List Expr) (left : ℕ) → length es ≡ 0 → unless (each (covers m) es) left ≡ None
 none_uncovered m [] left h = refl

@@ -14,7 +14,7 @@ use Rattle.rawk_grammar.specs.declared.tree.Stmt.TheOpen as open_stmt
 use Rattle.rawk_grammar.specs.declared.tree.Stmt.TheOpen.{Stmt-F, Head-F}
 use Rattle.rawk_grammar.specs.declared.tree.Branch.{Branch, fold_out-Branch}
 use Rattle.rawk_grammar.specs.declared.tree.Head.{Head, out-Head, map-Head, fold_out-Head}
-use Rattle.rawk_syntax.specs.Covered.{Judges, first_of, or_then, left_out, simple_gap, jump_gap, condition_gap, test_gap, stmt_step, branch_step, head_step, gap, branch_gap, head_gap, other_gap, head_parts_gap}
+use Rattle.rawk_syntax.specs.Covered.{Judges, first_of, or_then, simple_gap, jump_gap, condition_gap, test_gap, keys_gap, stmt_step, branch_step, head_step, gap, branch_gap, head_gap, other_gap, head_parts_gap}
 use Rattle.rawk_syntax.specs.Meant.{Sense}
 
 abbrev Refused : Type 0
@@ -70,8 +70,8 @@ for_gap m s h i x y is same body =
     ∙ ap (λ (c : Head). or_then (or_then (other_gap m c.first) (or_then (test_gap m c.left c.test) (other_gap m c.last))) (gap m x)) (sym same)
     ∙ ap (λ z. or_then (or_then (other_gap m i.first) (or_then (test_gap m i.left i.test) (other_gap m i.last))) (gap m z)) (sym body)
 
-pub for_in_gap : (m : Sense) (s : Stmt) (left : ℕ) (n k : Name) (x : Stmt) → s ≡ tree.ForIn left n k x → gap m s ≡ left_out left
-for_in_gap m s left n k x is = ap (gap m) (is ∙ sym (rolls-ForIn left n k x)) ∙ gap_roll m (open_stmt.ForIn left n k x)
+pub for_in_gap : (m : Sense) (s : Stmt) (left : ℕ) (n k : Name) (x y : Stmt) → s ≡ tree.ForIn left n k x → y ≡ x → gap m s ≡ or_then (keys_gap m left n k) (gap m y)
+for_in_gap m s left n k x y is body = ap (gap m) (is ∙ sym (rolls-ForIn left n k x)) ∙ gap_roll m (open_stmt.ForIn left n k x) ∙ ap (λ z. or_then (keys_gap m left n k) (gap m z)) (sym body)
 
 pub branch_is : (m : Sense) (b : Branch) → branch_gap m b ≡ or_then (condition_gap m b.condition) (gap m b.body)
 unfolding gap branch_gap head_gap

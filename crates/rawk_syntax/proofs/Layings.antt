@@ -6,6 +6,7 @@ use Rattle.std.specs.Global.{Box, Vec}
 use Rattle.std.specs.Result.{result_err, result_map_both}
 use Rattle.rawk_parsing.specs.declared.parse_error.ParseError.{ParseError}
 use Rattle.rawk_parsing.specs.declared.tree.Expr as parsed
+use Rattle.rawk_parsing.specs.declared.tree.Place as spot
 use Rattle.rawk_grammar.specs.declared.tree.Act.TheVariants as act
 use Rattle.rawk_grammar.specs.declared.tree.Simple.{Simple}
 use Rattle.rawk_grammar.specs.declared.tree.Jump.{Jump}
@@ -26,6 +27,8 @@ use Rattle.rawk_tree.specs.declared.tree.Expr.{Expr}
 use Rattle.rawk_tree.specs.declared.tree.Stmt.{Stmt}
 use Rattle.rawk_tree.specs.declared.tree.Stmt.TheVariants as tree
 use Rattle.rawk_tree.specs.declared.tree.Branch.{Branch}
+use Rattle.rawk_tree.specs.declared.tree.Scalar.{Scalar}
+use Rattle.rawk_words.specs.declared.array.Array.{Array}
 use Rattle.rawk_tree.specs.declared.tree.Expr.TheVariants as expr
 use Rattle.rawk_syntax.specs.declared.statements.LoopHead.{LoopHead}
 use Rattle.rawk_tree.specs.declared.tree.Guard.{Guard}
@@ -37,7 +40,7 @@ use Rattle.rawk_syntax.specs.Covered.{Judges}
 use Rattle.rawk_syntax.specs.Meant.{Sense}
 use Rattle.rawk_syntax.specs.Settled.{Settles, AnExpr, SomeExprs, Prints}
 use Rattle.rawk_syntax.specs.Laid as spec
-use Rattle.rawk_syntax.specs.Laid.{Adds, sited, rule_of, ranges_of, words_of, Simply, Exits, Returns, Jumps, Tests, Lays, AStmt, SomeStmts, AnOther, SomeBranches, Heads, branch_with, head_with, for_with, Does, Guards, Rules, Defines, IsLaidWith}
+use Rattle.rawk_syntax.specs.Laid.{Adds, sited, rule_of, ranges_of, words_of, Deletes, Simply, Exits, Returns, Jumps, Tests, Lays, AStmt, SomeStmts, AnOther, SomeBranches, Heads, branch_with, head_with, for_with, Does, Guards, Rules, Defines, IsLaidWith}
 
 simple_is : (x : Simple) → x ≡ simple_at x.left x.act
 unfolding simple_at
@@ -84,6 +87,16 @@ pub printf_lays : (means : Sense) {E : Type 0} (r : Result (Expr × Vec Expr) E)
     → q ≡ result_map_both (λ p. tree.Printf n p.0 p.1) (λ z. z) r → x.act ≡ act.Printf es → ys ≡ es → n ≡ length old → new ≡ sited text x.left old → IfOk r (λ p. Settles means (SomeExprs ys (p.0 ∷ p.1.items))) → IfOk q (λ t. Simply text means x t old new)
 printf_lays means (Ok p) q text x es ys n old new made is same count lines h = rw made (printfs means text x es ys p.0 p.1 n old new is same count lines h)
 printf_lays means (Err f) q text x es ys n old new made is same count lines h = rw made tt
+
+pub delete_lays : (means : Sense) {E : Type 0} (r : Result Stmt E) (text : List ℕ) (x : Simple) (p : spot.Place) (n : ℕ) (old new : List ℕ)
+    → x.act ≡ act.Delete p → n ≡ length old → new ≡ sited text x.left old → IfOk r (λ t. Deletes means n p t) → IfOk r (λ t. Simply text means x t old new)
+delete_lays means (Ok t) text x p n old new is count lines h =
+    let g : Deletes means (length old) p t = subst (λ k. Deletes means k p t) count h in
+    let k : simple_at x.left (act.Delete p) ≡ x = sym (simple_is x ∙ ap (simple_at x.left) is) in
+    let whole : Simply text means (simple_at x.left (act.Delete p)) t old (sited text x.left old) = spec.delete x.left g in
+    let counted : Simply text means (simple_at x.left (act.Delete p)) t old new = rw lines whole in
+    subst (λ z. Simply text means z t old new) k counted
+delete_lays means (Err f) text x p n old new is count lines h = tt
 
 pub empty_lays : (means : Sense) {E : Type 0} (q : Result Stmt E) (text : List ℕ) (s : step.Stmt) (ts : Vec Stmt) (m : List ℕ) → q ≡ Ok (tree.Block ts) → s ≡ from.Empty → ts.items ≡ [] → IfOk q (λ t. Lays text means (AStmt s t) m m)
 empty_lays means q text s ts m made is none = rw (made, is) (spec.empty ts none)
@@ -209,6 +222,13 @@ pub while_made : (means : Sense) {E : Type 0} (r : Result (Box Stmt) E) (q : Res
     → q ≡ result_map_both (tree.While k e) (λ z. z) r → k ≡ length m → Settles means (AnExpr c.test e) → l ≡ sited text c.left m → u ≡ text → IfOk r (λ b. Lays u means (AStmt x b.value) l n) → IfOk q (λ t. Lays text means (AStmt (from.While c x) t) m n)
 while_made means (Ok b) q text u c x e k m l n is count h lines there f = rw is (while_lays means text u (from.While c x) c c x x e b.value b k m l n refl refl refl count h lines there refl f)
 while_made means (Err _) q text u c x e k m l n is count h lines there f = rw is tt
+
+pub for_in_made : (means : Sense) {E : Type 0} (r : Result (Box Stmt) E) (q : Result Stmt E) (text u : List ℕ) (left : ℕ) (x y : Name) (s : step.Stmt) (keys : Scalar × Array) (k : ℕ) (m l n : List ℕ)
+    → q ≡ result_map_both (tree.ForIn k keys.0 keys.1) (λ z. z) r → k ≡ length m → l ≡ sited text left m → u ≡ text → means.scalar x.word ≡ Some keys.0 → means.array y.word ≡ Some keys.1
+    → IfOk r (λ b. Lays u means (AStmt s b.value) l n) → IfOk q (λ t. Lays text means (AStmt (from.ForIn left x y s) t) m n)
+for_in_made means (Ok b) q text u left x y s keys k m l n made count lines there taker array f =
+    rw (made, count) (spec.visits left b taker array (moved means text u s s b.value b (sited text left m) l n there refl refl lines f))
+for_in_made means (Err _) q text u left x y s keys k m l n made count lines there taker array f = rw made tt
 
 pub for_made : (means : Sense) {E : Type 0} (r : Result (Box Stmt) E) (q : Result Stmt E) (text u : List ℕ) (h : Head) (x : step.Stmt) (g : LoopHead) (m p o : List ℕ)
     → q ≡ result_map_both (for_with g) (λ z. z) r → u ≡ text → Heads text means h g m p → IfOk r (λ b. Lays u means (AStmt x b.value) p o) → IfOk q (λ t. Lays text means (AStmt (from.For h x) t) m o)

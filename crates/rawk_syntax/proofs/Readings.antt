@@ -20,7 +20,7 @@ use Rattle.rawk_names.specs.Items as naming
 use Rattle.rawk_names.specs.Named.{Known, IsNamed, IsRefused, meaning_of, variable_of}
 use Rattle.rawk_names.proofs.Refusals.{refused_once, named_or_refused}
 use Rattle.rawk_tree.specs.declared.tree.Program.{Program}
-use Rattle.rawk_syntax.specs.Meant.{sense, place_at, array_at, function_of, variable_place, global_array}
+use Rattle.rawk_syntax.specs.Meant.{sense, scalar_at, array_at, function_of, variable_scalar, global_array}
 use Rattle.rawk_syntax.specs.Covered.{Judges, program_gap}
 use Rattle.rawk_syntax.specs.Laid.{IsLaid}
 use Rattle.rawk_syntax.specs.Texts.{IsSettled, IsReading, IsPlain, IsSettledAs, IsFlaw, IsFlawIn, IsFlawOf, AreFlawed, IsRefusal, Tells, told, told_of}
@@ -36,10 +36,10 @@ agree false false f g = refl
 marked_same : (noted : Noted) (a b : Known) → IsNamed noted a → IsNamed noted b → (v : ℕ) → is_marked a.arrays v ≡ is_marked b.arrays v
 marked_same noted a b h g v = agree (is_marked a.arrays v) (is_marked b.arrays v) (λ t. (g.arrays v).1 ((h.arrays v).0 t)) (λ t. (h.arrays v).1 ((g.arrays v).0 t))
 
-same_place : (n : Known) (x y : List Bool) → ((v : ℕ) → is_marked x v ≡ is_marked y v) → (scope : ℕ) (o : Option Meaning) → place_at (record n { arrays = x }) scope o ≡ place_at (record n { arrays = y }) scope o
-same_place n x y same scope None = refl
-same_place n x y same scope (Some (meaning.Function f)) = refl
-same_place n x y same scope (Some (meaning.Variable v)) = ap (λ b. if b then None else Some (variable_place n scope (variable_of n v))) (same v)
+same_scalar : (n : Known) (x y : List Bool) → ((v : ℕ) → is_marked x v ≡ is_marked y v) → (scope : ℕ) (o : Option Meaning) → scalar_at (record n { arrays = x }) scope o ≡ scalar_at (record n { arrays = y }) scope o
+same_scalar n x y same scope None = refl
+same_scalar n x y same scope (Some (meaning.Function f)) = refl
+same_scalar n x y same scope (Some (meaning.Variable v)) = ap (λ b. if b then None else Some (variable_scalar n scope (variable_of n v))) (same v)
 
 same_array : (n : Known) (x y : List Bool) → ((v : ℕ) → is_marked x v ≡ is_marked y v) → (o : Option Meaning) → array_at (record n { arrays = x }) o ≡ array_at (record n { arrays = y }) o
 same_array n x y same None = refl
@@ -49,8 +49,8 @@ same_array n x y same (Some (meaning.Variable v)) = ap (λ b. if b then global_a
 same_sense : (n : Known) (x y : List Bool) → ((v : ℕ) → is_marked x v ≡ is_marked y v) → sense (record n { arrays = x }) ≡ sense (record n { arrays = y })
 unfolding meaning_of
 same_sense n x y same = fun_ext (λ scope.
-    ap (λ places. record { place = places; array = λ word. array_at (record n { arrays = x }) (meaning_of n scope word); function = function_of n }) (fun_ext (λ word. same_place n x y same scope (meaning_of n scope word)))
-    ∙ ap (λ arrays. record { place = λ word. place_at (record n { arrays = y }) scope (meaning_of n scope word); array = arrays; function = function_of n }) (fun_ext (λ word. same_array n x y same (meaning_of n scope word))))
+    ap (λ scalars. record { scalar = scalars; array = λ word. array_at (record n { arrays = x }) (meaning_of n scope word); function = function_of n }) (fun_ext (λ word. same_scalar n x y same scope (meaning_of n scope word)))
+    ∙ ap (λ arrays. record { scalar = λ word. scalar_at (record n { arrays = y }) scope (meaning_of n scope word); array = arrays; function = function_of n }) (fun_ext (λ word. same_array n x y same (meaning_of n scope word))))
 
 -- names stand for what the program says
 senses : (noted : Noted) (a b : Known) → IsNamed noted a → IsNamed noted b → sense a ≡ sense b

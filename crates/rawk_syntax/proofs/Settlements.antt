@@ -28,12 +28,13 @@ use Rattle.rawk_tree.specs.declared.tree.Unary.TheVariants as unary
 use Rattle.rawk_tree.specs.declared.tree.Link.{Link}
 use Rattle.rawk_tree.specs.declared.tree.Link.TheVariants as tree_link
 use Rattle.rawk_tree.specs.declared.tree.Place.{Place}
+use Rattle.rawk_tree.specs.declared.tree.Scalar.{Scalar}
 use Rattle.rawk_tree.specs.declared.tree.Place.TheVariants as tree_place
 use Rattle.rawk_builtin_trees.specs.Calls.{Applies}
 use Rattle.rawk_syntax.specs.Covered.{Judges, unless}
 use Rattle.rawk_syntax.specs.Settled as spec
 use Rattle.rawk_syntax.specs.Meant.{Sense}
-use Rattle.rawk_syntax.specs.Settled.{AnExpr, APlace, ASought, IsIn, IsMatchOf, IsMember, IsRecord, SomeLinks, SomeTests, SomeExprs, Settles, joiner_of, operator_of, right_of, extent_of}
+use Rattle.rawk_syntax.specs.Settled.{AnExpr, APlace, ASought, IsIn, IsMatchOf, IsMember, IsRecord, SomeLinks, SomeTests, SomeExprs, Settles, joiner_of, operator_of, right_of, extent_of, scalar_place}
 
 pub number_settles : (m : Sense) {E : Type 0} (r : Result Expr E) (e : parsed.Expr) (n : ℤ) → e ≡ from.Number n → r ≡ Ok (tree.Number n) → IfOk r (λ s. Settles m (AnExpr e s))
 number_settles m r e n is made = rw (made, is) spec.number
@@ -88,8 +89,8 @@ test_settles m l xs i x y ys zs (Ok s) h held same none more g f' =
     rw (t, more) (spec.a_test g f)
 test_settles m l xs i x y ys zs (Err e) h held same none more g f' = cc
 
-pub name_settles : (m : Sense) (p : spot.Place) (n : word.Name) (v : List ℕ) (s : Place) → p ≡ from_place.Name n → v ≡ n.word → Some s ≡ m.place v → Settles m (APlace p s)
-name_settles m p n v s is same h = rw is (spec.name (ap m.place (sym same) ∙ sym h))
+pub name_settles : (m : Sense) (p : spot.Place) (n : word.Name) (v : List ℕ) (s : Scalar) (q : Place) → p ≡ from_place.Name n → v ≡ n.word → Some s ≡ m.scalar v → q ≡ scalar_place s → Settles m (APlace p q)
+name_settles m p n v s q is same h made = rw (is, made) (spec.name (ap m.scalar (sym same) ∙ sym h))
 
 pub field_settles : (m : Sense) (p : spot.Place) (x y : parsed.Expr) (number : Box Expr)
     → p ≡ from_place.Field x → y ≡ x → Settles m (AnExpr y number.value) → Settles m (APlace p (tree_place.Field number))
@@ -184,6 +185,10 @@ pub builtin_settles : (m : Sense) {E : Type 0} (r : Result Expr E) (f : Function
     → Settles m (SomeExprs xs ss) → IfOk r (λ s. Applies f ss s) → IfOk r (λ s. Settles m (AnExpr (from.Builtin f xs) s))
 builtin_settles m (Ok s) f xs ss h applies = spec.builtin h applies
 builtin_settles m (Err d) f xs ss h applies = tt
+
+-- `length` of an array
+pub counted_settles : (m : Sense) (xs : List parsed.Expr) (a : Array) → (n : word.Name) × (xs ≡ from.Of (from_place.Name n) ∷ []) × (m.array n.word ≡ Some a) → Settles m (AnExpr (from.Builtin fun.Length xs) (tree.Count a))
+counted_settles m xs a h = rw (h.1) (spec.counted h.0 h.2)
 
 -- a text and what is sought in it
 pub found_settles : (m : Sense) (xs : List parsed.Expr) (x y : parsed.Expr) (s t : Box Expr) (r : Result Expr ParseError)

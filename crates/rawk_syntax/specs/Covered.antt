@@ -1,5 +1,5 @@
 -- What of the parser's tree the settled tree has, and where the rest is refused.
-use Rattle.std.specs.Prelude.{◌≡◌, ◌≢◌, ℕ, suc, Bool, true, false, ◌&&◌, List, [], ◌∷◌, length, Option, Some, None, Result, Ok, Err}
+use Rattle.std.specs.Prelude.{◌≡◌, ◌≢◌, ℕ, suc, Bool, true, false, ◌&&◌, ◌||◌, List, [], ◌∷◌, length, Option, Some, None, Result, Ok, Err}
 use Rattle.rawk_parsing.specs.declared.refusal.RefusalKind.TheVariants.{LeftOut}
 use Rattle.rawk_parsing.specs.declared.parse_error.ParseError.{ParseError}
 use Rattle.rawk_parsing.specs.declared.parse_error.ParseError.TheVariants.{OutOfMemory, Here}
@@ -10,7 +10,7 @@ use Rattle.rawk_parsing.specs.declared.tree.Function.{Function}
 use Rattle.rawk_parsing.specs.declared.tree.Function.TheVariants as fun
 use Rattle.rawk_parsing.specs.declared.tree.Link.{Link, fold-Link}
 use Rattle.rawk_parsing.specs.declared.tree.Name.{Name}
-use Rattle.rawk_parsing.specs.declared.tree.Place.{Place, fold-Place}
+use Rattle.rawk_parsing.specs.declared.tree.Place.{Place, out-Place, fold-Place}
 use Rattle.rawk_grammar.specs.declared.tree.Act.{Act}
 use Rattle.rawk_grammar.specs.declared.tree.Act.TheVariants as act
 use Rattle.rawk_grammar.specs.declared.tree.Simple.{Simple}
@@ -62,13 +62,17 @@ each holds (x ∷ xs) = holds x && each holds xs
 
 -- ---- expressions, from what their parts are
 
--- whether the settled tree has an expression, and whether it is a place
+-- whether the settled tree has an expression or a place, whether it is a place, and whether it is the name of an array alone
 pub record Cover : Type 0 where
   pub covered : Bool
   pub place : Bool
+  pub array : Bool
 
 abbrev pub plain : Bool → Cover
-plain b = record { covered = b; place = false }
+plain b = record { covered = b; place = false; array = false }
+
+abbrev pub placed : Bool → Cover
+placed b = record { covered = b; place = true; array = false }
 
 abbrev pub all_covered : List Cover → Bool
 all_covered es = each (λ e. e.covered) es
@@ -88,50 +92,60 @@ replaces (e ∷ f ∷ []) = e.covered && f.covered
 replaces (e ∷ f ∷ p ∷ []) = (e.covered && f.covered) && can_change p
 replaces _ = false
 
--- whether the settled tree has a call of a built-in function
+-- the name of an array alone
+abbrev pub counts : List Cover → Bool
+counts (e ∷ []) = e.array
+counts _ = false
+
+-- whether the settled tree has a call of a built-in function; `length` is that of an array too (POSIX awk, "String Functions")
 abbrev pub builtin_step : Function → List Cover → Bool
 builtin_step fun.Match es = finds es
 builtin_step fun.Sub es = replaces es
 builtin_step fun.Gsub es = replaces es
+builtin_step fun.Length es = counts es || (has_builtin fun.Length (length es) && all_covered es)
 builtin_step f es = has_builtin f (length es) && all_covered es
 
 -- whether a name is that of an array that the settled tree has
 abbrev pub names_array : Sense → Name → Bool
 names_array means n = is_there (means.array n.word)
 
+-- whether it is that of a scalar
+abbrev pub names_scalar : Sense → Name → Bool
+names_scalar means n = is_there (means.scalar n.word)
+
 -- by what names stand for; a call is one of a function of the program
-abbrev pub expr_step : Sense → Expr-F Cover Bool Bool → Cover
+abbrev pub expr_step : Sense → Expr-F Cover Cover Bool → Cover
 expr_step means (expr.Number n) = plain true
 expr_step means (expr.Text w) = plain true
 expr_step means (expr.Ere left w) = plain true
 expr_step means expr.Getline = plain true
-expr_step means (expr.Of p) = record { covered = p; place = true }
+expr_step means (expr.Of p) = p
 expr_step means (expr.Group e) = plain e.covered
 expr_step means (expr.Signed s e) = plain e.covered
 expr_step means (expr.Power e f) = plain (e.covered && f.covered)
 expr_step means (expr.Chain e ls) = plain (e.covered && each (λ b. b) ls)
 expr_step means (expr.Logic l es) = plain (all_covered es)
 expr_step means (expr.Choice e f g) = plain (e.covered && (f.covered && g.covered))
-expr_step means (expr.Before c p) = plain p
-expr_step means (expr.After c p) = plain p
-expr_step means (expr.Assign how p e) = plain (p && e.covered)
+expr_step means (expr.Before c p) = plain p.covered
+expr_step means (expr.After c p) = plain p.covered
+expr_step means (expr.Assign how p e) = plain (p.covered && e.covered)
 expr_step means (expr.In e ns) = plain (e.covered && each (names_array means) ns)
 expr_step means (expr.ListIn es n) = plain (names_array means n && all_covered es)
 expr_step means (expr.Call n es) = plain (is_there (means.function n.word) && all_covered es)
 expr_step means (expr.Builtin f es) = plain (builtin_step f es)
 expr_step means _ = plain false
 
-abbrev pub place_step : Sense → Place-F Cover Bool Bool → Bool
-place_step means (expr.Name n) = is_there (means.place n.word)
-place_step means (expr.Field e) = e.covered
-place_step means (expr.Element n es) = names_array means n && all_covered es
+abbrev pub place_step : Sense → Place-F Cover Cover Bool → Cover
+place_step means (expr.Name n) = record { covered = names_scalar means n; place = true; array = names_array means n }
+place_step means (expr.Field e) = placed e.covered
+place_step means (expr.Element n es) = placed (names_array means n && all_covered es)
 
-abbrev pub link_step : Link-F Cover Bool Bool → Bool
+abbrev pub link_step : Link-F Cover Cover Bool → Bool
 link_step l = l.operand.covered
 
 -- what the settled tree has of the expression
 unfoldable pub cover_of : Sense → Expr → Cover
-cover_of means e = fold-Expr Cover Bool Bool (expr_step means) (place_step means) link_step e
+cover_of means e = fold-Expr Cover Cover Bool (expr_step means) (place_step means) link_step e
 
 abbrev pub covers : Sense → Expr → Bool
 covers means e = (cover_of means e).covered
@@ -140,11 +154,14 @@ covers means e = (cover_of means e).covered
 abbrev pub changes : Sense → Expr → Bool
 changes means e = can_change (cover_of means e)
 
-unfoldable pub covers_place : Sense → Place → Bool
-covers_place means p = fold-Place Cover Bool Bool (expr_step means) (place_step means) link_step p
+unfoldable pub place_cover : Sense → Place → Cover
+place_cover means p = fold-Place Cover Cover Bool (expr_step means) (place_step means) link_step p
+
+abbrev pub covers_place : Sense → Place → Bool
+covers_place means p = (place_cover means p).covered
 
 unfoldable pub covers_link : Sense → Link → Bool
-covers_link means l = fold-Link Cover Bool Bool (expr_step means) (place_step means) link_step l
+covers_link means l = fold-Link Cover Cover Bool (expr_step means) (place_step means) link_step l
 
 -- ---- statements, from what their parts are
 
@@ -153,11 +170,20 @@ abbrev pub formatted_gap : Sense → ℕ → List Expr → Option ParseError
 formatted_gap means left [] = left_out left
 formatted_gap means left (e ∷ es) = unless (each (covers means) (e ∷ es)) left
 
+-- what can be deleted: an element, or the whole array of a name (POSIX awk, "Actions")
+abbrev pub deletable : Sense → Place-F Expr Place Link → Bool
+deletable means (expr.Name n) = names_array means n
+deletable means (expr.Element n es) = names_array means n && each (covers means) es
+deletable means (expr.Field e) = false
+
+abbrev pub deletes : Sense → Place → Bool
+deletes means p = deletable means (out-Place p)
+
 abbrev pub act_gap : Sense → ℕ → Act → Option ParseError
 act_gap means left (act.Evaluate e) = unless (covers means e) left
 act_gap means left (act.Print es) = unless (each (covers means) es) left
 act_gap means left (act.Printf es) = formatted_gap means left es
-act_gap means left _ = left_out left
+act_gap means left (act.Delete p) = unless (deletes means p) left
 
 abbrev pub simple_gap : Sense → Simple → Option ParseError
 simple_gap means s = act_gap means s.left s.act
@@ -175,6 +201,10 @@ abbrev pub test_gap : Sense → ℕ → Option Expr → Option ParseError
 test_gap means left None = None
 test_gap means left (Some e) = unless (covers means e) left
 
+-- what takes the keys of an array is a scalar (POSIX awk, "Actions")
+abbrev pub keys_gap : Sense → ℕ → Name → Name → Option ParseError
+keys_gap means left x y = unless (names_scalar means x && names_array means y) left
+
 -- the refusal of a part that may be missing
 abbrev pub if_there : Option (Option ParseError) → Option ParseError
 if_there None = None
@@ -190,7 +220,7 @@ stmt_step means (stmt.If branches other) = or_then (first_of (λ g. g) branches)
 stmt_step means (stmt.While c body) = or_then (condition_gap means c) body
 stmt_step means (stmt.Do body c) = or_then body (condition_gap means c)
 stmt_step means (stmt.For head body) = or_then head body
-stmt_step means (stmt.ForIn left x y body) = left_out left
+stmt_step means (stmt.ForIn left x y body) = or_then (keys_gap means left x y) body
 
 abbrev pub branch_step : Sense → Branch-F (Option ParseError) (Option ParseError) (Option ParseError) → Option ParseError
 branch_step means b = or_then (condition_gap means b.condition) b.body

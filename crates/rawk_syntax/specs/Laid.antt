@@ -4,6 +4,8 @@ use Rattle.std.specs.Global.{Box, Vec}
 use Rattle.rawk_lexer.specs.Lines.{line_of}
 use Rattle.rawk_parsing.specs.declared.tree.Expr as parsed
 use Rattle.rawk_parsing.specs.declared.tree.Name.{Name}
+use Rattle.rawk_parsing.specs.declared.tree.Place as spot
+use Rattle.rawk_parsing.specs.declared.tree.Place.TheVariants as from_place
 use Rattle.rawk_grammar.specs.declared.tree.Act.TheVariants as act
 use Rattle.rawk_grammar.specs.declared.tree.Simple.{Simple}
 use Rattle.rawk_grammar.specs.declared.tree.Jump.{Jump}
@@ -25,6 +27,8 @@ use Rattle.rawk_tree.specs.declared.tree.Expr.TheVariants as expr
 use Rattle.rawk_tree.specs.declared.tree.Stmt.{Stmt}
 use Rattle.rawk_tree.specs.declared.tree.Stmt.TheVariants as tree
 use Rattle.rawk_tree.specs.declared.tree.Branch.{Branch}
+use Rattle.rawk_tree.specs.declared.tree.Scalar.{Scalar}
+use Rattle.rawk_words.specs.declared.array.Array.{Array}
 use Rattle.rawk_syntax.specs.declared.statements.LoopHead.{LoopHead}
 use Rattle.rawk_tree.specs.declared.tree.Guard.{Guard}
 use Rattle.rawk_tree.specs.declared.tree.Guard.TheVariants as tree_guard
@@ -43,6 +47,12 @@ Adds {A} P before after = (x : A) × P x × (after ≡ before ++ x ∷ [])
 abbrev pub sited : List ℕ → ℕ → List ℕ → List ℕ
 sited text left lines = lines ++ line_of text left ∷ []
 
+-- a `delete` with its site, of an element by its subscripts (POSIX awk, "Actions"), or of all elements, as in gawk and mawk
+pub data Deletes (means : Sense) : ℕ → spot.Place → Stmt → Type 0 where
+  one : {n : Name} {a : Array} {es : List parsed.Expr} (site : ℕ) (ss : Vec Expr)
+      → means.array n.word ≡ Some a → Settles means (SomeExprs es ss.items) → Deletes means site (from_place.Element n es) (tree.Delete site a ss)
+  all : {n : Name} {a : Array} (site : ℕ) → means.array n.word ≡ Some a → Deletes means site (from_place.Name n) (tree.Clear site a)
+
 -- A simple statement, whose site is the next one, with the lines of the sites before and after it. A text is what the places are in.
 pub data Simply (text : List ℕ) (means : Sense) : Simple → Stmt → List ℕ → List ℕ → Type 0 where
   evaluate : {s : Expr} {lines : List ℕ} (left : ℕ) (e : parsed.Expr)
@@ -52,6 +62,7 @@ pub data Simply (text : List ℕ) (means : Sense) : Simple → Stmt → List ℕ
   -- the first one is the format
   printf : {s : Expr} {lines : List ℕ} (left : ℕ) (es : List parsed.Expr) (ss : Vec Expr)
       → Settles means (SomeExprs es (s ∷ ss.items)) → Simply text means (simple_at left (act.Printf es)) (tree.Printf (length lines) s ss) lines (sited text left lines)
+  delete : {p : spot.Place} {t : Stmt} {lines : List ℕ} (left : ℕ) → Deletes means (length lines) p t → Simply text means (simple_at left (act.Delete p)) t lines (sited text left lines)
 
 -- an `exit` with its site, and a status where one is given
 pub data Exits (means : Sense) : ℕ → Option parsed.Expr → Stmt → Type 0 where
@@ -102,6 +113,9 @@ pub data Lays (text : List ℕ) (means : Sense) : Pair → List ℕ → List ℕ
   counts : {s : step.Stmt} {e : Expr} {m n o p : List ℕ} (h : Head) (first step t : Box Stmt)
       → Lays text means (AnOther h.first first.value) m n → Tests means h.test e → Lays text means (AnOther h.last step.value) (sited text h.left n) o → Lays text means (AStmt s t.value) o p
       → Lays text means (AStmt (from.For h s) (tree.For first (length n) e step t)) m p
+  -- a turn for each key, whose site is at `for`, and then the body (POSIX awk, "Actions")
+  visits : {x y : Name} {v : Scalar} {a : Array} {s : step.Stmt} {m n : List ℕ} (left : ℕ) (t : Box Stmt)
+      → means.scalar x.word ≡ Some v → means.array y.word ≡ Some a → Lays text means (AStmt s t.value) (sited text left m) n → Lays text means (AStmt (from.ForIn left x y s) (tree.ForIn (length m) v a t)) m n
   absent : {m : List ℕ} (ts : Vec Stmt) → ts.items ≡ [] → Lays text means (AnOther None (tree.Block ts)) m m
   present : {s : step.Stmt} {t : Stmt} {m n : List ℕ} → Lays text means (AStmt s t) m n → Lays text means (AnOther (Some s) t) m n
   no_branch : {m : List ℕ} → Lays text means (SomeBranches [] []) m m

@@ -10,16 +10,16 @@ use Rattle.rawk_names.specs.Named.{Known, known, meaning_of, variable_of, end_of
 use Rattle.rawk_names.specs.Marking.{is_marked}
 use Rattle.rawk_names.specs.Table.{place_of}
 use Rattle.rawk_syntax.specs.declared.scope.Scope.{Scope}
-use Rattle.rawk_tree.specs.declared.tree.Place.{Place}
-use Rattle.rawk_tree.specs.declared.tree.Place.TheVariants as place
 use Rattle.rawk_tree.specs.declared.tree.Kind.{Kind}
 use Rattle.rawk_tree.specs.declared.tree.Kind.TheVariants as kind
+use Rattle.rawk_tree.specs.declared.tree.Scalar.{Scalar}
+use Rattle.rawk_tree.specs.declared.tree.Scalar.TheVariants as scalar
 use Rattle.rawk_words.specs.declared.array.Array.{Array}
 use Rattle.rawk_words.specs.declared.array.Array.TheVariants as array
 
--- what each name stands for: a place or an array, where the settled tree has it, or the number of a function
+-- what each name stands for: a scalar or an array, where the settled tree has it, or the number of a function
 pub record Sense : Type 0 where
-  pub place : List ℕ → Option Place
+  pub scalar : List ℕ → Option Scalar
   pub array : List ℕ → Option Array
   pub function : List ℕ → Option ℕ
 
@@ -33,19 +33,19 @@ abbrev pub first_parameter : Known → ℕ → ℕ
 first_parameter names scope = first_of_all (slice_get names.signatures (scope - 1))
 
 -- a parameter is a local, and the first one is local 0
-abbrev pub variable_place : Known → ℕ → Variable → Place
-variable_place names scope variable.FieldCount = place.FieldCount
-variable_place names scope (variable.Global n) = place.Global n
-variable_place names scope (variable.Parameter v) = place.Local (v - first_parameter names scope)
+abbrev pub variable_scalar : Known → ℕ → Variable → Scalar
+variable_scalar names scope variable.FieldCount = scalar.FieldCount
+variable_scalar names scope (variable.Global n) = scalar.Global n
+variable_scalar names scope (variable.Parameter v) = scalar.Local (v - first_parameter names scope)
 
--- an array is no place: only its elements are (POSIX awk, "Variables and Special Variables")
-abbrev pub scalar_place : Known → ℕ → ℕ → Option Place
-scalar_place names scope v = if is_marked names.arrays v then None else Some (variable_place names scope (variable_of names v))
+-- an array is no scalar: only its elements are (POSIX awk, "Variables and Special Variables")
+abbrev pub unmarked_scalar : Known → ℕ → ℕ → Option Scalar
+unmarked_scalar names scope v = if is_marked names.arrays v then None else Some (variable_scalar names scope (variable_of names v))
 
-abbrev pub place_at : Known → ℕ → Option Meaning → Option Place
-place_at names scope None = None
-place_at names scope (Some (meaning.Function f)) = None
-place_at names scope (Some (meaning.Variable v)) = scalar_place names scope v
+abbrev pub scalar_at : Known → ℕ → Option Meaning → Option Scalar
+scalar_at names scope None = None
+scalar_at names scope (Some (meaning.Function f)) = None
+scalar_at names scope (Some (meaning.Variable v)) = unmarked_scalar names scope v
 
 -- a global array has the number of its name among the globals that are not special; a parameter that is an array is left out
 abbrev pub global_array : Known → ℕ → Option Array
@@ -66,7 +66,7 @@ function_of names word = place_of (array_key 0 word) names.functions
 -- by what is known of the names of a program, in each scope
 abbrev pub sense : Known → ℕ → Sense
 sense names scope = record {
-  place = λ word. place_at names scope (meaning_of names scope word);
+  scalar = λ word. scalar_at names scope (meaning_of names scope word);
   array = λ word. array_at names (meaning_of names scope word);
   function = function_of names;
 }

@@ -32,6 +32,8 @@ use Rattle.rawk_tree.specs.declared.tree.Link.{Link}
 use Rattle.rawk_tree.specs.declared.tree.Link.TheVariants as tree_link
 use Rattle.rawk_tree.specs.declared.tree.Place.{Place}
 use Rattle.rawk_tree.specs.declared.tree.Place.TheVariants as tree_place
+use Rattle.rawk_tree.specs.declared.tree.Scalar.{Scalar}
+use Rattle.rawk_tree.specs.declared.tree.Scalar.TheVariants as scalar
 use Rattle.rawk_builtin_trees.specs.Calls.{Applies}
 use Rattle.rawk_syntax.specs.Meant.{Sense}
 
@@ -58,6 +60,12 @@ abbrev pub right_of : Joiner → parsed.Expr → Expr → Pair
 right_of joiner.Matches e s = ASought e s
 right_of joiner.NotMatches e s = ASought e s
 right_of j e s = AnExpr e s
+
+-- a scalar, as a place
+abbrev pub scalar_place : Scalar → Place
+scalar_place (scalar.Global n) = tree_place.Global n
+scalar_place (scalar.Local n) = tree_place.Local n
+scalar_place scalar.FieldCount = tree_place.FieldCount
 
 -- `$0`, as a place and as its value
 pub record IsRecordPlace (q : Place) : Type 0 where
@@ -94,7 +102,7 @@ abbrev pub neutral : Logic → ℤ
 neutral logic.And = pos 1
 neutral logic.Or = pos 0
 
--- whether the array of a name has the element of one subscript (POSIX awk, "Expressions in awk", "Arrays")
+-- whether the array of a name has the element of one subscript (POSIX awk, "Expressions in awk")
 pub record IsMember (means : Sense) (n : word.Name) (subscript : Expr) (e : Expr) : Type 0 where
   pub array : Array
   pub subscripts : Vec Expr
@@ -144,6 +152,8 @@ pub data Settles (means : Sense) : Pair → Type 0 where
       → means.array n.word ≡ Some a → Settles means (SomeExprs es ss.items) → Settles means (AnExpr (from.ListIn es n) (tree.Has a ss))
   call : {n : word.Name} {es : List parsed.Expr} {f : ℕ} (ss : Vec Expr) → means.function n.word ≡ Some f → Settles means (SomeExprs es ss.items) → Settles means (AnExpr (from.Call n es) (tree.Call f ss))
   builtin : {f : Function} {es : List parsed.Expr} {ss : List Expr} {s : Expr} → Settles means (SomeExprs es ss) → Applies f ss s → Settles means (AnExpr (from.Builtin f es) s)
+  -- `length` of the name of an array alone counts its elements (POSIX awk, "String Functions")
+  counted : {a : Array} (n : word.Name) → means.array n.word ≡ Some a → Settles means (AnExpr (from.Builtin fun.Length (from.Of (from_place.Name n) ∷ [])) (tree.Count a))
   -- the first argument of `sub` and `gsub` is sought, and the third is a place that is changed; a missing one is the record
   replaced : {f : Function} {extent : Extent} {e g : parsed.Expr} {p : spot.Place} {q : Place} (s t : Box Expr)
       → extent_of f ≡ Some extent → Settles means (ASought e s.value) → Settles means (AnExpr g t.value) → Settles means (APlace p q) → Settles means (AnExpr (from.Builtin f (e ∷ g ∷ from.Of p ∷ [])) (tree.Replace extent s t q))
@@ -152,9 +162,9 @@ pub data Settles (means : Sense) : Pair → Type 0 where
   -- the second argument of `match` is sought in the first
   found : {e f : parsed.Expr} (s t : Box Expr)
       → Settles means (AnExpr e s.value) → Settles means (ASought f t.value) → Settles means (AnExpr (from.Builtin fun.Match (e ∷ f ∷ [])) (tree.Match s t))
-  name : {n : word.Name} {q : Place} → means.place n.word ≡ Some q → Settles means (APlace (from_place.Name n) q)
+  name : {n : word.Name} {v : Scalar} → means.scalar n.word ≡ Some v → Settles means (APlace (from_place.Name n) (scalar_place v))
   field : {e : parsed.Expr} (s : Box Expr) → Settles means (AnExpr e s.value) → Settles means (APlace (from_place.Field e) (tree_place.Field s))
-  -- an element has its subscripts in the order of the text (POSIX awk, "Arrays")
+  -- an element has its subscripts in the order of the text (POSIX awk, "Expressions in awk")
   element : {n : word.Name} {es : List parsed.Expr} {a : Array} (ss : Vec Expr)
       → means.array n.word ≡ Some a → Settles means (SomeExprs es ss.items) → Settles means (APlace (from_place.Element n es) (tree_place.Element a ss))
   no_links : Settles means (SomeLinks [] [])

@@ -17,15 +17,16 @@ ghost use Rattle.rawk_builtin_trees.specs.Calls.{Applies, has_builtin};
 ghost use Rattle.rawk_syntax.specs.Covered as cover;
 ghost use Rattle.rawk_syntax.specs.Covered.{Judges, unless};
 ghost use Rattle.rawk_syntax.specs.Meant.{Sense, sense_of};
-ghost use Rattle.rawk_syntax.specs.Settled.{Settles, AnExpr, APlace, ASought, IsIn, IsMatchOf, IsMember, IsRecord, IsRecordPlace, SomeLinks, SomeTests, SomeExprs, Prints, joiner_of, operator_of, neutral, right_of, extent_of};
+ghost use Rattle.rawk_syntax.specs.Settled.{Settles, AnExpr, APlace, ASought, IsMatchOf, IsRecord, IsRecordPlace, SomeLinks, SomeTests, SomeExprs, Prints, joiner_of, operator_of, neutral, right_of, extent_of, scalar_place};
 
+use crate::arrays::{counted, members_of};
 use crate::growth::{boxed, boxed_if, push, push_if};
-use crate::scope::{Scope, array_of, called, meant};
+use crate::scope::{Scope, array_of, called, scalar_of};
 use rawk_builtin_trees::{apply, format_and_arguments};
 use rawk_items::Boxed;
 use rawk_parsing::tree::{Assignment, Change, Function, Operator};
 use rawk_parsing::{ParseError, RefusalKind, tree as parsed};
-use rawk_tree::{Expr, Joiner, Link, Place, Unary};
+use rawk_tree::{Expr, Joiner, Link, Place, Scalar, Unary};
 use rawk_value::{Arithmetic, Bytes};
 use rawk_words::{Extent, Logic, Sign};
 use std::alloc::{AllocError, Global};
@@ -60,13 +61,24 @@ fn operator_of(change: Change) -> Arithmetic
     }
 }
 
+/// A scalar, as a place.
+fn scalar_place(scalar: Scalar) -> Place
+    ensures { result ≡ scalar_place scalar }
+{
+    match scalar {
+        Scalar::Global(number) => Place::Global(number),
+        Scalar::Local(number) => Place::Local(number),
+        Scalar::FieldCount => Place::FieldCount,
+    }
+}
+
 /// The place that a name stands for.
 fn settle_name(scope: &Scope<'_>, left: usize, name: &parsed::Name) -> Result<Place, ParseError>
     ensures settled { IfOk result (λ s. Settles (sense_of scope.now) (APlace (from_place.Name name.now) s)) }
     ensures judged { Judges (unless (cover.covers_place (sense_of scope.now) (from_place.Name name.now)) left) result }
 {
-    match meant(scope, name.word.as_slice()) {
-        Some(place) => Ok(place),
+    match scalar_of(scope, name.word.as_slice()) {
+        Some(scalar) => Ok(scalar_place(scalar)),
         None => Err(left_out(left)),
     }
 }
@@ -451,48 +463,6 @@ fn settle_assign(
     }
 }
 
-/// Whether the array of a name has the element of one subscript.
-fn member_of(
-    alloc: Global,
-    scope: &Scope<'_>,
-    left: usize,
-    name: &parsed::Name,
-    subscript: Expr,
-) -> Result<Expr, ParseError>
-    ensures settled { IfOk result (λ s. IsMember (sense_of scope.now) name.now subscript s) }
-    ensures judged { Judges (unless (cover.names_array (sense_of scope.now) name.now) left) result }
-{
-    match array_of(scope, name.word.as_slice()) {
-        Some(array) => {
-            let mut alone = Vec::new(alloc);
-            push(&mut alone, subscript)?;
-            Ok(Expr::Has(array, alone))
-        }
-        None => {
-            drop(subscript);
-            Err(left_out(left))
-        }
-    }
-}
-
-/// Whether the arrays of these names have the element of the answer before, from left to right.
-fn members_of(
-    alloc: Global,
-    scope: &Scope<'_>,
-    left: usize,
-    subscript: Expr,
-    names: &[parsed::Name],
-) -> Result<Expr, ParseError>
-    ensures settled { IfOk result (λ s. IsIn (sense_of scope.now) subscript names.now s) }
-    ensures judged { Judges (unless (cover.each (cover.names_array (sense_of scope.now)) names.now) left) result }
-{
-    let mut answer = subscript;
-    for name in names {
-        answer = member_of(alloc, scope, left, name, answer)?;
-    }
-    Ok(answer)
-}
-
 /// `in`, with the arrays of these names.
 #[cycle(settle)]
 fn settle_in(
@@ -632,6 +602,39 @@ fn settle_replace(
     }
 }
 
+/// A call of a built-in function of the values of its arguments.
+#[cycle(settle)]
+fn settle_applied(
+    alloc: Global,
+    scope: &Scope<'_>,
+    left: usize,
+    function: Function,
+    arguments: &[Boxed<parsed::Expr>],
+) -> Result<Expr, ParseError>
+    ensures settled { IfOk result (λ s. Settles (sense_of scope.now) (AnExpr (from.Builtin function arguments.now) s)) }
+    ensures judged { Judges (unless (has_builtin function (length arguments.now) && cover.each (cover.covers (sense_of scope.now)) arguments.now) left) result }
+{
+    let arguments = settle_list(alloc, scope, left, arguments)?;
+    apply_builtin(alloc, left, function, arguments)
+}
+
+/// A call of `length`: of an array, or of a value.
+#[cycle(settle)]
+fn settle_length(
+    alloc: Global,
+    scope: &Scope<'_>,
+    left: usize,
+    arguments: &[Boxed<parsed::Expr>],
+) -> Result<Expr, ParseError>
+    ensures settled { IfOk result (λ s. Settles (sense_of scope.now) (AnExpr (from.Builtin fun.Length arguments.now) s)) }
+    ensures judged { Judges (unless (cover.covers (sense_of scope.now) (from.Builtin fun.Length arguments.now)) left) result }
+{
+    match counted(scope, arguments) {
+        Some(array) => Ok(Expr::Count(array)),
+        None => settle_applied(alloc, scope, left, Function::Length, arguments),
+    }
+}
+
 /// A call of a built-in function.
 #[cycle(settle)]
 fn settle_builtin(
@@ -645,13 +648,11 @@ fn settle_builtin(
     ensures judged { Judges (unless (cover.covers (sense_of scope.now) (from.Builtin function arguments.now)) left) result }
 {
     match function {
+        Function::Length => settle_length(alloc, scope, left, arguments),
         Function::Match => settle_match(alloc, scope, left, arguments),
         Function::Sub => { settle_replace(alloc, scope, left, function, Extent::First, arguments) }
         Function::Gsub => settle_replace(alloc, scope, left, function, Extent::All, arguments),
-        _ => {
-            let arguments = settle_list(alloc, scope, left, arguments)?;
-            apply_builtin(alloc, left, function, arguments)
-        }
+        _ => settle_applied(alloc, scope, left, function, arguments),
     }
 }
 
@@ -715,7 +716,7 @@ pub fn settle_expr(
 
 /// Expressions one after another.
 #[cycle(settle)]
-fn settle_list(
+pub fn settle_list(
     alloc: Global,
     scope: &Scope<'_>,
     left: usize,

@@ -1,6 +1,7 @@
 //! The program of a text: the parser's tree with its names as numbers, and its sites.
 #![tactic(auto)]
 
+mod arrays;
 mod expressions;
 mod growth;
 mod items;
@@ -14,6 +15,6 @@ pub use parsing::parse;
 pub use rawk_lexer::unescaped;
 pub use rawk_parsing::{Refusal, RefusalKind};
 pub use rawk_tree::{
-    Array, Branch, Expr, Function, Guard, Joiner, Kind, Link, Logic, Place, Program, Rule, Sign,
-    Stmt, Unary,
+    Array, Branch, Expr, Function, Guard, Joiner, Kind, Link, Logic, Place, Program, Rule, Scalar,
+    Sign, Stmt, Unary,
 };

@@ -2,10 +2,10 @@
 
 ghost use Rattle.std.specs.Prelude.{◌≡◌};
 ghost use Rattle.rawk_names.specs.Named.{known};
-ghost use Rattle.rawk_syntax.specs.Meant.{array_at, first_parameter, global_array, marked_array, place_at, scalar_place, sense_of, variable_place};
+ghost use Rattle.rawk_syntax.specs.Meant.{array_at, first_parameter, global_array, marked_array, scalar_at, sense_of, unmarked_scalar, variable_scalar};
 
 use rawk_names::{Meaning, Names, Variable};
-use rawk_tree::{Array, Place};
+use rawk_tree::{Array, Scalar};
 
 /// The names of a program, and the scope: 0 outside functions, inside one more than the function's number.
 #[derive(Drop)]
@@ -24,43 +24,43 @@ fn first_parameter(scope: &Scope<'_>) -> usize
     }
 }
 
-/// The place of a variable.
-fn variable_place(scope: &Scope<'_>, variable: Variable) -> Place
-    ensures { result ≡ variable_place (known scope.now.names.now) scope.now.number variable }
+/// What a variable is that is no array.
+fn variable_scalar(scope: &Scope<'_>, variable: Variable) -> Scalar
+    ensures { result ≡ variable_scalar (known scope.now.names.now) scope.now.number variable }
 {
     match variable {
-        Variable::FieldCount => Place::FieldCount,
-        Variable::Global(number) => Place::Global(number),
-        Variable::Parameter(number) => Place::Local(number.saturating_sub(first_parameter(scope))),
+        Variable::FieldCount => Scalar::FieldCount,
+        Variable::Global(number) => Scalar::Global(number),
+        Variable::Parameter(number) => Scalar::Local(number.saturating_sub(first_parameter(scope))),
     }
 }
 
-/// The place of a variable by its place among all, if it is no array.
-fn scalar_place(scope: &Scope<'_>, variable: usize) -> Option<Place>
-    ensures { result ≡ scalar_place (known scope.now.names.now) scope.now.number variable }
+/// The scalar of a variable, by its place among all variables, if it is no array.
+fn unmarked_scalar(scope: &Scope<'_>, variable: usize) -> Option<Scalar>
+    ensures { result ≡ unmarked_scalar (known scope.now.names.now) scope.now.number variable }
 {
     if scope.names.is_array(variable) {
         None
     } else {
-        Some(variable_place(scope, scope.names.variable(variable)))
+        Some(variable_scalar(scope, scope.names.variable(variable)))
     }
 }
 
-fn place_at(scope: &Scope<'_>, meaning: Option<Meaning>) -> Option<Place>
-    ensures { result ≡ place_at (known scope.now.names.now) scope.now.number meaning }
+fn scalar_at(scope: &Scope<'_>, meaning: Option<Meaning>) -> Option<Scalar>
+    ensures { result ≡ scalar_at (known scope.now.names.now) scope.now.number meaning }
 {
     match meaning {
         None => None,
         Some(Meaning::Function(_)) => None,
-        Some(Meaning::Variable(variable)) => scalar_place(scope, variable),
+        Some(Meaning::Variable(variable)) => unmarked_scalar(scope, variable),
     }
 }
 
-/// The place that a name stands for, if the settled tree has it. It takes no memory.
-pub fn meant(scope: &Scope<'_>, word: &[u8]) -> Option<Place>
-    ensures { result ≡ (sense_of scope.now).place word.now }
+/// The scalar that a name stands for, if the settled tree has it. It takes no memory.
+pub fn scalar_of(scope: &Scope<'_>, word: &[u8]) -> Option<Scalar>
+    ensures { result ≡ (sense_of scope.now).scalar word.now }
 {
-    place_at(scope, scope.names.meaning(scope.number, word))
+    scalar_at(scope, scope.names.meaning(scope.number, word))
 }
 
 /// The array of a global that is not special, by its place among all variables.

@@ -13,7 +13,8 @@ ghost use Rattle.rawk_syntax.specs.Meant.{sense_of};
 ghost use Rattle.rawk_syntax.specs.Settled.{Settles, AnExpr};
 ghost use Rattle.rawk_syntax.specs.Laid.{sited, Simply, Exits, Returns, Jumps, Tests, Lays, AStmt, SomeStmts, SomeBranches, AnOther, Heads, branch_with, head_with, for_with};
 
-use crate::expressions::{left_out, settle_expr, settle_formatted, settle_printed};
+use crate::arrays::{settle_delete, settle_keys};
+use crate::expressions::{settle_expr, settle_formatted, settle_printed};
 use crate::growth::{boxed, boxed_if, push_if};
 use crate::lines::Sites;
 use crate::scope::Scope;
@@ -21,7 +22,8 @@ use rawk_grammar::tree as parsed;
 use rawk_grammar::tree::{Act, Condition, Jump, Simple};
 use rawk_items::Boxed;
 use rawk_parsing::ParseError;
-use rawk_tree::{Branch, Expr, Stmt};
+use rawk_parsing::tree::Name;
+use rawk_tree::{Array, Branch, Expr, Scalar, Stmt};
 use std::alloc::Global;
 
 /// An expression as a statement, if it was settled.
@@ -77,7 +79,7 @@ fn settle_simple(
             site,
             settle_formatted(alloc, scope, simple.left, list.as_slice()),
         ),
-        Act::Delete(_) => Err(left_out(simple.left)),
+        Act::Delete(place) => settle_delete(alloc, scope, site, simple.left, place),
     }
 }
 
@@ -238,7 +240,9 @@ fn settle_statement(
             condition.get(),
         ),
         parsed::Stmt::For(head, body) => settle_for(alloc, sites, scope, head.get(), body.get()),
-        parsed::Stmt::ForIn(left, _, _, _) => Err(left_out(*left)),
+        parsed::Stmt::ForIn(left, taker, array, body) => {
+            settle_for_in(alloc, sites, scope, *left, taker, array, body.get())
+        }
     }
 }
 
@@ -395,6 +399,42 @@ fn settle_for(
     let head = settle_head(alloc, sites, scope, head)?;
     let turn = settle_body(alloc, sites, scope, body);
     for_of(head, turn)
+}
+
+/// A loop over the keys of an array, if its body was settled.
+fn for_in_of(
+    site: usize,
+    keys: (Scalar, Array),
+    body: Result<Box<Stmt>, ParseError>,
+) -> Result<Stmt, ParseError>
+    ensures { result ≡ result_map_both (tree.ForIn site keys.0 keys.1) (λ e. e) body }
+{
+    match body {
+        Ok(body) => Ok(Stmt::ForIn(site, keys.0, keys.1, body)),
+        Err(e) => Err(e),
+    }
+}
+
+/// A loop over the keys of an array, whose sites are added.
+#[cycle(statements)]
+fn settle_for_in(
+    alloc: Global,
+    sites: &mut Sites<'_>,
+    scope: &Scope<'_>,
+    left: usize,
+    taker: &Name,
+    array: &Name,
+    body: &parsed::Stmt,
+) -> Result<Stmt, ParseError>
+    ensures text { sites.new.text ≡ sites.old.text }
+    ensures settled { IfOk result (λ t. Lays sites.old.text.now (sense_of scope.now) (AStmt (from.ForIn left taker.now array.now body.now) t) sites.old.lines.items sites.new.lines.items) }
+    ensures judged { Judges (cover.or_then (cover.keys_gap (sense_of scope.now) left taker.now array.now) (cover.gap (sense_of scope.now) body.now)) result }
+{
+    let site = sites.lines.len();
+    sites.add(left)?;
+    let keys = settle_keys(scope, left, taker, array)?;
+    let turn = settle_body(alloc, sites, scope, body);
+    for_in_of(site, keys, turn)
 }
 
 /// A statement that is the body of another.

@@ -17,3 +17,4 @@ pub mod Calls
 pub mod Oks
 pub mod Replaces
 pub mod Subscripts
+pub mod Visits

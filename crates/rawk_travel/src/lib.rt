@@ -10,6 +10,7 @@ mod call;
 pub mod count;
 mod elements;
 mod formats;
+mod key_loops;
 mod operands;
 mod print;
 pub mod reach;

@@ -65,6 +65,8 @@ pub enum Expr {
     Getline,
     /// `in`: whether an array has the element of these subscripts
     Has(Array, Vec<Expr>),
+    /// `length` of an array: how many elements it has
+    Count(Array),
 }
 
 /// A right operand, with its operator.
@@ -89,6 +91,16 @@ pub enum Place {
     Field(Box<Expr>),
     /// an element of an array, by its subscripts
     Element(Array, Vec<Expr>),
+}
+
+/// What a name alone stands for that is no array.
+#[derive(Clone, Copy, PartialEq, Eq)]
+pub enum Scalar {
+    /// a global one, by its number from 0; the special variables but NF have the first numbers
+    Global(usize),
+    /// a local of the function around, by its number from 0: its parameters come first
+    Local(usize),
+    FieldCount,
 }
 
 /// A statement. Its number is the site of its point.
@@ -119,6 +131,12 @@ pub enum Stmt {
     ReturnWith(usize, Expr),
     /// the format and its arguments
     Printf(usize, Expr, Vec<Expr>),
+    /// an element of an array, by its subscripts, is deleted
+    Delete(usize, Array, Vec<Expr>),
+    /// all elements of an array are deleted
+    Clear(usize, Array),
+    /// a turn for each key of an array: the site of a turn, what takes the key, the array and the body
+    ForIn(usize, Scalar, Array, Box<Stmt>),
 }
 
 /// A condition of an `if` with its site, and what is done where it holds.

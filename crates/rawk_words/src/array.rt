@@ -1,6 +1,6 @@
 //! Arrays, where they are named.
 
-/// An array, where it is named (POSIX awk, Arrays; User-Defined Functions).
+/// An array, where it is named (POSIX awk, Expressions in awk; User-Defined Functions).
 #[derive(Clone, Copy, PartialEq, Eq)]
 pub enum Array {
     /// a global one, by its number from 0

@@ -12,6 +12,9 @@ use std::alloc::{AllocError, Global};
 /// How many globals and locals are looked at.
 const NAMES: usize = 40;
 
+/// Which elements of each array are looked at.
+const KEYS: [&str; 10] = ["", "0", "1", "2", "3", "a", "b", "k", "x", "new"];
+
 /// Whether a machine shows the same on each way.
 pub fn compare(
     alloc: Global,
@@ -98,6 +101,7 @@ fn push_machine(
     out.push(b'\n')?;
     push_record(out, machine)?;
     push_globals(out, machine)?;
+    push_arrays(alloc, out, machine)?;
     push_activations(alloc, out, machine)?;
     push_locals(out, machine)
 }
@@ -157,6 +161,37 @@ fn push_globals(out: &mut Vec<u8>, machine: &Machine<BytesSource, Full>) -> Resu
         }
     }
     out.push(b'\n')?;
+    Ok(())
+}
+
+/// How many elements each array has, and some of them.
+fn push_arrays(
+    alloc: Global,
+    out: &mut Vec<u8>,
+    machine: &Machine<BytesSource, Full>,
+) -> Result<(), AllocError> {
+    for array in 0..machine.array_count() {
+        let count = machine.element_count(array);
+        out.extend_from_slice(format!(in alloc; "{count}|")?.as_bytes())?;
+        push_elements(out, machine, array)?;
+    }
+    out.push(b'\n')?;
+    Ok(())
+}
+
+fn push_elements(
+    out: &mut Vec<u8>,
+    machine: &Machine<BytesSource, Full>,
+    array: usize,
+) -> Result<(), AllocError> {
+    for key in KEYS {
+        if let Some(value) = machine.element(array, key.as_bytes()) {
+            out.extend_from_slice(key.as_bytes())?;
+            out.push(b'=')?;
+            push_value(out, value)?;
+            out.push(b'|')?;
+        }
+    }
     Ok(())
 }
 

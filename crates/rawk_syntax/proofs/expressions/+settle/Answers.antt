@@ -10,9 +10,9 @@ use Rattle.rawk_tree.specs.declared.tree.Unary.TheVariants as unary
 use Rattle.rawk_syntax.specs.Covered.{unless, each, names_array, covers, changes, covers_place, covers_link}
 use Rattle.rawk_syntax.specs.Meant.{is_there, sense_of}
 use Rattle.rawk_syntax.specs.Settled as spec
-use Rattle.rawk_syntax.proofs.Coverings.{in_covers, in_judged, list_in_covers, exits, passes, holds, sure, fails, both, first_false, second_false, was_settled, was_refused, judges_on, each_more, each_stops, number_covers, text_covers, ere_covers, getline_covers, of_covers, group_covers, signed_covers, power_covers, chain_covers, logic_covers, choice_covers, before_covers, after_covers, assign_covers, call_covers, match_covers, match_uncovered, applied_covers, applied_judged, none_there, other_covers, field_covers, element_covers, link_covers, pair_of, three_of, record_covers, changed_covers, replace_uncovered, of_changes, no_change}
+use Rattle.rawk_syntax.proofs.Coverings.{in_covers, in_judged, list_in_covers, exits, passes, holds, sure, fails, both, first_false, second_false, was_settled, was_refused, judges_on, each_more, each_stops, number_covers, text_covers, ere_covers, getline_covers, of_covers, group_covers, signed_covers, power_covers, chain_covers, logic_covers, choice_covers, before_covers, after_covers, assign_covers, call_covers, match_covers, match_uncovered, applied_covers, applied_judged, counted_covers, uncounted_covers, none_there, other_covers, field_covers, element_covers, link_covers, pair_of, three_of, record_covers, changed_covers, replace_uncovered, of_changes, no_change}
 use Rattle.rawk_syntax.proofs.Gaps.{made_judged}
-use Rattle.rawk_syntax.proofs.Settlements.{element_settles, in_settles, list_in_settles, number_settles, number_judged, text_settles, ere_settles, sought_settles, made_settles, right_settles, read_settles, group_settles, boxed_settles, signed_settles, power_settles, before_settles, after_settles, test_settles, field_settles, link_settles, call_settles, builtin_settles, found_settles, replaced_settles, record_settles, same_count, expr_settles}
+use Rattle.rawk_syntax.proofs.Settlements.{element_settles, in_settles, list_in_settles, number_settles, number_judged, text_settles, ere_settles, sought_settles, made_settles, right_settles, read_settles, group_settles, boxed_settles, signed_settles, power_settles, before_settles, after_settles, test_settles, field_settles, link_settles, call_settles, builtin_settles, counted_settles, found_settles, replaced_settles, record_settles, same_count, expr_settles}
 use Rattle.rawk_syntax.proofs.expressions.+settle.Goals as goal
 use Rattle.rawk_syntax.proofs.expressions.+settle.Goals.{settle_match-in_default-via-then-arguments-lt2, settle_match-in_default-via-else-arguments-lt2+else-arguments-lt3, settle_replace-in_default-via-then-arguments-lt2, settle_replace-in_default-via-else-arguments-lt2+else-arguments-lt3+else-arguments-lt4}
 
@@ -392,19 +392,36 @@ settle_replace-returns-in_default-clause-judged t c =
     ] in
     λ ne. fails (covers (sense_of c.args.scope.now) (from.Builtin c.args.function c.args.arguments.now)) c.args.left (replace_uncovered (sense_of c.args.scope.now) c.args.function c.args.extent c.args.arguments.now c.requires not_two not_three) ∙ ap Some (sym c.left_out.ensures)
 
-pub settle_builtin-returns-in_err-arguments-in_default-clause-judged : goal.settle_builtin-returns-in_err-arguments-in_default-clause-judged
-settle_builtin-returns-in_err-arguments-in_default-clause-judged t c =
+pub settle_applied-returns-in_err-arguments-clause-judged : goal.settle_applied-returns-in_err-arguments-clause-judged
+settle_applied-returns-in_err-arguments-clause-judged t c =
     let p = err_from_is_err_and c.from_residual.result c.from_residual.ensures.1 in
-    exits c.from_residual.result (unless (covers (sense_of c.args.scope.now) (from.Builtin c.args.function c.args.arguments.now)) c.args.left) c.in_err-arguments-in_default.field-0.0 p.0 p.1 p.2 (passes (each (covers (sense_of c.args.scope.now)) c.args.arguments.now) (covers (sense_of c.args.scope.now) (from.Builtin c.args.function c.args.arguments.now)) c.args.left c.in_err-arguments-in_default.field-0.0 (λ h. applied_covers (sense_of c.args.scope.now) c.args.function c.args.arguments.now c.in_default.not-Match c.in_default.not-Sub c.in_default.not-Gsub ∙ second_false (has_builtin c.args.function (length c.args.arguments.now)) (each (covers (sense_of c.args.scope.now)) c.args.arguments.now) h) c.in_err-arguments-in_default.ensures.judged)
+    let has = has_builtin c.args.function (length c.args.arguments.now) in
+    let all = each (covers (sense_of c.args.scope.now)) c.args.arguments.now in
+    exits c.from_residual.result (unless (has && all) c.args.left) c.in_err-arguments.field-0.0 p.0 p.1 p.2 (passes all (has && all) c.args.left c.in_err-arguments.field-0.0 (second_false has all) c.in_err-arguments.ensures.judged)
 
-pub settle_builtin-returns-in_ok-arguments-in_default-clause-settled : goal.settle_builtin-returns-in_ok-arguments-in_default-clause-settled
-settle_builtin-returns-in_ok-arguments-in_default-clause-settled t c =
-    builtin_settles (sense_of c.args.scope.now) c.apply_builtin.result c.args.function c.args.arguments.now c.in_ok-arguments-in_default.arguments.items c.in_ok-arguments-in_default.ensures.settled c.apply_builtin.ensures.settled
+pub settle_applied-returns-clause-settled : goal.settle_applied-returns-clause-settled
+settle_applied-returns-clause-settled t c =
+    builtin_settles (sense_of c.args.scope.now) c.apply_builtin.result c.args.function c.args.arguments.now c.in_ok-arguments.arguments.items c.in_ok-arguments.ensures.settled c.apply_builtin.ensures.settled
 
-pub settle_builtin-returns-in_ok-arguments-in_default-clause-judged : goal.settle_builtin-returns-in_ok-arguments-in_default-clause-judged
-settle_builtin-returns-in_ok-arguments-in_default-clause-judged t c =
-    applied_judged c.apply_builtin.result (sense_of c.args.scope.now) c.args.function c.args.arguments.now (length c.in_ok-arguments-in_default.arguments.items) c.args.left c.in_default.not-Match c.in_default.not-Sub c.in_default.not-Gsub
-    (sure (each (covers (sense_of c.args.scope.now)) c.args.arguments.now) c.args.left c.in_ok-arguments-in_default.ensures.judged) (same_count (sense_of c.args.scope.now) c.in_ok-arguments-in_default.ensures.settled) c.apply_builtin.ensures.judged
+pub settle_applied-returns-clause-judged : goal.settle_applied-returns-clause-judged
+settle_applied-returns-clause-judged t c =
+    applied_judged c.apply_builtin.result (sense_of c.args.scope.now) c.args.function c.args.arguments.now (length c.in_ok-arguments.arguments.items) c.args.left
+    (sure (each (covers (sense_of c.args.scope.now)) c.args.arguments.now) c.args.left c.in_ok-arguments.ensures.judged) (same_count (sense_of c.args.scope.now) c.in_ok-arguments.ensures.settled) c.apply_builtin.ensures.judged
+
+pub settle_length-returns-in-Some-clause-settled : goal.settle_length-returns-in-Some-clause-settled
+settle_length-returns-in-Some-clause-settled t c = counted_settles (sense_of c.args.scope.now) c.args.arguments.now c.in-Some.array c.in-Some.ensures.named
+
+pub settle_length-returns-in-Some-clause-judged : goal.settle_length-returns-in-Some-clause-judged
+settle_length-returns-in-Some-clause-judged t c =
+    holds (covers (sense_of c.args.scope.now) (from.Builtin fun.Length c.args.arguments.now)) c.args.left (counted_covers (sense_of c.args.scope.now) c.args.arguments.now c.in-Some.ensures.covered)
+
+pub settle_length-returns-in-None-clause-judged : goal.settle_length-returns-in-None-clause-judged
+settle_length-returns-in-None-clause-judged t c =
+    rw (uncounted_covers (sense_of c.args.scope.now) c.args.arguments.now c.in-None.ensures.covered) c.settle_applied.ensures.judged
+
+pub settle_builtin-returns-in_default-clause-judged : goal.settle_builtin-returns-in_default-clause-judged
+settle_builtin-returns-in_default-clause-judged t c =
+    rw (applied_covers (sense_of c.args.scope.now) c.args.function c.args.arguments.now c.in_default.not-Length c.in_default.not-Match c.in_default.not-Sub c.in_default.not-Gsub) c.settle_applied.ensures.judged
 
 pub settle_tests-loop-test-init : goal.settle_tests-loop-test-init
 settle_tests-loop-test-init t c =

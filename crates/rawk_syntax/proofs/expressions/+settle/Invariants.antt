@@ -67,6 +67,12 @@ decreases-settle_changed l = 5 * expr.the_size l.e.now + 1
 abbrev pub decreases-settle_replace : goal.decreases-settle_replace
 decreases-settle_replace l = 5 * goal.size-settle_replace l + 3
 
+abbrev pub decreases-settle_applied : goal.decreases-settle_applied
+decreases-settle_applied l = 5 * goal.size-settle_applied l + 2
+
+abbrev pub decreases-settle_length : goal.decreases-settle_length
+decreases-settle_length l = 5 * goal.size-settle_length l + 3
+
 abbrev pub decreases-settle_builtin : goal.decreases-settle_builtin
 decreases-settle_builtin l = 5 * goal.size-settle_builtin l + 4
 

@@ -8,7 +8,7 @@ use Rattle.rawk_syntax.proofs.expressions.settle_name.Goals as goal
 
 pub returns-in-Some-clause-settled : goal.returns-in-Some-clause-settled
 returns-in-Some-clause-settled c =
-    name_settles (sense_of c.args.scope.now) (from_place.Name c.args.name.now) c.args.name.now c.as_slice.result.now c.in-Some.place refl c.as_slice.ensures c.in-Some.ensures
+    name_settles (sense_of c.args.scope.now) (from_place.Name c.args.name.now) c.args.name.now c.as_slice.result.now c.in-Some.scalar _ refl c.as_slice.ensures c.in-Some.ensures c.scalar_place.ensures
 
 pub returns-in-Some-clause-judged : goal.returns-in-Some-clause-judged
 returns-in-Some-clause-judged c =

@@ -1,13 +1,13 @@
-use Rattle.std.proofs.Common.{◌∙◌, ap, refl, sym, Some}
+use Rattle.std.proofs.Common.{◌∙◌, ap, refl, sym}
 use Rattle.std.proofs.lemmas.Result.{err_from_is_err_and}
-use Rattle.rawk_syntax.specs.Covered.{gap, branch_gap, condition_gap, other_gap, head_parts_gap, first_of}
+use Rattle.rawk_syntax.specs.Covered.{gap, branch_gap, condition_gap, keys_gap, other_gap, head_parts_gap, first_of}
 use Rattle.rawk_syntax.specs.Laid as spec
 use Rattle.rawk_syntax.specs.Laid.{branch_with, for_with}
 use Rattle.rawk_syntax.specs.Meant.{sense_of}
 use Rattle.rawk_syntax.proofs.Coverings.{exits, first_more, first_stops, judges_on, was_settled, was_refused}
 use Rattle.rawk_tree.specs.declared.tree.Stmt.TheVariants as tree
 use Rattle.rawk_syntax.proofs.Gaps.{empty_gap, simple_gap_is, block_gap, for_in_gap, jump_gap_is, if_gap, while_gap, do_gap, for_gap, branch_is, first_one, branch_judged, then_judged, made_judged}
-use Rattle.rawk_syntax.proofs.Layings.{empty_lays, simple_lays, block_lays, boxed_lays, more_lays, jump_lays, if_lays, while_made, do_made, for_made, head_made, absent_lays, other_made, more_branches}
+use Rattle.rawk_syntax.proofs.Layings.{empty_lays, simple_lays, block_lays, boxed_lays, more_lays, jump_lays, if_lays, while_made, do_made, for_made, for_in_made, head_made, absent_lays, other_made, more_branches}
 use Rattle.rawk_syntax.proofs.statements.+statements.Goals as goal
 
 pub settle_statement-returns-in-Empty-clause-settled : goal.settle_statement-returns-in-Empty-clause-settled
@@ -36,7 +36,17 @@ settle_statement-returns-in-Block-clause-judged t c =
 
 pub settle_statement-returns-in-ForIn-clause-judged : goal.settle_statement-returns-in-ForIn-clause-judged
 settle_statement-returns-in-ForIn-clause-judged t c =
-    λ ne. for_in_gap (sense_of c.args.scope.now) c.args.s.now c.in-ForIn.left _ _ _ c.in-ForIn.is ∙ ap Some (sym c.left_out.ensures)
+    rw (for_in_gap (sense_of c.args.scope.now) c.args.s.now c.in-ForIn.left c.in-ForIn.taker c.in-ForIn.array c.in-ForIn.body c.get-in-ForIn.result.now c.in-ForIn.is c.get-in-ForIn.ensures) c.settle_for_in.ensures.judged
+
+pub settle_for_in-returns-clause-settled : goal.settle_for_in-returns-clause-settled
+settle_for_in-returns-clause-settled t c =
+    for_in_made (sense_of c.args.scope.now) c.settle_body-turn.result c.for_in_of.result c.args.sites.now.text.now c.add.new.self.text.now c.args.left c.args.taker.now c.args.array.now c.args.body.now c.in_ok-keys.keys c.len-site.result
+    c.args.sites.now.lines.items c.add.new.self.lines.items c.settle_body-turn.new.sites.lines.items c.for_in_of.ensures (c.len-site.ensures ∙ c.args.sites.now.lines.ok.0) c.in_ok-add.ensures.lines (ap (λ v. v.now) c.add.ensures.text)
+    c.in_ok-keys.ensures.taker c.in_ok-keys.ensures.array c.settle_body-turn.ensures.settled
+
+pub settle_for_in-returns-clause-judged : goal.settle_for_in-returns-clause-judged
+settle_for_in-returns-clause-judged t c =
+    then_judged (keys_gap (sense_of c.args.scope.now) c.args.left c.args.taker.now c.args.array.now) (gap (sense_of c.args.scope.now) c.args.body.now) c.for_in_of.result c.in_ok-keys.ensures.judged (made_judged (tree.ForIn c.len-site.result c.in_ok-keys.keys.0 c.in_ok-keys.keys.1) (gap (sense_of c.args.scope.now) c.args.body.now) c.settle_body-turn.result c.for_in_of.result c.for_in_of.ensures c.settle_body-turn.ensures.judged)
 
 pub settle_statement-returns-in-Jump-clause-settled : goal.settle_statement-returns-in-Jump-clause-settled
 settle_statement-returns-in-Jump-clause-settled t c =

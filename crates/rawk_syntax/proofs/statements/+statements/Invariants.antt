@@ -46,6 +46,9 @@ decreases-settle_head l = 5 * goal.size-settle_head l + 3
 abbrev pub decreases-settle_while : goal.decreases-settle_while
 decreases-settle_while l = 5 * goal.size-settle_while l + 2
 
+abbrev pub decreases-settle_for_in : goal.decreases-settle_for_in
+decreases-settle_for_in l = 5 * goal.size-settle_for_in l + 2
+
 abbrev pub decreases-settle_do : goal.decreases-settle_do
 decreases-settle_do l = 5 * goal.size-settle_do l + 2
 

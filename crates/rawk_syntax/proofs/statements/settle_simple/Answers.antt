@@ -4,7 +4,7 @@ use Rattle.rawk_tree.specs.declared.tree.Stmt.TheVariants as tree
 use Rattle.rawk_syntax.specs.Covered.{Judges, act_gap, covers, each, unless}
 use Rattle.rawk_syntax.specs.Meant.{sense_of}
 use Rattle.rawk_syntax.proofs.Gaps.{made_judged}
-use Rattle.rawk_syntax.proofs.Layings.{evaluate_lays, print_lays, printf_lays}
+use Rattle.rawk_syntax.proofs.Layings.{evaluate_lays, print_lays, printf_lays, delete_lays}
 use Rattle.rawk_syntax.proofs.statements.settle_simple.Goals as goal
 
 pub returns-in-Evaluate-clause-settled : goal.returns-in-Evaluate-clause-settled
@@ -28,3 +28,8 @@ pub returns-in-Printf-clause-settled : goal.returns-in-Printf-clause-settled
 returns-in-Printf-clause-settled c =
     printf_lays (sense_of c.args.scope.now) c.settle_formatted.result c.printf_of.result c.args.sites.now.text.now c.args.simple.now c.in-Printf.list c.as_slice-in-Printf.result.now c.len-site.result c.args.sites.now.lines.items c.add.new.self.lines.items
     c.printf_of.ensures c.in-Printf.is c.as_slice-in-Printf.ensures (c.len-site.ensures ∙ c.args.sites.now.lines.ok.0) c.in_ok-add.ensures.lines c.settle_formatted.ensures.settled
+
+pub returns-in-Delete-clause-settled : goal.returns-in-Delete-clause-settled
+returns-in-Delete-clause-settled c =
+    delete_lays (sense_of c.args.scope.now) c.settle_delete.result c.args.sites.now.text.now c.args.simple.now c.in-Delete.place c.len-site.result c.args.sites.now.lines.items c.add.new.self.lines.items
+    c.in-Delete.is (c.len-site.ensures ∙ c.args.sites.now.lines.ok.0) c.in_ok-add.ensures.lines c.settle_delete.ensures.settled

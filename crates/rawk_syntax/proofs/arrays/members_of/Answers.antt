@@ -5,7 +5,7 @@ use Rattle.rawk_syntax.specs.Meant.{sense_of}
 use Rattle.rawk_syntax.specs.Settled as spec
 use Rattle.rawk_syntax.proofs.Coverings.{exits, passes, sure, each_more, each_stops}
 use Rattle.rawk_syntax.proofs.Settlements.{more_members}
-use Rattle.rawk_syntax.proofs.expressions.members_of.Goals as goal
+use Rattle.rawk_syntax.proofs.arrays.members_of.Goals as goal
 
 pub loop-name-init : goal.loop-name-init
 loop-name-init c = record { settled = spec.itself; judged = refl }

@@ -2,7 +2,7 @@ use Rattle.std.proofs.Common.{◌≡◌, take, true}
 use Rattle.rawk_syntax.specs.Covered.{each, names_array}
 use Rattle.rawk_syntax.specs.Meant.{sense_of}
 use Rattle.rawk_syntax.specs.Settled.{IsIn}
-use Rattle.rawk_syntax.proofs.expressions.members_of.Given as goal
+use Rattle.rawk_syntax.proofs.arrays.members_of.Given as goal
 
 abbrev pub invariant-loop-name : goal.invariant-loop-name
 invariant-loop-name l = record {
