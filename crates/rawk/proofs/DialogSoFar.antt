@@ -231,7 +231,7 @@ module _ {M C V : Type 0} (may_be : M → Input → Type 0) (may_give : C → In
     read = all;
     comes = comes;
     counted = counted;
-    taken = λ input rest may come held h. (so.out, so.taken held h, no_next why none many input rest may come);
+    taken = λ held h. (so.out, so.taken held h, no_next why none many);
   }
 
   module _ (machine2 : M) (new : Stand) (sink2 : V) (turn : Turn) (count : ℕ) (output : Bytes) (reply : Reply) (next : (rest : Input) → may_give commands2 rest → IsNextTurn (before fresh rest) 0 turn count) (narrows : (input : Input) → may_be machine2 input → may_be machine input) (carries : (input : Input) → may_be machine2 input → Carries input turn now output reply new) where
@@ -247,9 +247,13 @@ module _ {M C V : Type 0} (may_be : M → Input → Type 0) (may_give : C → In
       read = all;
       comes = comes;
       counted = counted;
-      taken = λ input rest may come held h.
-          let quit : Carries input turn now output Quits new = subst (λ (r : Reply). Carries input turn now output r new) (quits_is reply is) (carries input may) in
-          (so.out, so.taken held h, to_quit so.turns turn (length so.gone) (length so.gone + count) so.out (read rest come) (is_next rest come) is_due (so.stays input (narrows input may)) quit.0 (leads_to_quit input so.turns first so.out now (so.leads input (narrows input may)) turn output new [] quit));
+      taken = λ held h. (
+        so.out,
+        so.taken held h,
+        λ input rest may come.
+            let quit : Carries input turn now output Quits new = subst (λ (r : Reply). Carries input turn now output r new) (quits_is reply is) (carries input may) in
+            to_quit so.turns turn (length so.gone) (length so.gone + count) so.out (read rest come) (is_next rest come) is_due (so.stays input (narrows input may)) quit.0 (leads_to_quit input so.turns first so.out now (so.leads input (narrows input may)) turn output new [] quit),
+      );
     }
 
     leads_further : quits_by reply ≡ false → (input : Input) → may_be machine2 input → Leads input (so.turns ++ turn ∷ []) first (so.out ++ reply_text output reply) new
@@ -265,11 +269,11 @@ module _ {M C V : Type 0} (may_be : M → Input → Type 0) (may_give : C → In
       read = all;
       comes = comes;
       counted = counted;
-      taken = λ input rest may come held h.
+      taken = λ held h.
           let part = cut (held ++ so.out) (so.taken held h) in (
             so.out ++ take part.0 (reply_text output reply),
             subst (λ (b : Bytes). may_hold sink2 b) (append_assoc held so.out (take part.0 (reply_text output reply))) part.2,
-            unwritten_part input (before all rest) all first now new so.turns turn (length so.gone) (length so.gone + count) so.out (reply_text output reply) part.0 (read rest come) (is_next rest come) is_due (stays_further is input may)
+            λ input rest may come. unwritten_part input (before all rest) all first now new so.turns turn (length so.gone) (length so.gone + count) so.out (reply_text output reply) part.0 (read rest come) (is_next rest come) is_due (stays_further is input may)
                 (leads_to_end input so.turns first so.out now (so.leads input (narrows input may))) (leads_to_end input (so.turns ++ turn ∷ []) first (so.out ++ reply_text output reply) new (leads_further is input may)) part.1,
           );
     }

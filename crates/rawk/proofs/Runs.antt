@@ -16,6 +16,7 @@ use Rattle.rawk_machine.specs.Standing.{Standing, MayCome, given_of}
 use Rattle.rawk.specs.declared.report.Report.{Report}
 use Rattle.rawk.specs.declared.report.Cause.TheVariants as cause
 use Rattle.rawk.specs.Reports.{stopped_by, read_failures, write_failures}
+use Rattle.rawk.specs.Reads.{IsUnstood}
 use Rattle.rawk.specs.Preparing as preparing
 use Rattle.rawk.specs.Preparing.{IsReady, IsRefused}
 use Rattle.rawk.specs.Runs.{IsRunOf, Runs, IsRun, points_until, trace_of}
@@ -65,20 +66,29 @@ run_is may_give over drawn may_hold p settings source steps m last sink now repo
       (took.0, took.1, λ rest comes. subst (λ (t : Trace). IsRunOf p t report took.0) (trace_is p settings steps m (before runs.read rest) same none limit) (took.2 rest comes));
 }
 
--- memory was refused before a machine of a program stood
+-- memory was refused before a machine of a program stood: what was read of its source
+pub unstood_took : {S : Type 0} (may_give : S → Input → Type 0) (over : S → Option Ending) (drawn : S → ℕ) (p : Program) (settings : List FirstValue) (source last : S) (steps : ℕ) (code : Listing)
+    → (rest : Input) × may_give last rest → CodeOf p code → Unstood may_give drawn code settings source steps last → IsUnstood may_give over drawn p settings source steps last
+unstood_took may_give over drawn p settings source last steps code some compiled unstood = (
+  unstood.read,
+  record {
+    some = some;
+    given = unstood.given;
+    asked = λ rest comes.
+        let given : Given = record { input = before unstood.read rest; sets = []; steps = steps } in
+        asked_of p settings given code 1 unstood.read compiled (asked_wider code settings given 0 1 unstood.read (omega arith) (unstood.asked rest comes));
+    counted = unstood.counted;
+    failed = λ other. absurd (cc other);
+  },
+)
+
+-- and what is reported
 pub unstood_is : {S V : Type 0} (may_give : S → Input → Type 0) (over : S → Option Ending) (drawn : S → ℕ) (may_hold : V → Bytes → Type 0) (p : Program) (settings : List FirstValue) (source last : S) (steps : ℕ) (sink : V) (code : Listing) (report : Report)
     → (rest : Input) × may_give last rest → FirstOutputLaw → CodeOf p code → Unstood may_give drawn code settings source steps last → report ≡ stopped_by (cause.Faulted OutOfMemory) 0 → IsRun may_give over drawn may_hold p settings source last steps sink sink report
 unstood_is may_give over drawn may_hold p settings source last steps sink code report some first compiled unstood is =
+    let took = unstood_took may_give over drawn p settings source last steps code some compiled unstood in
     subst (λ (r : Report). IsRun may_give over drawn may_hold p settings source last steps sink sink r) (sym is)
-    (not_stood may_give over drawn may_hold p settings source last steps sink sink unstood.read first refl (record {
-      some = some;
-      given = unstood.given;
-      asked = λ rest comes.
-          let given : Given = record { input = before unstood.read rest; sets = []; steps = steps } in
-          asked_of p settings given code 1 unstood.read compiled (asked_wider code settings given 0 1 unstood.read (omega arith) (unstood.asked rest comes));
-      counted = unstood.counted;
-      failed = λ other. absurd (cc other);
-    }))
+    (not_stood may_give over drawn may_hold p settings source last steps sink sink took.0 first refl took.1)
 
 -- nothing ran
 pub reported_refused : {S V : Type 0} (may_give : S → Input → Type 0) (over : S → Option Ending) (drawn : S → ℕ) (may_hold : V → Bytes → Type 0) (text : Bytes) (settings : List FirstValue) (source : S) (steps : ℕ) (sink : V) (report : Report)

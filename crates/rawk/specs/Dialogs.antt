@@ -1,10 +1,11 @@
 -- The dialog of a session: the lines of its commands, and what was written of the answers.
-use Rattle.std.specs.Prelude.{◌≡◌, ℕ, ◌-◌, ◌^◌, ◌<◌, ◌≤◌, ◌⊎◌, Bool, true, false, List, [], ◌∷◌, ◌++◌, length, None, Ok, Err}
+use Rattle.std.specs.Prelude.{◌≡◌, ℕ, ◌-◌, ◌^◌, ◌<◌, ◌≤◌, ◌⊎◌, Bool, true, false, List, [], ◌∷◌, ◌++◌, length, Option, None, Ok, Err}
 use Rattle.rawk_value.specs.Values.{Bytes}
 use Rattle.rawk_value.specs.declared.fault.Fault.TheVariants.{OutOfMemory, ReadFailed, WriteFailed}
 use Rattle.rawk_tape.specs.Records.{Input, next_record}
 use Rattle.rawk_tape.specs.Inputs.{CountsUp, before}
 use Rattle.rawk_tape.specs.Lines.{IsDue, IsEndless, IsNextLine, newline}
+use Rattle.rawk_tape.specs.declared.source.Ending.{Ending}
 use Rattle.rawk_tape.specs.declared.lines.NoLine.{NoLine}
 use Rattle.rawk_tape.specs.declared.lines.NoLine.TheVariants as no_line
 use Rattle.rawk_code.specs.Laws.{IsBeginning}
@@ -17,6 +18,7 @@ use Rattle.rawk.specs.declared.dialog.Over.TheVariants.{Ended, Unread, Unwritten
 use Rattle.rawk.specs.declared.report.Report.{Report}
 use Rattle.rawk.specs.declared.report.Cause.TheVariants as cause
 use Rattle.rawk.specs.Reports.{stopped_by}
+use Rattle.rawk.specs.Reads.{WasDrawn}
 
 -- this became of the next line: one that was passed over has 65,536 bytes and more
 abbrev pub IsNextTurn : Input → ℕ → Turn → ℕ → Type 0
@@ -65,19 +67,20 @@ report_over Unread = stopped_by (cause.Faulted ReadFailed) 0
 report_over Unwritten = stopped_by (cause.Faulted WriteFailed) 0
 report_over TooMany = stopped_by (cause.Faulted OutOfMemory) 0
 
--- A dialog was held on a machine, from where its session stood first: this was read of the commands, and on each input that might be, with commands that might be, the sink took what was written of it.
+-- A dialog was held on a machine, from where its session stood first: this was read of the commands, and the sink took what was written of it, on each input that might be and with commands that might be.
 pub record Speaks {M C V : Type 0} (may_be : M → Input → Type 0) (may_give : C → Input → Type 0) (handed : C → ℕ) (may_hold : V → Bytes → Type 0) (first last : Stand) (machine : M) (commands new : C) (sink now : V) (over : Over) : Type 0 where
   pub read : Bytes
   pub comes : (rest : Input) → may_give new rest → may_give commands (before read rest)
   pub counted : CountsUp (handed commands) (handed new) (length read)
-  pub taken : (input rest : Input) → may_be machine input → may_give new rest → (held : Bytes) → may_hold sink held → (taken : Bytes) × may_hold now (held ++ taken) × IsDialog input (before read rest) read first last over taken
+  pub taken : (held : Bytes) → may_hold sink held → (taken : Bytes) × may_hold now (held ++ taken)
+      × ((input rest : Input) → may_be machine input → may_give new rest → IsDialog input (before read rest) read first last over taken)
 
--- A dialog was held from where a session stood first, on an input that might be and with commands that might be, of which this was read: the sink took what was written of it.
-pub record IsHeld {V : Type 0} (may_be : Input → Type 0) (asks : Bytes → Input → Type 0) (may_hold : V → Bytes → Type 0) (first : Stand) (sink now : V) (over : Over) : Type 0 where
-  pub input : Input
-  pub read : Bytes
-  pub asked : Input
+-- A dialog was held from where a session stood first, and so the program's source was left: this was read of it and this of the commands, and the sink took what was written of the dialog, whatever may still come of the source and whatever the commands may be of which this was read.
+pub record IsHeld {S V : Type 0} (may_give : S → Input → Type 0) (over : S → Option Ending) (handed : S → ℕ) (asks : Bytes → Input → Type 0) (may_hold : V → Bytes → Type 0) (source left : S) (first : Stand) (sink now : V) (end : Over) : Type 0 where
   pub last : Stand
-  pub may : may_be input
-  pub gives : asks read asked
-  pub taken : (held : Bytes) → may_hold sink held → (taken : Bytes) × may_hold now (held ++ taken) × IsDialog input asked read first last over taken
+  pub drawn : Bytes
+  pub read : Bytes
+  pub drew : WasDrawn may_give over handed source left last.machine drawn
+  pub gives : (asked : Input) × asks read asked
+  pub taken : (held : Bytes) → may_hold sink held → (taken : Bytes) × may_hold now (held ++ taken)
+      × ((rest asked : Input) → may_give left rest → asks read asked → IsDialog (before drawn rest) asked read first last end taken)

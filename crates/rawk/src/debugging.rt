@@ -1,13 +1,12 @@
 //! Sessions, answered as they go.
 
-ghost use Rattle.std.specs.Prelude.{◌≡◌, ◌≤◌, [], true, ℕ, None, IfOk, OnErr};
+ghost use Rattle.std.specs.Prelude.{◌≡◌, ◌≤◌, [], true, None, IfOk, IfErr, OnErr};
 ghost use Rattle.rawk_tape.specs.Inputs.{CountsUp, cut_off, left_from};
-ghost use Rattle.rawk_tape.specs.Records.{Input};
 ghost use Rattle.rawk_history.specs.Keeping.{keeps_any};
 ghost use Rattle.rawk_code.specs.Correct.{CodeOf};
 ghost use Rattle.rawk_machine.specs.Standing.{MayCome};
-ghost use Rattle.rawk.specs.Staged.{position_of};
-ghost use Rattle.rawk.specs.Reads.{WasRead};
+ghost use Rattle.rawk.specs.Staged.{position_of, work_of};
+ghost use Rattle.rawk.specs.Reads.{IsUnheld, IsUnstood, ReadsOf, WasRead};
 ghost use Rattle.rawk.specs.Reports.{read_failures, write_failures};
 ghost use Rattle.rawk.specs.Dialogs.{IsHeld, report_over};
 ghost use Rattle.rawk_limits.specs.History.{IsHistory};
@@ -16,6 +15,7 @@ ghost use Rattle.rawk.specs.Debugs.{Debugs, asks_all, first_position, first_stan
 use crate::dialog::{Over, hold};
 use crate::preparing::{Prepared, prepare};
 use crate::report::{Cause, Report, stopped};
+use crate::running::Finished;
 use crate::stage::Stage;
 use rawk_code::Settings;
 use rawk_debug::{Session, Stepper};
@@ -42,29 +42,40 @@ fn report_of(over: Over) -> Report
     }
 }
 
-/// Holds a session on a machine, from where it stands, with commands from a source.
+/// A dialog that is over.
+#[derive(Drop)]
+struct Held<R: Source + Drop> {
+    /// How it is over.
+    over: Over,
+    /// The program's source, as it was left.
+    source: R,
+}
+
+/// Holds a session on a machine, from where it stands, with commands from a source, and hands the program's source back.
 fn session_on<M: Stepper, C: Source, W: Sink>(
     alloc: Global,
     machine: M,
     mut lines: Lines,
     commands: &mut C,
     sink: &mut W,
-) -> Over
+) -> Held<M::Device>
     requires fresh { lines ≡ record { bytes = []; over = None; taken = 0 } }
     requires unread { C.over commands.old ≡ None }
-    ensures held { IsHeld (M.may_be machine) (WasRead C.may_give C.handed commands.old commands.new) W.may_hold (stand_at (M.position machine)) sink.old sink.new result }
-    ensures failures { CountsUp (W.failures sink.old) (W.failures sink.new) (write_failures (report_over result).cause) }
-    ensures read { CountsUp (C.failures commands.old) (C.failures commands.new) (read_failures (report_over result).cause) }
+    ensures held { (source : M.Device) → ReadsOf M.Device.may_give M.Device.handed (M.may_be machine) (M.work machine) source
+        → IsHeld M.Device.may_give M.Device.over M.Device.handed (WasRead C.may_give C.handed commands.old commands.new) W.may_hold source result.source (stand_at (M.position machine)) sink.old sink.new result.over }
+    ensures failures { CountsUp (W.failures sink.old) (W.failures sink.new) (write_failures (report_over result.over).cause) }
+    ensures read { CountsUp (C.failures commands.old) (C.failures commands.new) (read_failures (report_over result.over).cause) }
 {
     let mut session = Session::new(alloc, machine);
     let over = hold(alloc, &mut session, &mut lines, commands, sink);
-    session.machine().known();
-    drop(session);
     drop(lines);
-    over
+    let machine = session.into_machine();
+    machine.known();
+    let source = machine.into_source();
+    Held { over, source }
 }
 
-/// The machine of a program, with the program, before its first step. It fails where memory is refused.
+/// The machine of a program, with the program, before its first step. It fails where memory is refused, and then hands the source back.
 fn stage_of<R: Source + Drop, K: Keeper>(
     alloc: Global,
     settings: &Settings,
@@ -72,27 +83,27 @@ fn stage_of<R: Source + Drop, K: Keeper>(
     source: R,
     keeper: K,
     steps: u64,
-) -> Result<Stage<R, K>, AllocError>
+) -> Result<Stage<R, K>, R>
     requires compiled { CodeOf prepared.program prepared.code }
     requires open { R.over source ≡ None }
     requires empty { K.kept keeper ≡ [] }
     requires keeps { keeps_any (K.limit keeper) ≡ true }
     ensures position { IfOk result (λ s. position_of s.program s.machine ≡ first_position prepared.program settings.now steps (K.limit keeper)) }
-    ensures may { IfOk result (λ s. (input : Input) → MayCome R.may_give s.machine [] input → R.may_give source input) }
+    ensures reads { IfOk result (λ s. ReadsOf R.may_give R.handed (MayCome R.may_give s.machine []) (work_of s.machine) source) }
+    ensures err { IfErr result (λ left. IsUnstood R.may_give R.over R.handed prepared.program settings.now source steps left) }
 {
     let Prepared { program, code } = prepared;
-    let machine = match Machine::new(alloc, code, settings, source, keeper, steps) {
-        Ok(machine) => machine,
-        Err((refused, source)) => {
+    match Machine::new(alloc, code, settings, source, keeper, steps) {
+        Ok(machine) => Ok(Stage::new(program, machine)),
+        Err((_, source)) => {
             drop(program);
-            drop(source);
-            return Err(refused);
+            Err(source)
         }
-    };
-    Ok(Stage::new(program, machine))
+    }
 }
 
-/// Holds a session over a program that is ready to run, under a keeper that keeps. It fails where memory is refused before the session stands.
+/// Holds a session over a program that is ready to run, under a keeper that keeps, and hands the program's source back. It fails where memory is refused
+/// before the session stands.
 fn session_over<R: Source + Drop, K: Keeper, C: Source, W: Sink>(
     alloc: Global,
     settings: &Settings,
@@ -102,29 +113,38 @@ fn session_over<R: Source + Drop, K: Keeper, C: Source, W: Sink>(
     commands: &mut C,
     sink: &mut W,
     steps: u64,
-) -> Result<Over, AllocError>
+) -> Result<Held<R>, R>
     requires compiled { CodeOf prepared.program prepared.code }
     requires open { R.over source ≡ None }
     requires unread { C.over commands.old ≡ None }
     requires empty { K.kept keeper ≡ [] }
     requires keeps { keeps_any (K.limit keeper) ≡ true }
-    ensures held { IfOk result (IsHeld (R.may_give source) (WasRead C.may_give C.handed commands.old commands.new) W.may_hold (first_stand prepared.program settings.now steps (K.limit keeper)) sink.old sink.new) }
-    ensures failures { IfOk result (λ over. CountsUp (W.failures sink.old) (W.failures sink.new) (write_failures (report_over over).cause)) }
-    ensures read { IfOk result (λ over. CountsUp (C.failures commands.old) (C.failures commands.new) (read_failures (report_over over).cause)) }
+    ensures held { IfOk result (λ h. IsHeld R.may_give R.over R.handed (WasRead C.may_give C.handed commands.old commands.new) W.may_hold source h.source (first_stand prepared.program settings.now steps (K.limit keeper)) sink.old sink.new h.over) }
+    ensures failures { IfOk result (λ h. CountsUp (W.failures sink.old) (W.failures sink.new) (write_failures (report_over h.over).cause)) }
+    ensures read { IfOk result (λ h. CountsUp (C.failures commands.old) (C.failures commands.new) (read_failures (report_over h.over).cause)) }
+    ensures left { IfErr result (λ left. IsUnheld R.may_give R.over R.handed prepared.program settings.now source steps left) }
     ensures err { OnErr result (sink.new ≡ sink.old) }
     ensures none { OnErr result (commands.new ≡ commands.old) }
 {
-    let stage = stage_of(alloc, settings, prepared, source, keeper, steps)?;
-    match Lines::new(alloc) {
-        Ok(lines) => Ok(session_on(alloc, stage, lines, commands, sink)),
-        Err(refused) => {
-            drop(stage);
-            Err(refused)
+    let lines = match Lines::new(alloc) {
+        Ok(lines) => lines,
+        Err(_) => {
+            drop(prepared);
+            drop(keeper);
+            return Err(source);
+        }
+    };
+    match stage_of(alloc, settings, prepared, source, keeper, steps) {
+        Ok(stage) => Ok(session_on(alloc, stage, lines, commands, sink)),
+        Err(source) => {
+            drop(lines);
+            Err(source)
         }
     }
 }
 
-/// Holds a session over a program that is ready to run, and keeps so many steps, or all. It fails where memory is refused before the session stands.
+/// Holds a session over a program that is ready to run, keeps so many steps, or all, and hands the program's source back. It fails where memory is refused
+/// before the session stands.
 fn session_kept<R: Source + Drop, C: Source, W: Sink>(
     alloc: Global,
     settings: &Settings,
@@ -134,14 +154,15 @@ fn session_kept<R: Source + Drop, C: Source, W: Sink>(
     sink: &mut W,
     steps: u64,
     history: Option<u64>,
-) -> Result<Over, AllocError>
+) -> Result<Held<R>, R>
     requires compiled { CodeOf prepared.program prepared.code }
     requires history { IsHistory history }
     requires open { R.over source ≡ None }
     requires unread { C.over commands.old ≡ None }
-    ensures held { IfOk result (IsHeld (R.may_give source) (WasRead C.may_give C.handed commands.old commands.new) W.may_hold (first_stand prepared.program settings.now steps history) sink.old sink.new) }
-    ensures failures { IfOk result (λ over. CountsUp (W.failures sink.old) (W.failures sink.new) (write_failures (report_over over).cause)) }
-    ensures read { IfOk result (λ over. CountsUp (C.failures commands.old) (C.failures commands.new) (read_failures (report_over over).cause)) }
+    ensures held { IfOk result (λ h. IsHeld R.may_give R.over R.handed (WasRead C.may_give C.handed commands.old commands.new) W.may_hold source h.source (first_stand prepared.program settings.now steps history) sink.old sink.new h.over) }
+    ensures failures { IfOk result (λ h. CountsUp (W.failures sink.old) (W.failures sink.new) (write_failures (report_over h.over).cause)) }
+    ensures read { IfOk result (λ h. CountsUp (C.failures commands.old) (C.failures commands.new) (read_failures (report_over h.over).cause)) }
+    ensures left { IfErr result (λ left. IsUnheld R.may_give R.over R.handed prepared.program settings.now source steps left) }
     ensures err { OnErr result (sink.new ≡ sink.old) }
     ensures none { OnErr result (commands.new ≡ commands.old) }
 {
@@ -156,21 +177,23 @@ fn session_kept<R: Source + Drop, C: Source, W: Sink>(
             Ok(ring) => session_over(
                 alloc, settings, prepared, source, ring, commands, sink, steps,
             ),
-            Err(refused) => {
+            Err(_) => {
                 drop(prepared);
-                drop(source);
-                Err(refused)
+                Err(source)
             }
         },
     }
 }
 
 /// Holds a session on the program's text, with commands from a source of their own, and writes the answers to a sink, each one before the next command
-/// is read, and none is read behind `quit`. `history` is how many steps it keeps, to go back over; without one it keeps all.
+/// is read, and none is read behind `quit`. `history` is how many steps it keeps, to go back over; without one it keeps all. It hands the program's source
+/// back: what was read of that settles what is answered, whatever may still come. A session that stands at a failed read when it is over has a source that
+/// failed.
 ///
 /// The report has status 0, but for: a refusal of the text (P1 to P10) or of a first value (S1), where nothing was written; F11, where the sink failed;
 /// F12, where memory was refused before the session stood, or where 2^64 - 1 commands were answered, or one of so many bytes was refused memory; F10, exactly where
-/// a read of the commands failed. Where the session did not stand, no command was read. What else a session meets, it answers: want of memory for the reading of a
+/// a read of the commands failed. Where the session did not stand, no command was read, and of the program's source nothing either, but where memory was
+/// refused on the way to point 0. What else a session meets, it answers: want of memory for the reading of a
 /// command, which has 65,536 bytes or more then, by C11, and passes the command over.
 pub fn debug_from<R: Source + Drop, C: Source, W: Sink>(
     alloc: Global,
@@ -181,24 +204,31 @@ pub fn debug_from<R: Source + Drop, C: Source, W: Sink>(
     sink: &mut W,
     steps: u64,
     history: Option<u64>,
-) -> Report
+) -> Finished<R>
     requires limit { steps ≤ 9223372036854775807 }
     requires history { IsHistory history }
     requires open { R.over source ≡ None }
     requires unread { C.over commands.old ≡ None }
-    ensures reported { Debugs R.may_give (WasRead C.may_give C.handed commands.old commands.new) (commands.new ≡ commands.old) W.may_hold program.now settings.now source steps history sink.old sink.new result }
-    ensures failures { CountsUp (W.failures sink.old) (W.failures sink.new) (write_failures result.cause) }
-    ensures read { CountsUp (C.failures commands.old) (C.failures commands.new) (read_failures result.cause) }
+    ensures reported { Debugs R.may_give R.over R.handed (WasRead C.may_give C.handed commands.old commands.new) (commands.new ≡ commands.old) W.may_hold program.now settings.now source result.source steps history sink.old sink.new result.report }
+    ensures failures { CountsUp (W.failures sink.old) (W.failures sink.new) (write_failures result.report.cause) }
+    ensures read { CountsUp (C.failures commands.old) (C.failures commands.new) (read_failures result.report.cause) }
 {
     let prepared = match prepare(alloc, settings, program) {
         Ok(prepared) => prepared,
-        Err(report) => return report,
+        Err(report) => return Finished { report, source },
     };
     match session_kept(
         alloc, settings, prepared, source, commands, sink, steps, history,
     ) {
-        Ok(over) => report_of(over),
-        Err(_) => stopped(Cause::Faulted(Fault::OutOfMemory), 0),
+        Ok(held) => {
+            let Held { over, source } = held;
+            let report = report_of(over);
+            Finished { report, source }
+        }
+        Err(source) => {
+            let report = stopped(Cause::Faulted(Fault::OutOfMemory), 0);
+            Finished { report, source }
+        }
     }
 }
 
@@ -221,18 +251,21 @@ pub fn debug_with<R: Source + Drop, W: Sink>(
     sink: &mut W,
     steps: u64,
     history: Option<u64>,
-) -> Report
+) -> Finished<R>
     requires limit { steps ≤ 9223372036854775807 }
     requires history { IsHistory history }
     requires open { R.over source ≡ None }
-    ensures reported { Debugs R.may_give (asks_all commands.now) (Unit {0}) W.may_hold program.now settings.now source steps history sink.old sink.new result }
-    ensures failures { CountsUp (W.failures sink.old) (W.failures sink.new) (write_failures result.cause) }
+    ensures reported { Debugs R.may_give R.over R.handed (asks_all commands.now) (Unit {0}) W.may_hold program.now settings.now source result.source steps history sink.old sink.new result.report }
+    ensures failures { CountsUp (W.failures sink.old) (W.failures sink.new) (write_failures result.report.cause) }
 {
     match source_of(alloc, commands) {
         Ok(mut lines) => debug_from(
             alloc, settings, program, source, &mut lines, sink, steps, history,
         ),
-        Err(_) => stopped(Cause::Faulted(Fault::OutOfMemory), 0),
+        Err(_) => Finished {
+            report: stopped(Cause::Faulted(Fault::OutOfMemory), 0),
+            source,
+        },
     }
 }
 
@@ -245,11 +278,11 @@ pub fn debug<R: Source + Drop, W: Sink>(
     commands: &[u8],
     sink: &mut W,
     steps: u64,
-) -> Report
+) -> Finished<R>
     requires limit { steps ≤ 9223372036854775807 }
     requires open { R.over source ≡ None }
-    ensures reported { Debugs R.may_give (asks_all commands.now) (Unit {0}) W.may_hold program.now settings.now source steps None sink.old sink.new result }
-    ensures failures { CountsUp (W.failures sink.old) (W.failures sink.new) (write_failures result.cause) }
+    ensures reported { Debugs R.may_give R.over R.handed (asks_all commands.now) (Unit {0}) W.may_hold program.now settings.now source result.source steps None sink.old sink.new result.report }
+    ensures failures { CountsUp (W.failures sink.old) (W.failures sink.new) (write_failures result.report.cause) }
 {
     debug_with(
         alloc, settings, program, source, commands, sink, steps, None,

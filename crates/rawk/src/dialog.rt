@@ -7,6 +7,7 @@ ghost use Rattle.rawk_tape.specs.Lines.{FindsNone, failures_at};
 ghost use Rattle.rawk_tape.specs.Records.{Input};
 ghost use Rattle.rawk_debug.specs.Sessions.{stand, machine_of};
 ghost use Rattle.rawk_debug.specs.Transcript.{reply_text};
+ghost use Rattle.rawk_debug.specs.Works.{Draws};
 ghost use Rattle.rawk.specs.Reports.{read_failures, write_failures};
 ghost use Rattle.rawk.specs.Dialogs.{Speaks, over_by, quits_by, report_over};
 ghost use Rattle.rawk.specs.Turns.{TakesTurn};
@@ -66,6 +67,7 @@ fn take_turn<M: Stepper, C: Source>(
     ensures few { OnOk result (lines.old.taken < 2 ^ 64 - 1) }
     ensures same { OnErr result (session.new ≡ session.old) }
     ensures narrows { (input : Input) → M.may_be (machine_of session.new) input → M.may_be (machine_of session.old) input }
+    ensures draws { Draws M.Device.over M.Device.handed (M.work (machine_of session.old)) (M.work (machine_of session.new)) }
     ensures reported { OnOk result (C.over commands.new ≡ lines.new.over) }
     ensures unfailed { OnOk result (lines.new.over ≢ Some Failed) }
     ensures unfailing { OnOk result (CountsUp (C.failures commands.old) (C.failures commands.new) 0) }
@@ -98,7 +100,7 @@ fn write_reply<W: Sink>(sink: &mut W, output: &[u8], reply: &Reply) -> Result<()
 /// Carries out each line of the commands when it is read, and hands its answer on before the next one is asked for, until the commands
 /// are at their end, one of them is `quit`, or a device fails. A line ends at a newline; the last one needs none. A line that was
 /// carried out is let go; one for whose reading memory is refused is passed over, and its answer says so. The commands are read only
-/// while the bytes kept do not hold the end of the line that is due.
+/// while the bytes kept do not hold the end of the line that is due. A program's source that is over is asked for nothing.
 pub fn hold<M: Stepper, C: Source, W: Sink>(
     alloc: Global,
     session: &mut Session<M>,
@@ -110,6 +112,7 @@ pub fn hold<M: Stepper, C: Source, W: Sink>(
     requires open { C.over commands.old ≡ None }
     ensures speaks { Speaks M.may_be C.may_give C.handed W.may_hold (stand M.position session.old) (stand M.position session.new) (machine_of session.new) commands.old commands.new sink.old sink.new result }
     ensures narrows { (input : Input) → M.may_be (machine_of session.new) input → M.may_be (machine_of session.old) input }
+    ensures draws { Draws M.Device.over M.Device.handed (M.work (machine_of session.old)) (M.work (machine_of session.new)) }
     ensures failures { CountsUp (W.failures sink.old) (W.failures sink.new) (write_failures (report_over result).cause) }
     ensures unread { CountsUp (C.failures commands.old) (C.failures commands.new) (read_failures (report_over result).cause) }
 {

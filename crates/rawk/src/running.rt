@@ -133,7 +133,7 @@ fn run_machine<R: Source + Drop, W: Sink>(
     }
 }
 
-/// A run that is over.
+/// A run or a session that is over.
 #[derive(Drop)]
 pub struct Finished<R: Source + Drop> {
     /// What is reported of it.

@@ -178,7 +178,7 @@ fn hold_session<R: Files + AllocGlobal + Input + Print + Eprint>(
     };
     let commands = input_of(rt, commands)?;
     let input = input_of(rt, &invocation.input)?;
-    let report = debug_from(
+    let finished = debug_from(
         alloc,
         &invocation.settings,
         program,
@@ -188,6 +188,8 @@ fn hold_session<R: Files + AllocGlobal + Input + Print + Eprint>(
         invocation.steps,
         invocation.history,
     );
+    let Finished { report, source } = finished;
+    drop(source);
     let flushed = buffer.flush();
     Ok(ended(rt, flushed, &report))
 }

@@ -3,7 +3,7 @@
 
 ghost use Rattle.std.specs.Prelude.{◌≡◌, None, IfOk};
 
-use rawk::{BytesSink, BytesSource, Settings, debug_from};
+use rawk::{BytesSink, BytesSource, Finished, Settings, debug_from};
 use std::alloc::{AllocError, Global};
 
 /// How many lines the input has: each costs three steps.
@@ -30,23 +30,24 @@ fn input(alloc: Global) -> Result<Vec<u8>, AllocError> {
 
 /// What the session answers.
 pub fn answered(alloc: Global) -> Result<Vec<u8>, AllocError> {
-    let mut source = source_of(input(alloc)?, alloc);
+    let source = source_of(input(alloc)?, alloc);
     let mut commands = source_of(
         Vec::from_slice(alloc, b"c\nprint s\nrc\nprint s\nc\nprint s\n")?,
         alloc,
     );
     let mut sink = BytesSink::new(alloc, None);
     let settings = Settings::new(alloc);
-    let report = debug_from(
+    let finished = debug_from(
         alloc,
         &settings,
         b"{ s += $1 }",
-        &mut source,
+        source,
         &mut commands,
         &mut sink,
         STEPS,
         None,
     );
+    let Finished { report, source } = finished;
     drop(settings);
     drop(commands);
     let handed = source.handed();

@@ -11,7 +11,8 @@
 ghost use Rattle.std.specs.Prelude.{◌≡◌, None};
 
 use rawk::{
-    BytesSink, BytesSource, Invocation, Report, S, Settings, Text, debug_with, run, settings_of,
+    BytesSink, BytesSource, Finished, Invocation, Report, S, Settings, Text, debug_with, run,
+    settings_of,
 };
 use rows_cases::setting_of;
 use std::alloc::{AllocError, Global};
@@ -198,16 +199,21 @@ fn reported(
         _ => &[],
     };
     match plan.commands {
-        Some(commands) => debug_with(
-            alloc,
-            &plan.settings,
-            program,
-            source,
-            commands,
-            sink,
-            invocation.steps,
-            invocation.history,
-        ),
+        Some(commands) => {
+            let finished = debug_with(
+                alloc,
+                &plan.settings,
+                program,
+                source,
+                commands,
+                sink,
+                invocation.steps,
+                invocation.history,
+            );
+            let Finished { report, source } = finished;
+            drop(source);
+            report
+        }
         None => run(
             alloc,
             &plan.settings,

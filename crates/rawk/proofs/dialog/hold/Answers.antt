@@ -3,6 +3,7 @@ use Rattle.rawk_debug.specs.declared.session.Session.{Session}
 use Rattle.rawk_value.specs.Values.{Bytes}
 use Rattle.rawk_debug.specs.Transcript.{reply_text}
 use Rattle.rawk_debug.specs.Sessions.{stand, machine_of}
+use Rattle.rawk_debug.specs.Works.{draws_none, draws_on}
 use Rattle.rawk_tape.specs.Lines.{LinesState, failures_at}
 use Rattle.rawk.specs.declared.dialog.Over.{Over}
 use Rattle.rawk.specs.Reports.{read_failures, write_failures}
@@ -14,6 +15,7 @@ use Rattle.rawk.proofs.dialog.hold.Goals as goal
 pub lines-init : goal.lines-init
 lines-init g c = record {
   so = begun g.M.Stepper.may_be g.C.Source.may_give g.C.Source.handed g.W.Sink.may_hold (stand g.M.Stepper.position c.args.session.now) (machine_of c.args.session.now) c.args.commands.now c.args.lines.now c.args.sink.now c.requires.fresh;
+  draws = draws_none g.M.Device.Source.over g.M.Device.Source.handed (g.M.Stepper.work (machine_of c.args.session.now)) (g.M.Stepper.work (machine_of c.args.session.now)) refl;
   reported = c.requires.open ∙ sym (ap (λ (l : LinesState). l.over) c.requires.fresh);
   unfailed = not_failed c.args.lines.now.over (ap (λ (l : LinesState). l.over) c.requires.fresh);
   failures = none_counted (g.W.Sink.failures c.args.sink.now);
@@ -39,11 +41,19 @@ returns-in-Err-clause-unread g c =
     counted (g.C.Source.failures c.args.commands.now) (g.C.Source.failures c.lines.commands) (g.C.Source.failures c.take_turn.new.commands) (failures_at c.in-Err.why) (read_failures (report_over c.from.result).cause) c.lines.invariant.unread c.in-Err.ensures.failures
     (reads_reported c.in-Err.why ∙ ap (λ (o : Over). read_failures (report_over o).cause) (sym c.from.ensures))
 
+pub returns-in-Err-clause-draws : goal.returns-in-Err-clause-draws
+returns-in-Err-clause-draws g c =
+    draws_on g.M.Device.Source.over g.M.Device.Source.handed (g.M.Stepper.work (machine_of c.args.session.now)) (g.M.Stepper.work (machine_of c.lines.session)) (g.M.Stepper.work (machine_of c.take_turn.new.session)) c.lines.invariant.draws c.take_turn.ensures.draws
+
 -- the line is `quit`
 pub returns-then-quits-clause-speaks : goal.returns-then-quits-clause-speaks
 returns-then-quits-clause-speaks g c =
     quitted g.M.Stepper.may_be g.C.Source.may_give g.C.Source.handed g.W.Sink.may_hold (stand g.M.Stepper.position c.args.session.now) (stand g.M.Stepper.position c.lines.session) (machine_of c.args.session.now) (machine_of c.lines.session) c.args.commands.now c.lines.commands c.take_turn.new.commands c.lines.lines c.args.sink.now c.lines.sink c.lines.invariant.so c.in-Ok.ensures.takes.all c.in-Ok.ensures.takes.reads
     (machine_of c.take_turn.new.session) (stand g.M.Stepper.position c.take_turn.new.session) c.lines.sink c.in-Ok.ensures.takes.turn c.in-Ok.ensures.takes.count (g.M.Stepper.held (machine_of c.take_turn.new.session)).state.output c.in-Ok.reply c.in-Ok.ensures.takes.next c.take_turn.ensures.narrows c.in-Ok.ensures.takes.carries (sym c.quits.ensures ∙ c.if-quits.true)
+
+pub returns-then-quits-clause-draws : goal.returns-then-quits-clause-draws
+returns-then-quits-clause-draws g c =
+    draws_on g.M.Device.Source.over g.M.Device.Source.handed (g.M.Stepper.work (machine_of c.args.session.now)) (g.M.Stepper.work (machine_of c.lines.session)) (g.M.Stepper.work (machine_of c.take_turn.new.session)) c.lines.invariant.draws c.take_turn.ensures.draws
 
 -- the answer is not written
 pub returns-in-Err-write_reply-clause-speaks : goal.returns-in-Err-write_reply-clause-speaks
@@ -51,11 +61,16 @@ returns-in-Err-write_reply-clause-speaks g c =
     stopped g.M.Stepper.may_be g.C.Source.may_give g.C.Source.handed g.W.Sink.may_hold (stand g.M.Stepper.position c.args.session.now) (stand g.M.Stepper.position c.lines.session) (machine_of c.args.session.now) (machine_of c.lines.session) c.args.commands.now c.lines.commands c.take_turn.new.commands c.lines.lines c.args.sink.now c.lines.sink c.lines.invariant.so c.in-Ok.ensures.takes.all c.in-Ok.ensures.takes.reads
     (machine_of c.take_turn.new.session) (stand g.M.Stepper.position c.take_turn.new.session) c.write_reply.new.sink c.in-Ok.ensures.takes.turn c.in-Ok.ensures.takes.count (g.M.Stepper.held (machine_of c.take_turn.new.session)).state.output c.in-Ok.reply c.in-Ok.ensures.takes.next c.take_turn.ensures.narrows c.in-Ok.ensures.takes.carries (sym c.quits.ensures ∙ c.if-quits.false) (subst (λ (b : Bytes). (held : Bytes) → g.W.Sink.may_hold c.lines.sink held → (size : ℕ) × (size < length (reply_text b c.in-Ok.reply)) × g.W.Sink.may_hold c.write_reply.new.sink (held ++ take size (reply_text b c.in-Ok.reply))) (c.output.ensures ∙ ap (λ (m : g.row.M.Denot). (g.M.Stepper.held m).state.output) c.machine.ensures) c.in-Err-write_reply.ensures.err)
 
+pub returns-in-Err-write_reply-clause-draws : goal.returns-in-Err-write_reply-clause-draws
+returns-in-Err-write_reply-clause-draws g c =
+    draws_on g.M.Device.Source.over g.M.Device.Source.handed (g.M.Stepper.work (machine_of c.args.session.now)) (g.M.Stepper.work (machine_of c.lines.session)) (g.M.Stepper.work (machine_of c.take_turn.new.session)) c.lines.invariant.draws c.take_turn.ensures.draws
+
 -- the next line
 pub lines-preserved : goal.lines-preserved
 lines-preserved g c = record {
   so = answered g.M.Stepper.may_be g.C.Source.may_give g.C.Source.handed g.W.Sink.may_hold (stand g.M.Stepper.position c.args.session.now) (stand g.M.Stepper.position c.lines.session) (machine_of c.args.session.now) (machine_of c.lines.session) c.args.commands.now c.lines.commands c.take_turn.new.commands c.lines.lines c.args.sink.now c.lines.sink c.lines.invariant.so c.in-Ok.ensures.takes.all c.in-Ok.ensures.takes.reads
       (machine_of c.take_turn.new.session) (stand g.M.Stepper.position c.take_turn.new.session) c.write_reply.new.sink c.in-Ok.ensures.takes.turn c.in-Ok.ensures.takes.count (g.M.Stepper.held (machine_of c.take_turn.new.session)).state.output c.in-Ok.reply c.in-Ok.ensures.takes.next c.take_turn.ensures.narrows c.in-Ok.ensures.takes.carries c.take_turn.new.lines c.in-Ok.ensures.takes.within c.in-Ok.ensures.takes.left c.in-Ok.ensures.takes.taken (sym c.quits.ensures ∙ c.if-quits.false) (subst (λ (b : Bytes). (held : Bytes) → g.W.Sink.may_hold c.lines.sink held → g.W.Sink.may_hold c.write_reply.new.sink (held ++ reply_text b c.in-Ok.reply)) (c.output.ensures ∙ ap (λ (m : g.row.M.Denot). (g.M.Stepper.held m).state.output) c.machine.ensures) c.in-Ok-write_reply.ensures.ok);
+  draws = draws_on g.M.Device.Source.over g.M.Device.Source.handed (g.M.Stepper.work (machine_of c.args.session.now)) (g.M.Stepper.work (machine_of c.lines.session)) (g.M.Stepper.work (machine_of c.take_turn.new.session)) c.lines.invariant.draws c.take_turn.ensures.draws;
   reported = c.in-Ok.ensures.reported;
   unfailed = c.in-Ok.ensures.unfailed;
   failures = counted (g.W.Sink.failures c.args.sink.now) (g.W.Sink.failures c.lines.sink) (g.W.Sink.failures c.write_reply.new.sink) 0 0 c.lines.invariant.failures c.in-Ok-write_reply.ensures.failures refl;
@@ -66,6 +81,7 @@ pub lines-preserved-in-Ok-write_reply : goal.lines-preserved-in-Ok-write_reply
 lines-preserved-in-Ok-write_reply g c = record {
   so = answered g.M.Stepper.may_be g.C.Source.may_give g.C.Source.handed g.W.Sink.may_hold (stand g.M.Stepper.position c.args.session.now) (stand g.M.Stepper.position c.lines.session) (machine_of c.args.session.now) (machine_of c.lines.session) c.args.commands.now c.lines.commands c.take_turn.new.commands c.lines.lines c.args.sink.now c.lines.sink c.lines.invariant.so c.in-Ok.ensures.takes.all c.in-Ok.ensures.takes.reads
       (machine_of c.take_turn.new.session) (stand g.M.Stepper.position c.take_turn.new.session) c.write_reply.new.sink c.in-Ok.ensures.takes.turn c.in-Ok.ensures.takes.count (g.M.Stepper.held (machine_of c.take_turn.new.session)).state.output c.in-Ok.reply c.in-Ok.ensures.takes.next c.take_turn.ensures.narrows c.in-Ok.ensures.takes.carries c.take_turn.new.lines c.in-Ok.ensures.takes.within c.in-Ok.ensures.takes.left c.in-Ok.ensures.takes.taken (sym c.quits.ensures ∙ c.if-quits.false) (subst (λ (b : Bytes). (held : Bytes) → g.W.Sink.may_hold c.lines.sink held → g.W.Sink.may_hold c.write_reply.new.sink (held ++ reply_text b c.in-Ok.reply)) (c.output.ensures ∙ ap (λ (m : g.row.M.Denot). (g.M.Stepper.held m).state.output) c.machine.ensures) c.in-Ok-write_reply.ensures.ok);
+  draws = draws_on g.M.Device.Source.over g.M.Device.Source.handed (g.M.Stepper.work (machine_of c.args.session.now)) (g.M.Stepper.work (machine_of c.lines.session)) (g.M.Stepper.work (machine_of c.take_turn.new.session)) c.lines.invariant.draws c.take_turn.ensures.draws;
   reported = c.in-Ok.ensures.reported;
   unfailed = c.in-Ok.ensures.unfailed;
   failures = counted (g.W.Sink.failures c.args.sink.now) (g.W.Sink.failures c.lines.sink) (g.W.Sink.failures c.write_reply.new.sink) 0 0 c.lines.invariant.failures c.in-Ok-write_reply.ensures.failures refl;
