@@ -18,11 +18,11 @@ use Rattle.rawk_tree.specs.declared.tree.Stmt.{Stmt, end_of-Stmt, more_of-Stmt, 
 use Rattle.rawk_tree.specs.declared.tree.Stmt.TheVariants as stmt
 use Rattle.rawk_tree.specs.declared.tree.Function.{Function}
 use Rattle.rawk_tree.specs.declared.tree.Rule.{Rule}
+use Rattle.rawk_tree.specs.declared.tree.Kind.{Kind}
 use Rattle.rawk_tree.specs.declared.tree.Kind.TheVariants as kind
 use Rattle.rawk_tree.specs.declared.tree.Program.{Program}
 use Rattle.rawk_special.specs.declared.special.TheConstants.{COUNT, NR}
 use Rattle.rawk_value.specs.Values.{Bytes}
-use Rattle.rawk_code.specs.declared.code.Op.{Op}
 use Rattle.rawk_code.specs.declared.code.Op.TheVariants as does
 use Rattle.rawk_code.specs.declared.code.Instr.TheVariants as instr
 use Rattle.rawk_code.specs.declared.code.Operand.TheVariants.{Given as Known, Popped, Computed}
@@ -84,10 +84,10 @@ module _ (b : Box (Unit {0}) Global) (ptr : Ptr) (alloc : Global) where
   set g e = expr.Assign' (place.Global g) b e
 
   abbrev call_none : ℕ → Expr
-  call_none f = expr.Call' f none end_of-Expr
+  call_none f = expr.Call' f none end_of-Expr none
 
   abbrev call : ℕ → Expr → Expr
-  call f e = expr.Call' f (one tt) (more_of-Expr e end_of-Expr)
+  call f e = expr.Call' f (one tt) (more_of-Expr e end_of-Expr) none
 
   abbrev only : Stmt → Stmt
   only s = stmt.Block' (one tt) (more_of-Stmt s end_of-Stmt)
@@ -98,8 +98,8 @@ module _ (b : Box (Unit {0}) Global) (ptr : Ptr) (alloc : Global) where
   abbrev idle : Stmt
   idle = stmt.Block' none end_of-Stmt
 
-  abbrev function : Vec Bytes Global → Stmt → Function
-  function parameters body = record { name = codes "f"; parameters = parameters; site = 0; body = body }
+  abbrev function : Vec Bytes Global → Vec Kind Global → Stmt → Function
+  function parameters kinds body = record { name = codes "f"; parameters = parameters; kinds = kinds; site = 0; body = body }
 
   abbrev whole : Function → Vec Stmt Global → Vec Rule Global → Vec Stmt Global → Program
   whole f begin rules end =
@@ -110,7 +110,7 @@ module _ (b : Box (Unit {0}) Global) (ptr : Ptr) (alloc : Global) where
 
   -- function f(n) { x = x + 1; return n * n } BEGIN { y = f(3); print y, x }
   abbrev squaring : Program
-  squaring = whole (function (one (codes "n")) (both (stmt.Do 1 (set x (math Add (variable x) (constant 1)))) (stmt.ReturnWith 2 (math Mul (local 0) (local 0))))) (two (stmt.Do 3 (set y (call 0 (constant 3)))) (stmt.Print 4 (two (variable y) (variable x)))) none none
+  squaring = whole (function (one (codes "n")) (one kind.Scalar) (both (stmt.Do 1 (set x (math Add (variable x) (constant 1)))) (stmt.ReturnWith 2 (math Mul (local 0) (local 0))))) (two (stmt.Do 3 (set y (call 0 (constant 3)))) (stmt.Print 4 (two (variable y) (variable x)))) none none
 
   abbrev squared : Trace
   squared = trace squaring [] (given [] 100)
@@ -160,7 +160,7 @@ module _ (b : Box (Unit {0}) Global) (ptr : Ptr) (alloc : Global) where
   return-here = refl
 
   -- the code: the function stands behind END
-  squaring-code : program_code squaring ≡ instr.Point (Some 3) ∷ instr.Do (does.Push (simple.Number (pos 3))) ∷ instr.Call 0 1 ∷ instr.Do (does.Store (destination.Variable (cell.Global y)) Popped)
+  squaring-code : program_code squaring ≡ instr.Point (Some 3) ∷ instr.Do (does.Push (simple.Number (pos 3))) ∷ instr.Call 0 1 [] ∷ instr.Do (does.Store (destination.Variable (cell.Global y)) Popped)
       ∷ instr.Point (Some 4) ∷ instr.Do (does.Print 0 (simple.Global y ∷ simple.Global x ∷ []))
       ∷ instr.BeginEnd ∷ instr.Halt
       ∷ instr.Point (Some 0)
@@ -169,12 +169,12 @@ module _ (b : Box (Unit {0}) Global) (ptr : Ptr) (alloc : Global) where
       ∷ instr.Return 0 (Known simple.Uninitialized) ∷ []
   squaring-code = refl
 
-  squaring-entries : entries_of squaring ≡ record { place = 8; parameters = 1 } ∷ []
+  squaring-entries : entries_of squaring ≡ record { place = 8; kinds = kind.Scalar ∷ [] } ∷ []
   squaring-entries = refl
 
   -- function f(n) { if (n == 1) return 1; return n * f(n - 1) } BEGIN { print f(3) }
   abbrev factorial : Program
-  factorial = whole (function (one (codes "n")) (both (stmt.If' (one tt) (more_of-Branch 1 (equal (local 0) (constant 1)) (stmt.ReturnWith 2 (constant 1)) end_of-Branch) b idle) (stmt.ReturnWith 3 (math Mul (local 0) (call 0 (math Sub (local 0) (constant 1))))))) (one (stmt.Print 4 (one (call 0 (constant 3))))) none none
+  factorial = whole (function (one (codes "n")) (one kind.Scalar) (both (stmt.If' (one tt) (more_of-Branch 1 (equal (local 0) (constant 1)) (stmt.ReturnWith 2 (constant 1)) end_of-Branch) b idle) (stmt.ReturnWith 3 (math Mul (local 0) (call 0 (math Sub (local 0) (constant 1))))))) (one (stmt.Print 4 (one (call 0 (constant 3))))) none none
 
   factorial-out : out (trace factorial [] (given [] 100)) ≡ codes "6\n"
   factorial-out = refl
@@ -187,18 +187,18 @@ module _ (b : Box (Unit {0}) Global) (ptr : Ptr) (alloc : Global) where
 
   -- function f(a, c) { print a, c, c == 0; c = 7; c += 2; return c++ } BEGIN { x = f(5); print x }: a missing argument is uninitialised, and what a function gives is taken before its locals are gone
   abbrev missing : Program
-  missing = whole (function (two (codes "a") (codes "c")) (both (both (stmt.Print 1 (vec ptr alloc (local 0 ∷ local 1 ∷ equal (local 1) (constant 0) ∷ []) (omega arith))) (stmt.Do 2 (expr.Assign' (place.Local 1) b (constant 7)))) (both (stmt.Do 3 (expr.Update' Add (place.Local 1) b (constant 2))) (stmt.ReturnWith 4 (expr.After Add (place.Local 1)))))) (two (stmt.Do 5 (set x (call 0 (constant 5)))) (stmt.Print 6 (one (variable x)))) none none
+  missing = whole (function (two (codes "a") (codes "c")) (two kind.Scalar kind.Scalar) (both (both (stmt.Print 1 (vec ptr alloc (local 0 ∷ local 1 ∷ equal (local 1) (constant 0) ∷ []) (omega arith))) (stmt.Do 2 (expr.Assign' (place.Local 1) b (constant 7)))) (both (stmt.Do 3 (expr.Update' Add (place.Local 1) b (constant 2))) (stmt.ReturnWith 4 (expr.After Add (place.Local 1)))))) (two (stmt.Do 5 (set x (call 0 (constant 5)))) (stmt.Print 6 (one (variable x)))) none none
 
   missing-out : out (trace missing [] (given [] 100)) ≡ codes "5  1\n9\n"
   missing-out = refl
 
   -- function f(a) { a++ } BEGIN { x = 1; y = f(x); print x, y }: the caller's variable stays, and a body without `return` gives the uninitialised value
-  falling-out : out (trace (whole (function (one (codes "a")) (stmt.Do 1 (expr.After Add (place.Local 0)))) (vec ptr alloc (stmt.Do 2 (set x (constant 1)) ∷ stmt.Do 3 (set y (call 0 (variable x))) ∷ stmt.Print 4 (two (variable x) (variable y)) ∷ []) (omega arith)) none none) [] (given [] 100)) ≡ codes "1 \n"
+  falling-out : out (trace (whole (function (one (codes "a")) (one kind.Scalar) (stmt.Do 1 (expr.After Add (place.Local 0)))) (vec ptr alloc (stmt.Do 2 (set x (constant 1)) ∷ stmt.Do 3 (set y (call 0 (variable x))) ∷ stmt.Print 4 (two (variable x) (variable y)) ∷ []) (omega arith)) none none) [] (given [] 100)) ≡ codes "1 \n"
   falling-out = refl
 
   -- function f() { exit 300 } BEGIN { x = 1 + f(); print "no" } END { print "e" }: END runs with no activations
   abbrev leaving : Trace
-  leaving = trace (whole (function none (stmt.ExitWith 1 (constant 300))) (two (stmt.Do 2 (set x (math Add (constant 1) (call_none 0)))) (stmt.Print 3 (one (expr.Text (codes "no"))))) none (one (stmt.Print 4 (one (expr.Text (codes "e")))))) [] (given (codes "a\n") 100)
+  leaving = trace (whole (function none none (stmt.ExitWith 1 (constant 300))) (two (stmt.Do 2 (set x (math Add (constant 1) (call_none 0)))) (stmt.Print 3 (one (expr.Text (codes "no"))))) none (one (stmt.Print 4 (one (expr.Text (codes "e")))))) [] (given (codes "a\n") 100)
 
   leaving-out : out leaving ≡ codes "e\n"
   leaving-out = refl
@@ -214,7 +214,7 @@ module _ (b : Box (Unit {0}) Global) (ptr : Ptr) (alloc : Global) where
 
   -- function f() { next } { f(); print "no" } END { print NR }
   abbrev passing : Trace
-  passing = trace (whole (function none (stmt.Next 1)) none (one (always 2 (both (stmt.Do 3 (call_none 0)) (stmt.Print 4 (one (expr.Text (codes "no"))))))) (one (stmt.Print 5 (one (variable NR))))) [] (given (codes "a\nb\n") 100)
+  passing = trace (whole (function none none (stmt.Next 1)) none (one (always 2 (both (stmt.Do 3 (call_none 0)) (stmt.Print 4 (one (expr.Text (codes "no"))))))) (one (stmt.Print 5 (one (variable NR))))) [] (given (codes "a\nb\n") 100)
 
   passing-out : out passing ≡ codes "2\n"
   passing-out = refl
@@ -227,7 +227,7 @@ module _ (b : Box (Unit {0}) Global) (ptr : Ptr) (alloc : Global) where
 
   -- function f() { next } BEGIN { f() }: a fault, with the activation still there, at the line of `next`
   abbrev outside : Program
-  outside = whole (function none (stmt.Next 1)) (one (stmt.Do 2 (call_none 0))) none none
+  outside = whole (function none none (stmt.Next 1)) (one (stmt.Do 2 (call_none 0))) none none
 
   outside-ending : (trace outside [] (given [] 100)).ending ≡ Faulted fault.NextOutside
   outside-ending = refl
@@ -240,7 +240,7 @@ module _ (b : Box (Unit {0}) Global) (ptr : Ptr) (alloc : Global) where
 
   -- function f() { print "w"; x = 9223372036854775807 + 1 } BEGIN { f() }: what was written stays, and the line is the callee's
   abbrev failing : Program
-  failing = whole (function none (both (stmt.Print 1 (one (expr.Text (codes "w")))) (stmt.Do 2 (set x (math Add (constant 9223372036854775807) (constant 1)))))) (one (stmt.Do 3 (call_none 0))) none none
+  failing = whole (function none none (both (stmt.Print 1 (one (expr.Text (codes "w")))) (stmt.Do 2 (set x (math Add (constant 9223372036854775807) (constant 1)))))) (one (stmt.Do 3 (call_none 0))) none none
 
   failing-ending : (trace failing [] (given [] 100)).ending ≡ Faulted fault.Overflow
   failing-ending = refl
@@ -256,7 +256,7 @@ module _ (b : Box (Unit {0}) Global) (ptr : Ptr) (alloc : Global) where
 
   -- function f() { return 1 } BEGIN { x = 9223372036854775807 + f() }: the line is the caller's
   abbrev returned : Program
-  returned = whole (function none (stmt.ReturnWith 1 (constant 1))) (one (stmt.Do 3 (set x (math Add (constant 9223372036854775807) (call_none 0))))) none none
+  returned = whole (function none none (stmt.ReturnWith 1 (constant 1))) (one (stmt.Do 3 (set x (math Add (constant 9223372036854775807) (call_none 0))))) none none
 
   returned-ending : (trace returned [] (given [] 100)).ending ≡ Faulted fault.Overflow
   returned-ending = refl
@@ -265,20 +265,20 @@ module _ (b : Box (Unit {0}) Global) (ptr : Ptr) (alloc : Global) where
   returned-line = refl
 
   -- what no text has: a `return` outside of functions and a `break` of a body's own mean what `exit` does, and a call of no function ends the run
-  bare-out : out (trace (whole (function none idle) (two (stmt.Return 1) (stmt.Print 2 (one (constant 1)))) none (one (stmt.Print 3 (one (constant 2))))) [] (given [] 100)) ≡ codes "2\n"
+  bare-out : out (trace (whole (function none none idle) (two (stmt.Return 1) (stmt.Print 2 (one (constant 1)))) none (one (stmt.Print 3 (one (constant 2))))) [] (given [] 100)) ≡ codes "2\n"
   bare-out = refl
 
-  broken-out : out (trace (whole (function none (stmt.Break 1)) (two (stmt.Do 2 (call_none 0)) (stmt.Print 3 (one (constant 1)))) none (one (stmt.Print 4 (one (constant 2))))) [] (given [] 100)) ≡ codes "2\n"
+  broken-out : out (trace (whole (function none none (stmt.Break 1)) (two (stmt.Do 2 (call_none 0)) (stmt.Print 3 (one (constant 1)))) none (one (stmt.Print 4 (one (constant 2))))) [] (given [] 100)) ≡ codes "2\n"
   broken-out = refl
 
-  unknown-out : out (trace (whole (function none idle) (two (stmt.Do 1 (call_none 1)) (stmt.Print 2 (one (constant 1)))) none (one (stmt.Print 3 (one (constant 2))))) [] (given [] 100)) ≡ []
+  unknown-out : out (trace (whole (function none none idle) (two (stmt.Do 1 (call_none 1)) (stmt.Print 2 (one (constant 1)))) none (one (stmt.Print 3 (one (constant 2))))) [] (given [] 100)) ≡ []
   unknown-out = refl
 
   -- PART 2: ranges
 
   -- e, g { print }
   abbrev between : Expr → Expr → Program
-  between e g = whole (function none idle) none (one (record { site = 1; guard = guard.Between 0 e g; action = only (stmt.Print 2 (one (expr.Read (place.Field' b (constant 0))))) })) none
+  between e g = whole (function none none idle) none (one (record { site = 1; guard = guard.Between 0 e g; action = only (stmt.Print 2 (one (expr.Read (place.Field' b (constant 0))))) })) none
 
   abbrev is_record : ℕ → Expr
   is_record n = equal (variable NR) (constant n)

@@ -8,17 +8,16 @@ use Rattle.rawk_value.specs.declared.value.Value.{Value}
 use Rattle.rawk_value.specs.declared.value.Value.TheVariants.{String}
 use Rattle.rawk_value.specs.Values.{Bytes}
 use Rattle.rawk_store.specs.State.{Target, array_keys, without_elements}
-use Rattle.rawk_code.specs.declared.code.Destination.{Destination}
 use Rattle.rawk_code.specs.declared.code.Operand.{Operand}
 use Rattle.rawk_code.specs.declared.code.Instr.{Instr}
 use Rattle.rawk_code.specs.declared.code.Op.TheVariants as does
 use Rattle.rawk_code.specs.declared.code.Instr.TheVariants as instr
 use Rattle.rawk_code.specs.Actions.{Run, Stops, Exits, Nexts, Returns, Leaves, Repeats, Outcome, Goes, Breaks, Action, Effect, and_then, bind, do_first, look, Given, reach, assign, delete_key, clear_array}
-use Rattle.rawk_code.specs.Meaning.{ignore, nothing, continued, left_by, after, each_key, scalar_target, take_key}
+use Rattle.rawk_code.specs.Meaning.{ignore, continued, left_by, after, each_key, scalar_target, take_key}
 use Rattle.rawk_code.specs.Machine.{Places, Config, Going, target_of, past, below, taking, returned, goes_on}
-use Rattle.rawk_code.specs.Steps.{goes_after, assign_keeps, delete_keeps, keeps_same}
+use Rattle.rawk_code.specs.Steps.{goes_after, assign_keeps, delete_keeps}
 use Rattle.rawk_compiler.specs.Code.{Piece, always, unless_ready, keys_around, keys_code, scalar_destination, HasAt}
-use Rattle.rawk_compiler.proofs.Follows.{has_front, has_back, Level, then_assoc, Leads, leads_here, leads_on, one_step, Later, Follows, after_leads, lower, follows_then, same_points, keeps_plain, keyed_runs, instr_runs, reach_plain, point_then}
+use Rattle.rawk_compiler.proofs.Follows.{has_front, has_back, Level, Leads, leads_here, leads_on, one_step, Later, Follows, after_leads, lower, follows_then, keeps_plain, keyed_runs, reach_plain, point_then}
 use Rattle.rawk_compiler.proofs.Expressions.{Seen, Good, operand_then}
 use Rattle.rawk_compiler.proofs.Statements.{Runs}
 

@@ -16,7 +16,6 @@ use Rattle.rawk_tree.specs.declared.tree.Guard.TheVariants.{When, Between}
 use Rattle.rawk_tree.specs.declared.tree.Rule.{Rule}
 use Rattle.rawk_tree.specs.declared.tree.Function.{Function}
 use Rattle.rawk_tree.specs.declared.tree.Program.{Program}
-use Rattle.rawk_value.specs.declared.operator.Arithmetic.{Arithmetic}
 use Rattle.rawk_words.specs.declared.array.Array.{Array}
 use Rattle.rawk_words.specs.declared.operator.Logic.{Logic}
 use Rattle.rawk_compiler.specs.declared.loops.Around.{Around}
@@ -29,11 +28,10 @@ use Rattle.rawk_code.specs.declared.code.Destination.{Destination}
 use Rattle.rawk_code.specs.declared.code.Destination.TheVariants as destination
 use Rattle.rawk_code.specs.declared.code.Entry.{Entry}
 use Rattle.rawk_code.specs.declared.code.Instr.{Instr}
-use Rattle.rawk_code.specs.declared.code.Op.{Op}
 use Rattle.rawk_code.specs.declared.code.Op.TheVariants as does
 use Rattle.rawk_code.specs.declared.code.Instr.TheVariants as instr
 use Rattle.rawk_code.specs.Trace.{reads}
-use Rattle.rawk_compiler.specs.Code.{appending, constant_field, simple_field, unless_constant, destination_of, operand_of, sought_operand, constant_operand, right_operand, unless_ready, pushed, joined, key_code, key_operand, choice_code, decide_code, expr_code, expr_codes, effect_code, place_code, parts_code, link_code, link_codes, front_of, simples_behind, Piece, nowhere, always, in_turn, when_code, Arm, then_to, branch_to, if_code, step_around, body_around, loop_code, keys_around, keys_code, scalar_destination, jump_code, test_code, stmt_code, stmt_codes, arms_of, added, added_to, or_else, closing_code, opened_code, guard_code, rule_code, records_code, main_code, begin_code, record_at_of, end_at_of, functions_at_of, function_code, functions_code, entries_of, program_code, HasAt}
+use Rattle.rawk_compiler.specs.Code.{appending, constant_field, simple_field, unless_constant, destination_of, operand_of, sought_operand, separator_operand, constant_operand, right_operand, unless_ready, pushed, joined, key_code, key_operand, choice_code, decide_code, expr_code, expr_codes, effect_code, place_code, parts_code, link_code, link_codes, front_of, simples_behind, Piece, nowhere, always, in_turn, when_code, Arm, then_to, branch_to, if_code, step_around, body_around, loop_code, keys_around, keys_code, scalar_destination, jump_code, test_code, stmt_code, stmt_codes, arms_of, added, added_to, or_else, closing_code, opened_code, guard_code, rule_code, records_code, main_code, begin_code, record_at_of, end_at_of, functions_at_of, function_code, functions_code, entries_of, program_code, HasAt}
 use Rattle.rawk_code.specs.Valid.{rank_of, rank, IsEntry, Descends, IsValid}
 use Rattle.rawk_compiler.proofs.Follows.{has_front, has_back, has_all}
 use Rattle.rawk_compiler.proofs.Statements.{branches_length}
@@ -128,7 +126,7 @@ module _ (code : List Instr) where
     expr_fine (expr.Update' op q p e) =
         let from = operand_of e in
         fine_append (parts_code q) _ (parts_fine q) (fine_last (unless_ready from (expr_code e)) (instr.Do (does.Update op (destination_of q) from)) (λ pc. tt) (unless_fine from (expr_code e) (expr_fine e)))
-    expr_fine (expr.Call' f shape args) = fine_last (joined (expr_codes args)) (instr.Call f (length (expr_codes args))) (λ pc. tt) (joined_fine (expr_codes args) (exprs_fine args))
+    expr_fine (expr.Call' f shape args arrays) = fine_last (joined (expr_codes args)) (instr.Call f (length (expr_codes args)) arrays.items) (λ pc. tt) (joined_fine (expr_codes args) (exprs_fine args))
     expr_fine (expr.Part' p e q from r count) =
         fine_append (expr_code e) (expr_code from ++ (expr_code count ++ instr.Do does.Part ∷ [])) (expr_fine e) (fine_append (expr_code from) (expr_code count ++ instr.Do does.Part ∷ []) (expr_fine from) (fine_last (expr_code count) (instr.Do does.Part) (λ pc. tt) (expr_fine count)))
     expr_fine (expr.Match' p e q s) =
@@ -137,6 +135,9 @@ module _ (code : List Instr) where
     expr_fine (expr.Replace' extent p s q r place) =
         let from = constant_operand s in
         fine_append (unless_ready from (expr_code s)) _ (unless_fine from (expr_code s) (expr_fine s)) (fine_append (expr_code r) _ (expr_fine r) (fine_last (parts_code place) (instr.Do (does.Replace extent from (destination_of place))) (λ pc. tt) (parts_fine place)))
+    expr_fine (expr.Split' how p e a q by) =
+        let from = separator_operand how by in
+        fine_append (expr_code e) _ (expr_fine e) (fine_last (unless_ready from (expr_code by)) (instr.Do (does.Split how a from)) (λ pc. tt) (unless_fine from (expr_code by) (expr_fine by)))
     expr_fine (expr.Sprintf' p f shape args) =
         fine_append (expr_code f) (joined (expr_codes args) ++ instr.Do (does.Sprintf (length (expr_codes args))) ∷ []) (expr_fine f) (fine_last (joined (expr_codes args)) (instr.Do (does.Sprintf (length (expr_codes args)))) (λ pc. tt) (joined_fine (expr_codes args) (exprs_fine args)))
     expr_fine expr.Getline = fine_cons (instr.ReadRecord 2) _ (λ pc. tt) (fine_cons (instr.Do (does.Push (simple.Number (pos 1)))) _ (λ pc. tt) (fine_cons (instr.GoOn 1) _ (λ pc. tt) (fine_cons (instr.Do (does.Push (simple.Number (pos 0)))) [] (λ pc. tt) fine_none)))
@@ -202,10 +203,11 @@ module _ (code : List Instr) where
   effect_fine (expr.Update' op q p e) =
       let from = operand_of e in
       fine_append (parts_code q) _ (parts_fine q) (fine_last (unless_ready from (expr_code e)) (instr.Do (does.StoreUpdate op (destination_of q) from)) (λ pc. tt) (unless_fine from (expr_code e) (expr_fine e)))
-  effect_fine (expr.Call' f shape args) = fine_last _ (instr.Do does.Pop) (λ pc. tt) (expr_fine (expr.Call' f shape args))
+  effect_fine (expr.Call' f shape args arrays) = fine_last _ (instr.Do does.Pop) (λ pc. tt) (expr_fine (expr.Call' f shape args arrays))
   effect_fine (expr.Part' p e q from r count) = fine_last _ (instr.Do does.Pop) (λ pc. tt) (expr_fine (expr.Part' p e q from r count))
   effect_fine (expr.Match' p e q s) = fine_last _ (instr.Do does.Pop) (λ pc. tt) (expr_fine (expr.Match' p e q s))
   effect_fine (expr.Replace' extent p s q r place) = fine_last _ (instr.Do does.Pop) (λ pc. tt) (expr_fine (expr.Replace' extent p s q r place))
+  effect_fine (expr.Split' how p e a q by) = fine_last _ (instr.Do does.Pop) (λ pc. tt) (expr_fine (expr.Split' how p e a q by))
   effect_fine (expr.Sprintf' p f shape args) = fine_last _ (instr.Do does.Pop) (λ pc. tt) (expr_fine (expr.Sprintf' p f shape args))
   effect_fine expr.Getline = fine_last _ (instr.Do does.Pop) (λ pc. tt) (expr_fine expr.Getline)
   effect_fine (expr.Has' a shape subscripts) = fine_last _ (instr.Do does.Pop) (λ pc. tt) (expr_fine (expr.Has' a shape subscripts))
@@ -540,7 +542,7 @@ module _ (code : List Instr) where
   descends again entries ready begins pc (Some (instr.Point site)) h back = tt
   descends again entries ready begins pc (Some instr.Halt) h back = tt
   descends again entries ready begins pc (Some instr.Quit) h back = tt
-  descends again entries ready begins pc (Some (instr.Call f m)) h back = ready f
+  descends again entries ready begins pc (Some (instr.Call f m arrays)) h back = ready f
   descends again entries ready begins pc (Some (instr.Return held from)) h back = tt
   descends again entries ready begins pc (Some (instr.TakeKeys a)) h back = onward pc (instr.TakeKeys a) h refl (pc + 1) (omega arith)
   descends again entries ready begins pc (Some (instr.AssignKey x)) h back = onward pc (instr.AssignKey x) h refl (pc + 1) (omega arith)

@@ -7,6 +7,7 @@ use Rattle.rawk_value.specs.declared.fault.Fault.TheVariants.{NextOutside}
 use Rattle.rawk_code.specs.declared.code.Instr.{Instr}
 use Rattle.rawk_code.specs.declared.code.Instr.TheVariants as instr
 use Rattle.rawk_code.specs.Listing.{Listing}
+use Rattle.rawk_words.specs.declared.array.Array.{Array}
 use Rattle.rawk_code.specs.Actions.{outside, Run, Faulted, Stops, Exits, Nexts, Returns, Leaves, Repeats, Outcome, Goes, Breaks, Action, Effect, and_then, Given}
 use Rattle.rawk_value.specs.declared.value.Value.{Value}
 use Rattle.rawk_code.specs.Meaning.{Scene, in_order, nothing, exec, call_at}
@@ -70,7 +71,7 @@ module _ (given : Given) (code : List Instr) (fin : Places) where
   not_next (Breaks Repeats now) h run e = absurd (cc)
 
   -- the records, where they are read, and END
-  main_leads : (reads : Bool) (depth : ℕ) (rs : List Rule) (end : Effect) (pc : ℕ) (ce : List Instr) → given.steps < depth → (call : ℕ → List Value → Action Value) → CallGood given code fin depth call → (w : Scene) → w ≡ record { given = given; turns = depth; call = call } → HasAt code pc (main_code reads rs pc ++ instr.BeginEnd ∷ ce) → pc + 1 ≡ fin.record_at → pc + length (main_code reads rs pc) + 1 ≡ fin.end_at → Finishes end 0 → (run : Run) → Later given code fin 0 run → let m = if reads then each_record w rs w.turns else nothing in Leads given code fin (Going pc [] [] [] InBegin run) (Over (then_end (m run) end).ending (then_end (m run) end).run)
+  main_leads : (reads : Bool) (depth : ℕ) (rs : List Rule) (end : Effect) (pc : ℕ) (ce : List Instr) → given.steps < depth → (call : ℕ → List Array → List Value → Action Value) → CallGood given code fin depth call → (w : Scene) → w ≡ record { given = given; turns = depth; call = call } → HasAt code pc (main_code reads rs pc ++ instr.BeginEnd ∷ ce) → pc + 1 ≡ fin.record_at → pc + length (main_code reads rs pc) + 1 ≡ fin.end_at → Finishes end 0 → (run : Run) → Later given code fin 0 run → let m = if reads then each_record w rs w.turns else nothing in Leads given code fin (Going pc [] [] [] InBegin run) (Over (then_end (m run) end).ending (then_end (m run) end).run)
   main_leads false depth rs end pc ce time call good w is has place at ends run late =
       let here : pc + 1 ≡ fin.end_at = omega (arith, at) in
       then_leads InBegin (λ run. refl) (Going pc [] [] [] InBegin run) 0 pc (Goes tt run) (λ now e. refl) end has.0 here ends (late, leads_here given code fin _)

@@ -6,7 +6,7 @@ ghost use Rattle.rawk_code.specs.Correct.{CodeOf};
 ghost use Rattle.rawk_code.specs.Trace.{reads};
 
 use crate::emit::{emit_block, emit_condition, emit_operand, emit_skip, emit_stmt};
-use crate::instructions::{pass_rest, patch, put, put_go_to, put_point, put_range};
+use crate::instructions::{items_of, pass_rest, patch, put, put_go_to, put_point, put_range};
 use crate::loops::Around;
 use rawk_code::{Code, Entry, Instr, Operand, Simple};
 use rawk_tree::{Expr, Function, Guard, Program, Rule, Stmt};
@@ -227,8 +227,8 @@ fn emit_functions(
     let mut entries = Vec::new(alloc);
     for function in functions {
         let place = code.len();
-        let parameters = function.parameters.len();
-        entries.push(Entry { place, parameters })?;
+        let kinds = items_of(alloc, &function.kinds)?;
+        entries.push(Entry { place, kinds })?;
         emit_function(alloc, code, function)?;
     }
     Ok(entries)

@@ -1,11 +1,13 @@
 // Instructions, one behind another; and jumps forward, which are left open until their ends are known.
 
-ghost use Rattle.std.specs.Prelude.{◌≡◌, [], ◌∷◌, ◌++◌, ◌-◌, ◌<◌, Some, pos, OnOk, length};
+ghost use Rattle.std.specs.Prelude.{◌≡◌, [], ◌∷◌, ◌++◌, ◌-◌, ◌<◌, Some, pos, IfOk, OnOk, length};
 ghost use Rattle.rawk_compiler.specs.Code.{getline_code};
 ghost use Rattle.rawk_compiler.specs.Written.{over, led};
 
 use rawk_code::{Destination, Instr, Op, Operand, Simple};
+use rawk_items::Items;
 use rawk_value::{Arithmetic, Bytes};
+use rawk_words::Array;
 use std::alloc::{AllocError, Global};
 
 // One more instruction.
@@ -61,15 +63,29 @@ pub(crate) fn put_step(
     put(code, Instr::Do(Op::StoreUpdate(op, x, one)))
 }
 
-// A call of a function with so many arguments.
+// Copies of what a call or a function has in a row.
+pub(crate) fn items_of<T: Copy + Drop>(alloc: Global, from: &[T]) -> Result<Items<T>, AllocError>
+    ensures { IfOk result (λ items. items ≡ from.now) }
+{
+    let mut items = Items::new(alloc);
+    for item in from {
+        items.push(*item)?;
+    }
+    Ok(items)
+}
+
+// A call of a function with so many values and with these arrays.
 pub(crate) fn put_call(
+    alloc: Global,
     code: &mut Vec<Instr>,
     function: usize,
     count: usize,
+    arrays: &[Array],
 ) -> Result<(), AllocError>
-    ensures { OnOk result (code.new.items ≡ code.old.items ++ Instr.Call function count ∷ []) }
+    ensures { OnOk result (code.new.items ≡ code.old.items ++ Instr.Call function count arrays.now ∷ []) }
 {
-    put(code, Instr::Call(function, count))
+    let arrays = items_of(alloc, arrays)?;
+    put(code, Instr::Call(function, count, arrays))
 }
 
 // The text that a format makes of so many arguments.

@@ -2,6 +2,7 @@
 use Rattle.std.specs.Prelude.{ℕ, List, [], ◌∷◌, Option, Some, None, slice_get}
 use Rattle.rawk_value.specs.Values.{Bytes}
 use Rattle.rawk_tree.specs.declared.tree.Function.{Function}
+use Rattle.rawk_tree.specs.declared.tree.Kind.{Kind}
 use Rattle.rawk_tree.specs.declared.tree.Program.{Program}
 use Rattle.rawk_frames.specs.Frame.{Frame}
 use Rattle.rawk_debug.specs.declared.stepper.Call.{Call}
@@ -20,6 +21,11 @@ abbrev pub parameters_of : Option Function → List Bytes
 parameters_of None = []
 parameters_of (Some f) = f.parameters.items
 
+-- what they are
+abbrev pub kinds_of : Option Function → List Kind
+kinds_of None = []
+kinds_of (Some f) = f.kinds.items
+
 -- a function, by its number
 abbrev pub function_at : Program → ℕ → Option Function
 function_at p number = slice_get p.functions.items number
@@ -28,3 +34,8 @@ function_at p number = slice_get p.functions.items number
 abbrev pub local_names : Program → List Frame → List Bytes
 local_names p [] = []
 local_names p (f ∷ fs) = parameters_of (function_at p f.function)
+
+-- what they are
+abbrev pub local_kinds : Program → List Frame → List Kind
+local_kinds p [] = []
+local_kinds p (f ∷ fs) = kinds_of (function_at p f.function)

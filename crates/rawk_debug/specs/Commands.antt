@@ -24,7 +24,7 @@ use Rattle.rawk_debug.specs.declared.answer.Answer.{Answer}
 use Rattle.rawk_debug.specs.declared.answer.Answer.TheVariants.{Went, Halted, Returned, Stayed, Shown, TakenBack, Made, Deleted, Traced, Left}
 use Rattle.rawk_debug.specs.Positions.{Snapshot, here, back_at, with_set, has_set_at, IsTakenBack}
 use Rattle.rawk_debug.specs.Watching.{Observed}
-use Rattle.rawk_debug.specs.Activations.{local_names}
+use Rattle.rawk_debug.specs.Activations.{local_kinds, local_names}
 use Rattle.rawk_debug.specs.Naming.{place_of, lvalue_of, site_of, target_of, constant_value, is_refused}
 use Rattle.rawk_debug.specs.Moves.{Stand, Goes, Halts, Returns, is_found, from_below, from_above, depth_of}
 
@@ -68,7 +68,7 @@ names_of s = s.machine.program.names.items
 
 -- a place that can be shown and set where a session stands, or why it is refused
 abbrev pub lvalue_at : Stand → Snapshot → Place → Result Lvalue C
-lvalue_at s h place = lvalue_of (local_names s.machine.program h.state.frames) s.machine.program place
+lvalue_at s h place = lvalue_of (local_names s.machine.program h.state.frames) (local_kinds s.machine.program h.state.frames) s.machine.program place
 
 -- Why a command is refused: where several reasons hold, that of the least number.
 abbrev pub refusal : Command → Stand → Snapshot → Option C

@@ -1,8 +1,9 @@
 -- What a session's names are in a program.
-use Rattle.std.specs.Prelude.{ℕ, Bool, true, List, nat_eq, if◌then◌else◌, position, Option, Some, None, is_some, option_map, Result, Ok, Err}
+use Rattle.std.specs.Prelude.{ℕ, Bool, true, List, nat_eq, if◌then◌else◌, position, slice_get, Option, Some, None, is_some, option_map, Result, Ok, Err}
 use Rattle.std.specs.Str.{bytes_eq}
 use Rattle.rawk_tree.specs.declared.tree.Program.{Program}
-use Rattle.rawk_tree.specs.Kinds.{names_array}
+use Rattle.rawk_tree.specs.declared.tree.Kind.{Kind}
+use Rattle.rawk_tree.specs.Kinds.{is_array, names_array}
 use Rattle.rawk_tree.specs.Sites.{entry_of}
 use Rattle.rawk_value.specs.declared.value.Value.{Value}
 use Rattle.rawk_value.specs.declared.value.Value.TheVariants.{Number, String}
@@ -48,20 +49,20 @@ place_of p (Name name) = named p name
 place_of p (Element name key) = Err (subscript_refusal (named p name))
 place_of p (Field number) = Ok (watched.Field number)
 
--- the place that a name is where these are the locals: one of them, or else what it is everywhere
-abbrev pub local_or : Option ℕ → Result Watched C → Result Lvalue C
-local_or (Some number) elsewhere = Ok (Local number)
-local_or None (Ok place) = Ok (Shared place)
-local_or None (Err reason) = Err reason
+-- the place that a name is where these are what the locals are: one of them, or else what it is everywhere; one that is an array is no place
+abbrev pub local_or : List Kind → Option ℕ → Result Watched C → Result Lvalue C
+local_or kinds (Some number) elsewhere = if is_array (slice_get kinds number) then Err BadArgument else Ok (Local number)
+local_or kinds None (Ok place) = Ok (Shared place)
+local_or kinds None (Err reason) = Err reason
 
-abbrev pub named_here : List Bytes → Program → Bytes → Result Lvalue C
-named_here locals p name = local_or (position (bytes_eq name) locals) (named p name)
+abbrev pub named_here : List Bytes → List Kind → Program → Bytes → Result Lvalue C
+named_here locals kinds p name = local_or kinds (position (bytes_eq name) locals) (named p name)
 
 -- a place that can be shown and set where these are the locals, or why it is refused
-abbrev pub lvalue_of : List Bytes → Program → Place → Result Lvalue C
-lvalue_of locals p (Name name) = named_here locals p name
-lvalue_of locals p (Element name key) = Err (subscript_refusal (named_here locals p name))
-lvalue_of locals p (Field number) = Ok (Shared (watched.Field number))
+abbrev pub lvalue_of : List Bytes → List Kind → Program → Place → Result Lvalue C
+lvalue_of locals kinds p (Name name) = named_here locals kinds p name
+lvalue_of locals kinds p (Element name key) = Err (subscript_refusal (named_here locals kinds p name))
+lvalue_of locals kinds p (Field number) = Ok (Shared (watched.Field number))
 
 -- the site of a breakpoint: the first one on a line, or the entry of a function
 abbrev pub site_of : Program → Spot → Option ℕ

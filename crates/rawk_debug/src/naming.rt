@@ -1,8 +1,9 @@
 //! What the names of a command are in a program.
 
-ghost use Rattle.std.specs.Prelude.{◌≡◌, position};
+ghost use Rattle.std.specs.Prelude.{◌≡◌, if◌then◌else◌, position, slice_get, Err, Ok};
 ghost use Rattle.std.specs.Str.{bytes_eq};
-ghost use Rattle.rawk_debug.specs.Activations.{local_names};
+ghost use Rattle.rawk_tree.specs.Kinds.{is_array};
+ghost use Rattle.rawk_debug.specs.Activations.{local_kinds, local_names};
 ghost use Rattle.rawk_debug.specs.Naming.{scalar_named, named, named_here, place_of, lvalue_of, site_of, shared_target, target_of, constant_value};
 
 use crate::stepper::Stepper;
@@ -10,7 +11,7 @@ use crate::stop::{Lvalue, Watched};
 use rawk_commands::{C, Constant, Place, Spot};
 use rawk_special::{global_number, is_field_count};
 use rawk_store::Target;
-use rawk_tree::Program;
+use rawk_tree::{Kind, Program};
 use rawk_value::{Bytes, Value};
 
 /// What the name of a scalar is everywhere.
@@ -46,12 +47,23 @@ fn local_number(locals: &[Bytes], name: &[u8]) -> Option<usize>
     locals.iter().position(|local| name == local.as_slice())
 }
 
+/// A local that can be shown and set where these are what the locals are: an array is no place.
+fn local_place(kinds: &[Kind], number: usize) -> Result<Lvalue, C>
+    ensures { result ≡ (if is_array (slice_get kinds.now number) then Err C.BadArgument else Ok (Lvalue.Local number)) }
+{
+    match kinds.get(number) {
+        Some(Kind::Array) => Err(C::BadArgument),
+        Some(Kind::Scalar) => Ok(Lvalue::Local(number)),
+        None => Ok(Lvalue::Local(number)),
+    }
+}
+
 /// The place that a name is where these are the locals, or why it is none.
-fn named_here(locals: &[Bytes], program: &Program, name: &[u8]) -> Result<Lvalue, C>
-    ensures { result ≡ named_here locals.now program.now name.now }
+fn named_here(locals: &[Bytes], kinds: &[Kind], program: &Program, name: &[u8]) -> Result<Lvalue, C>
+    ensures { result ≡ named_here locals.now kinds.now program.now name.now }
 {
     match local_number(locals, name) {
-        Some(number) => Ok(Lvalue::Local(number)),
+        Some(number) => local_place(kinds, number),
         None => match named(program, name) {
             Ok(place) => Ok(Lvalue::Shared(place)),
             Err(reason) => Err(reason),
@@ -72,13 +84,31 @@ pub(crate) fn local_names<M: Stepper>(machine: &M) -> &[Bytes]
     }
 }
 
+/// What the locals of the innermost activation are.
+pub(crate) fn local_kinds<M: Stepper>(machine: &M) -> &[Kind]
+    ensures { result.now ≡ local_kinds (M.position machine.now).program (M.held machine.now).state.frames }
+{
+    match machine.frame(0) {
+        Some(call) => match machine.program().functions.get(call.function) {
+            Some(function) => &function.kinds,
+            None => &[],
+        },
+        None => &[],
+    }
+}
+
 /// A place that can be shown and set where these are the locals, or why it is refused.
-pub(crate) fn lvalue_of(locals: &[Bytes], program: &Program, place: &Place) -> Result<Lvalue, C>
-    ensures { result ≡ lvalue_of locals.now program.now place.now }
+pub(crate) fn lvalue_of(
+    locals: &[Bytes],
+    kinds: &[Kind],
+    program: &Program,
+    place: &Place,
+) -> Result<Lvalue, C>
+    ensures { result ≡ lvalue_of locals.now kinds.now program.now place.now }
 {
     match place {
-        Place::Name(name) => named_here(locals, program, name.as_slice()),
-        Place::Element(name, _) => match named_here(locals, program, name.as_slice()) {
+        Place::Name(name) => named_here(locals, kinds, program, name.as_slice()),
+        Place::Element(name, _) => match named_here(locals, kinds, program, name.as_slice()) {
             Ok(_) => Err(C::BadArgument),
             Err(reason) => Err(reason),
         },

@@ -8,7 +8,9 @@ ghost use Rattle.rawk_debug.specs.Sessions.{stand, machine_of};
 ghost use Rattle.rawk_debug.specs.Works.{Draws};
 
 use crate::answer::Answer;
-use crate::naming::{constant_value, local_names, lvalue_of, place_of, site_of, target_of};
+use crate::naming::{
+    constant_value, local_kinds, local_names, lvalue_of, place_of, site_of, target_of,
+};
 use crate::stepper::Stepper;
 use crate::stop::{Entry, Lvalue, Stop};
 use rawk_commands::{C, Command, Constant, Goal, Place, Spot, Way};
@@ -166,7 +168,12 @@ impl<M: Stepper> Session<M> {
     fn lvalue_at(&self, place: &Place) -> Result<Lvalue, C>
         ensures { result ≡ lvalue_at (stand M.position self.now) (M.held self.now.machine) place.now }
     {
-        lvalue_of(local_names(&self.machine), self.machine.program(), place)
+        lvalue_of(
+            local_names(&self.machine),
+            local_kinds(&self.machine),
+            self.machine.program(),
+            place,
+        )
     }
 
     /// `print`.

@@ -1,3 +1,4 @@
 pub mod Operators
 pub mod Borrowed
 pub mod Joined
+pub mod Separations

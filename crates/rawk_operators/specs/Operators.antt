@@ -1,5 +1,5 @@
 -- What operators and functions make of values, after POSIX.1-2017, utility awk, sections `Expressions in awk`, `Arithmetic Functions`, `String Functions`.
-use Rattle.std.specs.Prelude.{◌+◌, ◌-◌, pos, negsuc, neg_ℤ, Bool, not, List, ◌++◌, length, map, Option, Some, None, Result, Ok, Err}
+use Rattle.std.specs.Prelude.{◌+◌, ◌-◌, pos, negsuc, neg_ℤ, Bool, false, not, List, ◌++◌, length, map, Option, Some, None, Result, Ok, Err}
 use Rattle.rawk_value.specs.declared.value.Value.{Value}
 use Rattle.rawk_value.specs.declared.value.Value.TheVariants.{Number, String}
 use Rattle.rawk_value.specs.declared.fault.Fault.{Fault}
@@ -12,11 +12,15 @@ use Rattle.rawk_search.specs.Patterns.{pattern_of, match_of, is_found}
 use Rattle.rawk_replacements.specs.declared.replacing.Replaced.{Replaced}
 use Rattle.rawk_replacements.specs.Replaced.{replaced_by}
 use Rattle.rawk_words.specs.declared.operator.Extent.{Extent}
+use Rattle.rawk_search.specs.Expressions.{ere_of}
+use Rattle.rawk_record.specs.Fields.{dynamic_parts, fields_of}
 use Rattle.rawk_operators.specs.declared.searches.Match.{Match}
 use Rattle.rawk_words.specs.declared.operator.Sign.{Sign}
 use Rattle.rawk_words.specs.declared.operator.Sign.TheVariants as sign
 use Rattle.rawk_tree.specs.declared.tree.Joiner.{Joiner}
 use Rattle.rawk_tree.specs.declared.tree.Joiner.TheVariants as joiner
+use Rattle.rawk_tree.specs.declared.tree.Separation.{Separation}
+use Rattle.rawk_tree.specs.declared.tree.Separation.TheVariants as separation
 use Rattle.rawk_tree.specs.declared.tree.Unary.{Unary}
 use Rattle.rawk_tree.specs.declared.tree.Unary.TheVariants as unary
 
@@ -45,6 +49,15 @@ expression_of v = found_or (pattern_of (text_of v))
 -- the text of a value where matches of an expression are replaced, and how many; none where nothing matches (String Functions, sub, gsub)
 abbrev pub replaced_in : Extent → Value → Value → Value → Result (Option Replaced) Fault
 replaced_in extent expression by v = found_or (replaced_by extent (text_of expression) (text_of by) (text_of v))
+
+-- the parts of a text between its separators: as the same text in FS separates, or as an expression of any length does (String Functions, split)
+abbrev pub parts_between : Separation → Bytes → Bytes → Result (List Bytes) Fault
+parts_between separation.Fields s by = fields_of s by false
+parts_between separation.Matches s by = dynamic_parts (ere_of by) false s
+
+-- the same of the texts of two values
+abbrev pub separated : Separation → Value → Value → Result (List Bytes) Fault
+separated how v w = parts_between how (text_of v) (text_of w)
 
 -- what two values make: a number; 1 where a comparison holds, and else 0; their texts side by side; the place of a text in another; the part of a text from a place on; 1 where the one text has a match of the other, and else 0, or the other way round
 abbrev pub both_make : Joiner → Value → Value → Result Value Fault

@@ -7,6 +7,7 @@ mod made;
 mod ordered;
 mod parts;
 pub mod searches;
+mod separations;
 
 pub use borrowed::{Borrowed, copy, join, number, text_borrowed, truth};
 pub use formats::format;
@@ -14,3 +15,4 @@ pub use made::{flag, make, make_unary};
 pub use ordered::{compare, compare_numbers};
 pub use parts::make_part;
 pub use searches::{Match, find, matches, replace};
+pub use separations::separate;

@@ -1,5 +1,5 @@
 -- The state of a program, and what can be assigned in it.
-use Rattle.std.specs.Prelude.{ℕ, zero, suc, ◌-◌, ℤ, pos, negsuc, int_le, ◌==◌, Bool, false, if◌then◌else◌, List, [], length, map, slice_index_or, slice_set, Option, None, Some, Result, Ok, Err}
+use Rattle.std.specs.Prelude.{ℕ, zero, suc, ◌-◌, ℤ, pos, negsuc, int_le, ◌==◌, Bool, false, if◌then◌else◌, List, [], ◌∷◌, length, map, slice_index_or, slice_set, Option, None, Some, Result, Ok, Err}
 use Rattle.std.specs.Option.{unwrap_or}
 use Rattle.std.specs.FinMap.{len}
 use Rattle.rawk_words.specs.declared.array.Array.{Array}
@@ -107,6 +107,16 @@ abbrev pub clear_elements : Option ℕ → List Elements → List Elements
 clear_elements None arrays = arrays
 clear_elements (Some a) arrays = cleared a arrays
 
+-- the arrays with these texts of an input at the keys of a number and those behind it
+abbrev pub numbered : ℕ → ℕ → List Bytes → List Elements → List Elements
+numbered a n [] arrays = arrays
+numbered a n (text ∷ texts) arrays = numbered a (suc n) texts (with_element a (text_of (Number (pos n))) (Input text) arrays)
+
+-- the arrays where one has these texts at the keys from 1 on, and no other elements (POSIX awk, String Functions, split)
+abbrev pub fill_elements : Option ℕ → List Bytes → List Elements → List Elements
+fill_elements None texts arrays = arrays
+fill_elements (Some a) texts arrays = numbered a 1 texts (cleared a arrays)
+
 -- the keys of an array, in byte order
 abbrev pub keys_in : Option ℕ → List Elements → List Bytes
 keys_in None arrays = []
@@ -131,6 +141,9 @@ without_element_at a key s = record s { arrays = delete_element (array_in a s.fr
 
 abbrev pub without_elements : Array → State → State
 without_elements a s = record s { arrays = clear_elements (array_in a s.frames) s.arrays }
+
+abbrev pub with_elements : Array → List Bytes → State → State
+with_elements a texts s = record s { arrays = fill_elements (array_in a s.frames) texts s.arrays }
 
 abbrev pub array_keys : Array → State → List Bytes
 array_keys a s = keys_in (array_in a s.frames) s.arrays

@@ -104,7 +104,7 @@ fn assign_count(
 }
 
 /// The number of the array that a name stands for; a local that holds a value names none. It takes no memory.
-fn array_number(frames: &Frames, array: Array) -> Option<usize>
+pub fn array_number(frames: &Frames, array: Array) -> Option<usize>
     ensures { result ≡ array_in array (frames_of frames.now.now) }
 {
     match array {

@@ -8,9 +8,11 @@ pub mod numbering;
 pub mod others;
 pub mod output;
 pub mod registers;
+mod split;
 pub mod store;
 pub mod target;
 
+pub use assign::array_number;
 pub use current::Current;
 pub use group::Group;
 pub use numbering::field_number;
@@ -26,5 +28,6 @@ pub use rawk_record::{
 };
 pub use rawk_slots::{Reversible, Saved, SlotGroup, Slots, Stack, StackGroup, led_to};
 pub use registers::{Bank, Ending, Phase, Registers};
+pub use split::fill_elements;
 pub use store::{Operands, Store};
 pub use target::Target;

@@ -1,7 +1,7 @@
 -- What of the parser's tree is covered, from its parts.
-use Rattle.std.proofs.Common.{◌≡◌, ◌≢◌, ℕ, ℤ, ◌+◌, ◌<◌, ◌≤◌, suc, Bool, true, false, not, ◌&&◌, ◌||◌, List, [], ◌∷◌, ◌++◌, length, take, drop, map, get_or, Option, Some, None, Result, Ok, Err, refl, sym, ap, subst, ◌∙◌, arith}
+use Rattle.std.proofs.Common.{◌≡◌, ◌≢◌, ℕ, ℤ, ◌+◌, ◌<◌, ◌≤◌, suc, Bool, true, false, not, ◌&&◌, ◌||◌, List, [], ◌∷◌, ◌++◌, length, take, drop, map, get_or, slice_get, Option, Some, None, Result, Ok, Err, refl, sym, ap, subst, ◌∙◌, arith}
 use Rattle.std.specs.Result.{result_err}
-use Rattle.std.proofs.lemmas.List.{take_more, take-append-drop, drop_all, length-map}
+use Rattle.std.proofs.lemmas.List.{take_more, take-append-drop, drop_all, length-map, length-take-le, map-append}
 use Rattle.std.proofs.Math.Seq.{drop-cons}
 use Rattle.rawk_parsing.specs.declared.parse_error.ParseError.{ParseError}
 use Rattle.rawk_parsing.specs.declared.parse_error.ParseError.TheVariants.{OutOfMemory}
@@ -21,6 +21,7 @@ use Rattle.rawk_parsing.specs.declared.tree.Link.{Link, fold_out-Link}
 use Rattle.rawk_parsing.specs.declared.tree.Place.{Place, out-Place, roll-Place, roll-out-Place, map-Place, fold-roll-Place}
 use Rattle.rawk_parsing.specs.declared.tree.Place.TheVariants as spot
 use Rattle.rawk_parsing.specs.declared.tree.Place.TheVariants.{rolls-Name, rolls-Field, rolls-Element}
+use Rattle.rawk_tree.specs.declared.tree.Kind.{Kind}
 use Rattle.rawk_tree.specs.declared.tree.Scalar.{Scalar}
 use Rattle.rawk_builtin_trees.specs.Calls.{has_builtin}
 use Rattle.rawk_words.specs.declared.array.Array.{Array}
@@ -28,7 +29,7 @@ use Rattle.rawk_words.specs.declared.operator.Extent.{Extent}
 use Rattle.rawk_syntax.specs.Meant.{Sense, is_there}
 use Rattle.rawk_syntax.specs.Settled.{extent_of}
 use Rattle.rawk_grammar.specs.declared.tree.Item.{Item}
-use Rattle.rawk_syntax.specs.Covered.{Judges, Cover, names_array, names_scalar, counts, place_cover, all_covered, replaces, builtin_step, cover_of, changes, item_gap, gap_from, functions_behind, unless, or_then, first_of, each, expr_step, place_step, link_step, covers, covers_place, covers_link}
+use Rattle.rawk_syntax.specs.Covered.{Judges, Cover, names_array, names_scalar, counts, fits, all_fit, calls, place_cover, all_covered, replaces, builtin_step, cover_of, changes, item_gap, gap_from, functions_behind, unless, or_then, first_of, each, expr_step, place_step, link_step, covers, covers_place, covers_link}
 
 -- ---- tests and refusals
 
@@ -182,10 +183,50 @@ none_there None none = refl
 none_there (Some a) none = absurd (none a refl)
 
 -- a call of what the name stands for, or of nothing
-pub call_covers : (m : Sense) (n : word.Name) (w : List ℕ) (o : Option ℕ) (xs : List Expr) → w ≡ n.word → o ≡ m.function w → covers m (tree.Call n xs) ≡ (is_there o && each (covers m) xs)
+pub call_covers : (m : Sense) (n : word.Name) (w : List ℕ) (o : Option ℕ) (xs : List Expr) → w ≡ n.word → o ≡ m.function w → covers m (tree.Call n xs) ≡ calls m o (map (cover_of m) xs)
 call_covers m n w o xs same found =
-    ap (covers m) (sym (rolls-Call n xs)) ∙ covers_roll m (expr.Call n xs) ∙ ap (λ b. is_there (m.function n.word) && b) (each_mapped (λ (c : Cover). c.covered) (cover_of m) xs)
-    ∙ ap (λ v. is_there (m.function v) && each (covers m) xs) (sym same) ∙ ap (λ v. is_there v && each (covers m) xs) (sym found)
+    ap (covers m) (sym (rolls-Call n xs)) ∙ covers_roll m (expr.Call n xs)
+    ∙ ap (λ v. calls m (m.function v) (map (cover_of m) xs)) (sym same) ∙ ap (λ v. calls m v (map (cover_of m) xs)) (sym found)
+
+pub no_call : (m : Sense) (o : Option ℕ) (cs : List Cover) → ((f : ℕ) → o ≡ Some f → ⊥) → calls m o cs ≡ false
+no_call m None cs none = refl
+no_call m (Some f) cs none = absurd (none f refl)
+
+-- one argument more, behind others
+pass_more : (ks : List Kind) (cs : List Cover) (c : Cover) → all_fit ks cs ≡ true → fits (slice_get ks (length cs)) c ≡ true → all_fit ks (cs ++ c ∷ []) ≡ true
+pass_more [] [] c so here = here
+pass_more (k ∷ ks) [] c so here = both (fits (Some k) c) true here refl
+pass_more [] (d ∷ cs) c so here = so
+pass_more (k ∷ ks) (d ∷ cs) c so here = go (fits (Some k) d) refl so (λ more. pass_more ks cs c more here)
+  where
+    go : (b : Bool) → fits (Some k) d ≡ b → (b && all_fit ks cs) ≡ true → (all_fit ks cs ≡ true → all_fit ks (cs ++ c ∷ []) ≡ true) → (fits (Some k) d && all_fit ks (cs ++ c ∷ [])) ≡ true
+    go true e more rest = both (fits (Some k) d) (all_fit ks (cs ++ c ∷ [])) e (rest more)
+    go false e more rest = cc
+
+pass_stops : (ks : List Kind) (cs : List Cover) (c : Cover) (ds : List Cover) → fits (slice_get ks (length cs)) c ≡ false → all_fit ks (cs ++ c ∷ ds) ≡ false
+pass_stops [] [] c ds here = refl
+pass_stops (k ∷ ks) [] c ds here = first_false (fits (Some k) c) (all_fit ks ds) here
+pass_stops [] (d ∷ cs) c ds here = refl
+pass_stops (k ∷ ks) (d ∷ cs) c ds here = second_false (fits (Some k) d) (all_fit ks (cs ++ c ∷ ds)) (pass_stops ks cs c ds here)
+
+so_many : (m : Sense) (xs : List Expr) (i : ℕ) → i < length xs → length (map (cover_of m) (take i xs)) ≡ i
+so_many m xs i h = let le : i ≤ length xs = omega arith in length-map (take i xs) (cover_of m) ∙ length-take-le i xs le
+
+pub arguments_more : (m : Sense) (ks : List Kind) (k : Option Kind) (xs : List Expr) (i : ℕ) (x y : Expr) → i < length xs → x ≡ get_or xs i x → y ≡ x → k ≡ slice_get ks i
+    → all_fit ks (map (cover_of m) (take i xs)) ≡ true → fits k (cover_of m y) ≡ true → all_fit ks (map (cover_of m) (take (i + 1) xs)) ≡ true
+arguments_more m ks k xs i x y h at same kind so here =
+    let passed : fits (slice_get ks (length (map (cover_of m) (take i xs)))) (cover_of m x) ≡ true =
+    ap (λ n. fits (slice_get ks n) (cover_of m x)) (so_many m xs i h) ∙ ap (λ o. fits o (cover_of m x)) (sym kind) ∙ ap (λ z. fits k (cover_of m z)) (sym same) ∙ here in
+    ap (λ l. all_fit ks (map (cover_of m) l)) (one_taken xs i x h at) ∙ ap (all_fit ks) (map-append (cover_of m) (take i xs) (x ∷ []))
+    ∙ pass_more ks (map (cover_of m) (take i xs)) (cover_of m x) so passed
+
+pub arguments_stop : (m : Sense) (ks : List Kind) (k : Option Kind) (xs : List Expr) (i : ℕ) (x y : Expr) → i < length xs → x ≡ get_or xs i x → y ≡ x → k ≡ slice_get ks i
+    → fits k (cover_of m y) ≡ false → all_fit ks (map (cover_of m) xs) ≡ false
+arguments_stop m ks k xs i x y h at same kind here =
+    let refused : fits (slice_get ks (length (map (cover_of m) (take i xs)))) (cover_of m x) ≡ false =
+    ap (λ n. fits (slice_get ks n) (cover_of m x)) (so_many m xs i h) ∙ ap (λ o. fits o (cover_of m x)) (sym kind) ∙ ap (λ z. fits k (cover_of m z)) (sym same) ∙ here in
+    ap (λ l. all_fit ks (map (cover_of m) l)) (around xs i x h at) ∙ ap (all_fit ks) (map-append (cover_of m) (take i xs) (x ∷ drop (suc i) xs))
+    ∙ pass_stops ks (map (cover_of m) (take i xs)) (cover_of m x) (map (cover_of m) (drop (suc i) xs)) refused
 
 -- `in`, of one subscript and of several; the array of a name, or none
 pub in_covers : (m : Sense) (x : Expr) (ns : List word.Name) → covers m (tree.In x ns) ≡ (covers m x && each (names_array m) ns)
@@ -265,20 +306,38 @@ not_so_many m (x ∷ y ∷ z ∷ v ∷ xs) first second = refl
 pub replace_uncovered : (m : Sense) (f : Function) (extent : Extent) (xs : List Expr) → extent_of f ≡ Some extent → length xs ≢ 2 → length xs ≢ 3 → covers m (tree.Builtin f xs) ≡ false
 replace_uncovered m f extent xs is first second = replace_covers m f extent xs is ∙ not_so_many m xs first second
 
+-- `split` of a text into an array, with a separator or without, and of any other number of arguments
+pub split_covers : (m : Sense) (xs : List Expr) (x y : Expr) → xs ≡ x ∷ y ∷ [] → covers m (tree.Builtin fun.Split xs) ≡ (covers m x && (cover_of m y).array)
+split_covers m xs x y is = ap (λ l. covers m (tree.Builtin fun.Split l)) is ∙ builtin_covers m fun.Split (x ∷ y ∷ [])
+
+pub separated_covers : (m : Sense) (xs : List Expr) (x y z : Expr) → xs ≡ x ∷ y ∷ z ∷ [] → covers m (tree.Builtin fun.Split xs) ≡ ((covers m x && (cover_of m y).array) && covers m z)
+separated_covers m xs x y z is = ap (λ l. covers m (tree.Builtin fun.Split l)) is ∙ builtin_covers m fun.Split (x ∷ y ∷ z ∷ [])
+
+pub split_uncovered : (m : Sense) (xs : List Expr) → length xs ≢ 2 → length xs ≢ 3 → covers m (tree.Builtin fun.Split xs) ≡ false
+split_uncovered m [] first second = builtin_covers m fun.Split []
+split_uncovered m (x ∷ []) first second = builtin_covers m fun.Split (x ∷ [])
+split_uncovered m (x ∷ y ∷ []) first second = absurd (first refl)
+split_uncovered m (x ∷ y ∷ z ∷ []) first second = absurd (second refl)
+split_uncovered m (x ∷ y ∷ z ∷ v ∷ xs) first second = builtin_covers m fun.Split (x ∷ y ∷ z ∷ v ∷ xs)
+
+pub parted : (m : Sense) (x x' y y' : Expr) → x' ≡ x → y' ≡ y → (covers m x && (cover_of m y).array) ≡ (covers m x' && (cover_of m y').array)
+parted m x x' y y' first second = ap (λ v. covers m v && (cover_of m y).array) (sym first) ∙ ap (λ v. covers m x' && (cover_of m v).array) (sym second)
+
 -- any other function is one of its values
-applied : (f : Function) (es : List Cover) → (f ≡ fun.Length → ⊥) → (f ≡ fun.Match → ⊥) → (f ≡ fun.Sub → ⊥) → (f ≡ fun.Gsub → ⊥) → builtin_step f es ≡ (has_builtin f (length es) && all_covered es)
-applied fun.Length es length_not match_not sub_not gsub_not = absurd (length_not refl)
-applied fun.Match es length_not match_not sub_not gsub_not = absurd (match_not refl)
-applied fun.Sub es length_not match_not sub_not gsub_not = absurd (sub_not refl)
-applied fun.Gsub es length_not match_not sub_not gsub_not = absurd (gsub_not refl)
-applied _ es length_not match_not sub_not gsub_not = refl
+applied : (f : Function) (es : List Cover) → (f ≡ fun.Length → ⊥) → (f ≡ fun.Match → ⊥) → (f ≡ fun.Sub → ⊥) → (f ≡ fun.Gsub → ⊥) → (f ≡ fun.Split → ⊥) → builtin_step f es ≡ (has_builtin f (length es) && all_covered es)
+applied fun.Length es length_not match_not sub_not gsub_not split_not = absurd (length_not refl)
+applied fun.Match es length_not match_not sub_not gsub_not split_not = absurd (match_not refl)
+applied fun.Sub es length_not match_not sub_not gsub_not split_not = absurd (sub_not refl)
+applied fun.Gsub es length_not match_not sub_not gsub_not split_not = absurd (gsub_not refl)
+applied fun.Split es length_not match_not sub_not gsub_not split_not = absurd (split_not refl)
+applied _ es length_not match_not sub_not gsub_not split_not = refl
 
 values_covered : (m : Sense) (f : Function) (xs : List Expr) → (has_builtin f (length (map (cover_of m) xs)) && all_covered (map (cover_of m) xs)) ≡ (has_builtin f (length xs) && each (covers m) xs)
 values_covered m f xs =
     ap (λ n. has_builtin f n && all_covered (map (cover_of m) xs)) (length-map xs (cover_of m)) ∙ ap (λ b. has_builtin f (length xs) && b) (each_mapped (λ (c : Cover). c.covered) (cover_of m) xs)
 
-pub applied_covers : (m : Sense) (f : Function) (xs : List Expr) → (f ≡ fun.Length → ⊥) → (f ≡ fun.Match → ⊥) → (f ≡ fun.Sub → ⊥) → (f ≡ fun.Gsub → ⊥) → covers m (tree.Builtin f xs) ≡ (has_builtin f (length xs) && each (covers m) xs)
-applied_covers m f xs length_not match_not sub_not gsub_not = builtin_covers m f xs ∙ applied f (map (cover_of m) xs) length_not match_not sub_not gsub_not ∙ values_covered m f xs
+pub applied_covers : (m : Sense) (f : Function) (xs : List Expr) → (f ≡ fun.Length → ⊥) → (f ≡ fun.Match → ⊥) → (f ≡ fun.Sub → ⊥) → (f ≡ fun.Gsub → ⊥) → (f ≡ fun.Split → ⊥) → covers m (tree.Builtin f xs) ≡ (has_builtin f (length xs) && each (covers m) xs)
+applied_covers m f xs length_not match_not sub_not gsub_not split_not = builtin_covers m f xs ∙ applied f (map (cover_of m) xs) length_not match_not sub_not gsub_not split_not ∙ values_covered m f xs
 
 -- of covered arguments
 pub applied_judged : {A : Type 0} (r : Result A ParseError) (m : Sense) (f : Function) (xs : List Expr) (n left : ℕ)

@@ -1,13 +1,17 @@
--- The names of the globals and what they are, one after another.
-use Rattle.std.proofs.Common.{◌≡◌, ◌<◌, ◌≤◌, ℕ, ◌+◌, suc, List, [], ◌∷◌, ◌++◌, length, drop, map, get_or, sym, ap, ◌∙◌, arith, Some, slice_get, append_assoc}
+-- The names of the globals, and what they and parameters are, one after another.
+use Rattle.std.proofs.Common.{◌≡◌, ◌<◌, ◌≤◌, ℕ, ◌+◌, ◌-◌, suc, List, [], ◌∷◌, ◌++◌, length, drop, map, get_or, refl, sym, ap, ◌∙◌, arith, Option, None, Some, slice_get, append_assoc}
+use Rattle.std.specs.List.{range_with_len}
 use Rattle.std.proofs.lemmas.List.{append-nil, drop_all}
-use Rattle.std.proofs.lemmas.Option.{slice_get-get_or}
+use Rattle.std.proofs.lemmas.Option.{slice_get-get_or, slice_get_past}
+use Rattle.std.proofs.lemmas.List.FromFn.{length-map-range_with_len, get_or-map-range_with_len, map-range_with_len_more}
 use Rattle.std.proofs.Math.Seq.{drop-cons}
 use Rattle.rawk_keys.specs.ArrayKey.{ArrayKey, array_key}
 use Rattle.rawk_names.specs.Named.{Known}
 use Rattle.rawk_names.specs.Marking.{is_marked}
+use Rattle.rawk_names.specs.declared.usage.Signature.{Signature}
 use Rattle.rawk_tree.specs.declared.tree.Kind.{Kind}
-use Rattle.rawk_syntax.specs.Meant.{kind_of, kinds_from}
+use Rattle.rawk_tree.specs.declared.tree.Kind.TheVariants.{Scalar}
+use Rattle.rawk_syntax.specs.Meant.{kind_of, kinds_at, kinds_from, parameter_kinds}
 
 abbrev pub key_of : ArrayKey → List ℕ
 key_of entry = entry.key
@@ -45,3 +49,43 @@ kind_more names v kinds new all k h is more before =
 
 pub kinds_all : (names : Known) (v : ℕ) (kinds all : List Kind) → length names.variables ≤ v → kinds ++ kinds_from names v (drop v names.variables) ≡ all → kinds ≡ all
 kinds_all names v kinds all h before = sym (append-nil kinds) ∙ ap (λ entries. kinds ++ kinds_from names v entries) (sym (drop_all v names.variables h)) ∙ before
+
+-- ---- parameters
+
+abbrev pub kind_in : Known → ℕ → Kind
+kind_in names v = kind_of (is_marked names.arrays v)
+
+pub parameter_more : (names : Known) (first v : ℕ) (kinds new : List Kind) (k : Kind) → first ≤ v → k ≡ kind_in names v
+    → new ≡ kinds ++ k ∷ [] → kinds ≡ map (kind_in names) (range_with_len first (v - first)) → new ≡ map (kind_in names) (range_with_len first (v + 1 - first))
+parameter_more names first v kinds new k low is more before =
+    let sum : first + (v - first) ≡ v = omega arith in
+    let next : (v - first) + 1 ≡ v + 1 - first = omega arith in
+    more ∙ ap (λ ks. ks ++ k ∷ []) before ∙ ap (λ x. map (kind_in names) (range_with_len first (v - first)) ++ x ∷ []) is
+    ∙ sym (map-range_with_len_more (kind_in names) first (v - first) v sum) ∙ ap (λ n. map (kind_in names) (range_with_len first n)) next
+
+-- by a function's signature, if there is one
+pub kinds_there : (names : Known) (f : ℕ) (s : Signature) (n : ℕ) (kinds : List Kind) → Some s ≡ slice_get names.signatures f → n ≡ s.end - s.first
+    → kinds ≡ map (kind_in names) (range_with_len s.first n) → kinds ≡ parameter_kinds names f
+kinds_there names f s n kinds found count are = are ∙ ap (λ z. map (kind_in names) (range_with_len s.first z)) count ∙ ap (kinds_at names) found
+
+pub no_kinds : (names : Known) (f : ℕ) → None ≡ slice_get names.signatures f → [] ≡ parameter_kinds names f
+no_kinds names f none = ap (kinds_at names) none
+
+pub kind_there : (names : Known) (f : ℕ) (s : Signature) (i : ℕ) (k : Kind) → Some s ≡ slice_get names.signatures f → i < s.end - s.first → k ≡ kind_in names (s.first + i) → Some k ≡ slice_get (parameter_kinds names f) i
+kind_there names f s i k found within is =
+    let kinds = map (kind_in names) (range_with_len s.first (s.end - s.first)) in
+    let count : length kinds ≡ s.end - s.first = length-map-range_with_len (kind_in names) s.first (s.end - s.first) in
+    let h : i < length kinds = omega (arith, count) in
+    let at : get_or kinds i Scalar ≡ kind_in names (s.first + i) = get_or-map-range_with_len (kind_in names) s.first (s.end - s.first) i (s.first + i) Scalar within refl in
+    ap Some (is ∙ sym at) ∙ sym (slice_get-get_or kinds i Scalar h) ∙ ap (λ o. slice_get (kinds_at names o) i) found
+
+pub kind_past : (names : Known) (f : ℕ) (s : Signature) (i : ℕ) → Some s ≡ slice_get names.signatures f → s.end - s.first ≤ i → None ≡ slice_get (parameter_kinds names f) i
+kind_past names f s i found past =
+    let kinds = map (kind_in names) (range_with_len s.first (s.end - s.first)) in
+    let count : length kinds ≡ s.end - s.first = length-map-range_with_len (kind_in names) s.first (s.end - s.first) in
+    let h : length kinds ≤ i = omega (arith, count) in
+    sym (slice_get_past kinds i h) ∙ ap (λ o. slice_get (kinds_at names o) i) found
+
+pub no_kind : (names : Known) (f : ℕ) (o : Option Signature) (i : ℕ) → ((s : Signature) → o ≡ Some s → ⊥) → o ≡ slice_get names.signatures f → None ≡ slice_get (parameter_kinds names f) i
+no_kind names f None i none found = ap (λ z. slice_get (kinds_at names z) i) found
+no_kind names f (Some s) i none found = absurd (none s refl)

@@ -1,5 +1,5 @@
 -- The steps of settling statements and items, over plain variables.
-use Rattle.std.proofs.Common.{◌≡◌, ℕ, ◌+◌, ◌<◌, suc, List, [], ◌∷◌, ◌++◌, length, take, get_or, Option, None, Some, Result, Ok, Err, IfOk, OnOk, refl, sym, ap, subst, ◌∙◌, pos, arith}
+use Rattle.std.proofs.Common.{◌≡◌, ℕ, ◌+◌, ◌-◌, ◌<◌, suc, List, [], ◌∷◌, ◌++◌, length, take, get_or, Option, None, Some, Result, Ok, Err, IfOk, OnOk, refl, sym, ap, subst, ◌∙◌, pos, arith}
 use Rattle.std.proofs.lemmas.List.{take_more, map-append, length-append}
 use Rattle.std.proofs.lemmas.Result.{IfOk-at_ok}
 use Rattle.std.specs.Global.{Box, Vec}
@@ -27,6 +27,7 @@ use Rattle.rawk_tree.specs.declared.tree.Expr.{Expr}
 use Rattle.rawk_tree.specs.declared.tree.Stmt.{Stmt}
 use Rattle.rawk_tree.specs.declared.tree.Stmt.TheVariants as tree
 use Rattle.rawk_tree.specs.declared.tree.Branch.{Branch}
+use Rattle.rawk_tree.specs.declared.tree.Kind.{Kind}
 use Rattle.rawk_tree.specs.declared.tree.Scalar.{Scalar}
 use Rattle.rawk_words.specs.declared.array.Array.{Array}
 use Rattle.rawk_tree.specs.declared.tree.Expr.TheVariants as expr
@@ -352,12 +353,12 @@ block_made means r b (Err e) text ss m n blocks more made h judged last = tt
 given_is : (means : Sense) (text : List ℕ) (ss : List step.Stmt) (t : Stmt) (m n : List ℕ) → Does text means (does.Given ss) t m n → (ts : Vec Stmt) × (t ≡ tree.Block ts) × Lays text means (SomeStmts ss ts.items) m n
 given_is means text ss t m n (spec.given ts h) = (ts, refl, h)
 
-pub defined : (means : Sense) (text u : List ℕ) (left : ℕ) (name : Name) (parameters : List Name) (ss : List step.Stmt) (word : List ℕ) (words : Vec (List ℕ)) (ts : Vec Stmt) (k : ℕ) (old new m : List ℕ)
-    → word ≡ name.word → words.items ≡ words_of parameters → k ≡ length old → new ≡ sited text left old → u ≡ text → Lays u means (SomeStmts ss ts.items) new m
-    → Defines text means left name parameters ss (record { name = word; parameters = words; site = k; body = tree.Block ts }) old m
-defined means text u left name parameters ss word words ts k old new m called takes count lines there h =
+pub defined : (means : Sense) (text u : List ℕ) (number left : ℕ) (name : Name) (parameters : List Name) (ss : List step.Stmt) (word : List ℕ) (words : Vec (List ℕ)) (kinds : Vec Kind) (ts : Vec Stmt) (k : ℕ) (old new m : List ℕ)
+    → word ≡ name.word → words.items ≡ words_of parameters → kinds.items ≡ means.kinds number → k ≡ length old → new ≡ sited text left old → u ≡ text → Lays u means (SomeStmts ss ts.items) new m
+    → Defines text means number left name parameters ss (record { name = word; parameters = words; kinds = kinds; site = k; body = tree.Block ts }) old m
+defined means text u number left name parameters ss word words kinds ts k old new m called takes are count lines there h =
     let f : Lays text means (SomeStmts ss ts.items) new m = subst (λ v. Lays v means (SomeStmts ss ts.items) new m) there h in
-    record { called = called; takes = takes; site = count; steps = ts; block = refl; body = subst (λ l. Lays text means (SomeStmts ss ts.items) l m) lines f }
+    record { called = called; takes = takes; kinds = are; site = count; steps = ts; block = refl; body = subst (λ l. Lays text means (SomeStmts ss ts.items) l m) lines f }
 
 -- one name more
 pub word_taken : (names : List Name) (i : ℕ) (x : Name) (words new : List (List ℕ)) (w v : List ℕ) → i < length names → x ≡ get_or names i x → v ≡ x.word → w ≡ v → new ≡ words ++ w ∷ [] → words ≡ words_of (take i names) → new ≡ words_of (take (i + 1) names)
@@ -408,14 +409,16 @@ rule_laid means text items x f g y m n p q is same rest ranges h before =
     rw (is, rest, ranges', h.2) (spec.rule before k)
 
 pub function_laid : (means : ℕ → Sense) {A E : Type 0} (r : Result A E) (text : List ℕ) (x : Item) (left : ℕ) (name : Name) (parameters takes : List Name) (ss zs : List step.Stmt) (k : ℕ) (m n : List ℕ) (p q : Program)
-    → x ≡ part.Function left name parameters ss → takes ≡ parameters → zs ≡ ss → k ≡ length p.functions.items → q ≡ record p { functions = q.functions } → OnOk r (Adds (λ f. Defines text (means (k + 1)) left name takes zs f m n) p.functions.items q.functions.items)
+    → x ≡ part.Function left name parameters ss → takes ≡ parameters → zs ≡ ss → k ≡ length p.functions.items → q ≡ record p { functions = q.functions } → OnOk r (Adds (λ f. Defines text (means (k + 1)) (k + 1 - 1) left name takes zs f m n) p.functions.items q.functions.items)
     → OnOk r ((items : List Item) → IsLaidWith text means items p m → IsLaidWith text means (items ++ x ∷ []) q n)
 function_laid means (Ok a) text x left name parameters takes ss zs k m n p q is list same count rest h = λ items before.
-    let number : k + 1 ≡ suc (length p.functions.items) = omega (arith, count) in
-    let g : Defines text (means (k + 1)) left name parameters zs h.0 m n = subst (λ (z : List Name). Defines text (means (k + 1)) left name z zs h.0 m n) list h.1 in
-    let g' : Defines text (means (k + 1)) left name parameters ss h.0 m n = subst (λ (z : List step.Stmt). Defines text (means (k + 1)) left name parameters z h.0 m n) same g in
-    let g'' : Defines text (means (suc (length p.functions.items))) left name parameters ss h.0 m n = subst (λ z. Defines text (means z) left name parameters ss h.0 m n) number g' in
-    rw (is, rest, h.2) (spec.function left before g'')
+    let number : k + 1 - 1 ≡ length p.functions.items = omega (arith, count) in
+    let scope : k + 1 ≡ suc (length p.functions.items) = omega (arith, count) in
+    let g : Defines text (means (k + 1)) (k + 1 - 1) left name parameters zs h.0 m n = subst (λ (z : List Name). Defines text (means (k + 1)) (k + 1 - 1) left name z zs h.0 m n) list h.1 in
+    let g' : Defines text (means (k + 1)) (k + 1 - 1) left name parameters ss h.0 m n = subst (λ (z : List step.Stmt). Defines text (means (k + 1)) (k + 1 - 1) left name parameters z h.0 m n) same g in
+    let f : Defines text (means (k + 1)) (length p.functions.items) left name parameters ss h.0 m n = subst (λ z. Defines text (means (k + 1)) z left name parameters ss h.0 m n) number g' in
+    let f' : Defines text (means (suc (length p.functions.items))) (length p.functions.items) left name parameters ss h.0 m n = subst (λ z. Defines text (means z) (length p.functions.items) left name parameters ss h.0 m n) scope f in
+    rw (is, rest, h.2) (spec.function left before f')
 function_laid means (Err e) text x left name parameters takes ss zs k m n p q is list same count rest h = tt
 
 -- one more than there were

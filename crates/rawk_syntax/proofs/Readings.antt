@@ -1,6 +1,7 @@
 -- Whole texts, over plain variables.
-use Rattle.std.proofs.Common.{◌≡◌, ◌≢◌, ◌<◌, ◌≤◌, inl, inr, ℕ, ◌+◌, ◌-◌, Bool, true, false, if◌then◌else◌, List, length, Option, None, Some, Result, Ok, Err, IfOk, refl, sym, ap, subst, ◌∙◌, arith}
+use Rattle.std.proofs.Common.{◌≡◌, ◌≢◌, ◌<◌, ◌≤◌, inl, inr, ℕ, ◌+◌, ◌-◌, Bool, true, false, if◌then◌else◌, List, length, map, slice_get, Option, None, Some, Result, Ok, Err, IfOk, refl, sym, ap, subst, ◌∙◌, arith}
 use Rattle.std.proofs.Math.Path.{fun_ext}
+use Rattle.std.specs.List.{range_with_len}
 use Rattle.rawk_limits.specs.declared.TheConstants.{OPEN_CONSTRUCTS, PROGRAM_BYTES}
 use Rattle.rawk_parsing.specs.declared.refusal.Refusal.{Refusal}
 use Rattle.rawk_parsing.specs.declared.parse_error.ParseError.{ParseError}
@@ -14,13 +15,15 @@ use Rattle.rawk_grammar.specs.Plain.{IsPlainText}
 use Rattle.rawk_names.specs.declared.names.NameError.{NameError}
 use Rattle.rawk_names.specs.declared.names.Meaning.{Meaning}
 use Rattle.rawk_names.specs.declared.names.Meaning.TheVariants as meaning
+use Rattle.rawk_names.specs.declared.usage.Signature.{Signature}
 use Rattle.rawk_names.specs.Marking.{is_marked}
 use Rattle.rawk_names.specs.Noted.{Noted}
 use Rattle.rawk_names.specs.Items as naming
 use Rattle.rawk_names.specs.Named.{Known, IsNamed, IsRefused, meaning_of, variable_of}
 use Rattle.rawk_names.proofs.Refusals.{refused_once, named_or_refused}
+use Rattle.rawk_tree.specs.declared.tree.Kind.{Kind}
 use Rattle.rawk_tree.specs.declared.tree.Program.{Program}
-use Rattle.rawk_syntax.specs.Meant.{sense, scalar_at, array_at, function_of, variable_scalar, global_array}
+use Rattle.rawk_syntax.specs.Meant.{sense, scalar_at, array_at, function_of, kind_of, kinds_at, parameter_kinds, variable_array, variable_scalar}
 use Rattle.rawk_syntax.specs.Covered.{Judges, program_gap}
 use Rattle.rawk_syntax.specs.Laid.{IsLaid}
 use Rattle.rawk_syntax.specs.Texts.{IsSettled, IsReading, IsPlain, IsSettledAs, IsFlaw, IsFlawIn, IsFlawOf, AreFlawed, IsRefusal, Tells, told, told_of}
@@ -41,16 +44,21 @@ same_scalar n x y same scope None = refl
 same_scalar n x y same scope (Some (meaning.Function f)) = refl
 same_scalar n x y same scope (Some (meaning.Variable v)) = ap (λ b. if b then None else Some (variable_scalar n scope (variable_of n v))) (same v)
 
-same_array : (n : Known) (x y : List Bool) → ((v : ℕ) → is_marked x v ≡ is_marked y v) → (o : Option Meaning) → array_at (record n { arrays = x }) o ≡ array_at (record n { arrays = y }) o
-same_array n x y same None = refl
-same_array n x y same (Some (meaning.Function f)) = refl
-same_array n x y same (Some (meaning.Variable v)) = ap (λ b. if b then global_array n v else None) (same v)
+same_array : (n : Known) (x y : List Bool) → ((v : ℕ) → is_marked x v ≡ is_marked y v) → (scope : ℕ) (o : Option Meaning) → array_at (record n { arrays = x }) scope o ≡ array_at (record n { arrays = y }) scope o
+same_array n x y same scope None = refl
+same_array n x y same scope (Some (meaning.Function f)) = refl
+same_array n x y same scope (Some (meaning.Variable v)) = ap (λ b. if b then variable_array n scope v (variable_of n v) else None) (same v)
+
+same_kinds : (n : Known) (x y : List Bool) → ((v : ℕ) → is_marked x v ≡ is_marked y v) → (o : Option Signature) → kinds_at (record n { arrays = x }) o ≡ kinds_at (record n { arrays = y }) o
+same_kinds n x y same None = refl
+same_kinds n x y same (Some s) = ap (λ (f : ℕ → Kind). map f (range_with_len s.first (s.end - s.first))) (fun_ext (λ v. ap kind_of (same v)))
 
 same_sense : (n : Known) (x y : List Bool) → ((v : ℕ) → is_marked x v ≡ is_marked y v) → sense (record n { arrays = x }) ≡ sense (record n { arrays = y })
 unfolding meaning_of
 same_sense n x y same = fun_ext (λ scope.
-    ap (λ scalars. record { scalar = scalars; array = λ word. array_at (record n { arrays = x }) (meaning_of n scope word); function = function_of n }) (fun_ext (λ word. same_scalar n x y same scope (meaning_of n scope word)))
-    ∙ ap (λ arrays. record { scalar = λ word. scalar_at (record n { arrays = y }) scope (meaning_of n scope word); array = arrays; function = function_of n }) (fun_ext (λ word. same_array n x y same (meaning_of n scope word))))
+    ap (λ scalars. record { scalar = scalars; array = λ word. array_at (record n { arrays = x }) scope (meaning_of n scope word); function = function_of n; kinds = parameter_kinds (record n { arrays = x }) }) (fun_ext (λ word. same_scalar n x y same scope (meaning_of n scope word)))
+    ∙ ap (λ arrays. record { scalar = λ word. scalar_at (record n { arrays = y }) scope (meaning_of n scope word); array = arrays; function = function_of n; kinds = parameter_kinds (record n { arrays = x }) }) (fun_ext (λ word. same_array n x y same scope (meaning_of n scope word)))
+    ∙ ap (λ kinds. record { scalar = λ word. scalar_at (record n { arrays = y }) scope (meaning_of n scope word); array = λ word. array_at (record n { arrays = y }) scope (meaning_of n scope word); function = function_of n; kinds = kinds }) (fun_ext (λ f. same_kinds n x y same (slice_get n.signatures f))))
 
 -- names stand for what the program says
 senses : (noted : Noted) (a b : Known) → IsNamed noted a → IsNamed noted b → sense a ≡ sense b

@@ -1,7 +1,7 @@
 -- The steps of settling, over plain variables.
-use Rattle.std.proofs.Common.{◌≡◌, ℕ, ℤ, ◌+◌, ◌<◌, ◌≢◌, suc, Bool, true, List, [], ◌∷◌, ◌++◌, length, take, get_or, None, Some, Result, Ok, Err, IfOk, refl, sym, ap, subst, ◌∙◌, arith, pos}
+use Rattle.std.proofs.Common.{◌≡◌, ℕ, ℤ, ◌+◌, ◌<◌, ◌≤◌, ◌≢◌, suc, Bool, true, List, [], ◌∷◌, ◌++◌, length, take, get_or, slice_get, Option, None, Some, Result, Ok, Err, IfOk, OnOk, refl, sym, ap, subst, ◌∙◌, arith, pos}
 use Rattle.std.specs.Result.{result_err, result_map_both}
-use Rattle.std.proofs.lemmas.List.{take_more, length-append}
+use Rattle.std.proofs.lemmas.List.{take_more, length-append, length-take-le}
 use Rattle.std.proofs.lemmas.Result.{IfOk-at_ok}
 use Rattle.std.specs.Global.{Box, Vec}
 use Rattle.rawk_value.specs.declared.operator.Arithmetic.TheVariants.{Pow}
@@ -30,11 +30,16 @@ use Rattle.rawk_tree.specs.declared.tree.Link.TheVariants as tree_link
 use Rattle.rawk_tree.specs.declared.tree.Place.{Place}
 use Rattle.rawk_tree.specs.declared.tree.Scalar.{Scalar}
 use Rattle.rawk_tree.specs.declared.tree.Place.TheVariants as tree_place
+use Rattle.rawk_tree.specs.declared.tree.Kind.{Kind}
+use Rattle.rawk_tree.specs.declared.tree.Kind.TheVariants as kind
+use Rattle.rawk_tree.specs.declared.tree.Separation.{Separation}
+use Rattle.rawk_tree.specs.declared.tree.Separation.TheVariants as separation
+use Rattle.rawk_special.specs.declared.special.TheConstants.{FS}
 use Rattle.rawk_builtin_trees.specs.Calls.{Applies}
 use Rattle.rawk_syntax.specs.Covered.{Judges, unless}
 use Rattle.rawk_syntax.specs.Settled as spec
 use Rattle.rawk_syntax.specs.Meant.{Sense}
-use Rattle.rawk_syntax.specs.Settled.{AnExpr, APlace, ASought, IsIn, IsMatchOf, IsMember, IsRecord, SomeLinks, SomeTests, SomeExprs, Settles, joiner_of, operator_of, right_of, extent_of, scalar_place}
+use Rattle.rawk_syntax.specs.Settled.{AnExpr, APlace, ASought, ASeparator, SomeArguments, IsIn, IsMatchOf, IsMember, IsRecord, SomeLinks, SomeTests, SomeExprs, Settles, joiner_of, operator_of, right_of, extent_of, scalar_place}
 
 pub number_settles : (m : Sense) {E : Type 0} (r : Result Expr E) (e : parsed.Expr) (n : ℤ) → e ≡ from.Number n → r ≡ Ok (tree.Number n) → IfOk r (λ s. Settles m (AnExpr e s))
 number_settles m r e n is made = rw (made, is) spec.number
@@ -142,9 +147,54 @@ expr_settles m xs i x y ys zs (Ok s) h held same none more g f' =
     rw (t, more) (spec.an_expr g f)
 expr_settles m xs i x y ys zs (Err e) h held same none more g f' = cc
 
-pub call_settles : (m : Sense) (n : word.Name) (w : List ℕ) (f : ℕ) (xs : List parsed.Expr) (ss : Vec Expr)
-    → w ≡ n.word → Some f ≡ m.function w → Settles m (SomeExprs xs ss.items) → Settles m (AnExpr (from.Call n xs) (tree.Call f ss))
-call_settles m n w f xs ss same found h = spec.call ss (ap m.function (sym same) ∙ sym found) h
+pub call_settles : (m : Sense) (n : word.Name) (w : List ℕ) (f : ℕ) (xs : List parsed.Expr) (ss : Vec Expr) (rs : Vec Array)
+    → w ≡ n.word → Some f ≡ m.function w → Settles m (SomeArguments (m.kinds f) xs ss.items rs.items) → Settles m (AnExpr (from.Call n xs) (tree.Call f ss rs))
+call_settles m n w f xs ss rs same found h = spec.call ss rs (ap m.function (sym same) ∙ sym found) h
+
+-- one argument more, behind others: a value or an array
+first_value : (m : Sense) (ks : List Kind) (e : parsed.Expr) (s : Expr) → slice_get ks 0 ≡ Some kind.Scalar → Settles m (AnExpr e s) → Settles m (SomeArguments ks (e ∷ []) (s ∷ []) [])
+first_value m [] e s at h = cc
+first_value m (k ∷ ks) e s at h = let is : k ≡ kind.Scalar = cc in rw is (spec.a_value h spec.no_arguments)
+
+value_behind : (m : Sense) {ks : List Kind} {es : List parsed.Expr} {ss : List Expr} {rs : List Array} (e : parsed.Expr) (s : Expr)
+    → Settles m (SomeArguments ks es ss rs) → slice_get ks (length es) ≡ Some kind.Scalar → Settles m (AnExpr e s) → Settles m (SomeArguments ks (es ++ e ∷ []) (ss ++ s ∷ []) rs)
+value_behind m e s (spec.no_arguments {ks = ks}) at h = first_value m ks e s at h
+value_behind m e s (spec.a_value g more) at h = spec.a_value g (value_behind m e s more at h)
+value_behind m e s (spec.an_array n g more) at h = spec.an_array n g (value_behind m e s more at h)
+
+first_array : (m : Sense) (ks : List Kind) (n : word.Name) (a : Array) → slice_get ks 0 ≡ Some kind.Array → m.array n.word ≡ Some a → Settles m (SomeArguments ks (from.Of (from_place.Name n) ∷ []) [] (a ∷ []))
+first_array m [] n a at h = cc
+first_array m (k ∷ ks) n a at h = let is : k ≡ kind.Array = cc in rw is (spec.an_array n h spec.no_arguments)
+
+array_behind : (m : Sense) {ks : List Kind} {es : List parsed.Expr} {ss : List Expr} {rs : List Array} (n : word.Name) (a : Array)
+    → Settles m (SomeArguments ks es ss rs) → slice_get ks (length es) ≡ Some kind.Array → m.array n.word ≡ Some a → Settles m (SomeArguments ks (es ++ from.Of (from_place.Name n) ∷ []) ss (rs ++ a ∷ []))
+array_behind m n a (spec.no_arguments {ks = ks}) at h = first_array m ks n a at h
+array_behind m n a (spec.a_value g more) at h = spec.a_value g (array_behind m n a more at h)
+array_behind m n a (spec.an_array o g more) at h = spec.an_array o g (array_behind m n a more at h)
+
+-- with an argument of a parameter of this kind, whichever are before it
+abbrev pub Passes : Sense → Option Kind → parsed.Expr → List Expr → List Array → List Expr → List Array → Type 0
+Passes m k e ss rs zs qs = (ks : List Kind) (es : List parsed.Expr) → slice_get ks (length es) ≡ k → Settles m (SomeArguments ks es ss rs) → Settles m (SomeArguments ks (es ++ e ∷ []) zs qs)
+
+pub value_passes : (m : Sense) {A : Type 0} (q : Result A ParseError) (r : Result Expr ParseError) (k : Option Kind) (e : parsed.Expr) (old new : List Expr) (rs : List Array)
+    → k ≡ Some kind.Scalar → Judges (result_err r) q → OnOk q (IfOk r (λ s. new ≡ old ++ s ∷ [])) → IfOk r (λ s. Settles m (AnExpr e s)) → OnOk q (Passes m k e old rs new rs)
+value_passes m (Ok u) (Ok s) k e old new rs is judged more h = λ ks es at those. rw more (value_behind m e s those (at ∙ is) h)
+value_passes m (Ok u) (Err d) k e old new rs is judged more h = cc
+value_passes m (Err d) r k e old new rs is judged more h = tt
+
+pub array_passes : (m : Sense) {A : Type 0} (q : Result A ParseError) (r : Result Array ParseError) (k : Option Kind) (e : parsed.Expr) (ss : List Expr) (old new : List Array)
+    → k ≡ Some kind.Array → Judges (result_err r) q → OnOk q (IfOk r (λ a. new ≡ old ++ a ∷ [])) → IfOk r (λ a. (n : word.Name) × (e ≡ from.Of (from_place.Name n)) × (m.array n.word ≡ Some a)) → OnOk q (Passes m k e ss old ss new)
+array_passes m (Ok u) (Ok a) k e ss old new is judged more h = λ ks es at those. rw (more, h.1) (array_behind m h.0 a those (at ∙ is) h.2)
+array_passes m (Ok u) (Err d) k e ss old new is judged more h = cc
+array_passes m (Err d) r k e ss old new is judged more h = tt
+
+pub argument_settles : (m : Sense) (ks : List Kind) (k : Option Kind) (xs : List parsed.Expr) (i : ℕ) (x y : parsed.Expr) (ss zs : List Expr) (rs qs : List Array)
+    → i < length xs → x ≡ get_or xs i x → y ≡ x → k ≡ slice_get ks i → Passes m k y ss rs zs qs → Settles m (SomeArguments ks (take i xs) ss rs) → Settles m (SomeArguments ks (take (i + 1) xs) zs qs)
+argument_settles m ks k xs i x y ss zs rs qs h at same is passed those =
+    let le : i ≤ length xs = omega arith in
+    let count : slice_get ks (length (take i xs)) ≡ k = ap (slice_get ks) (length-take-le i xs le) ∙ sym is in
+    let e : take (i + 1) xs ≡ take i xs ++ y ∷ [] = take_more xs i x h ∙ ap (λ z. take i xs ++ z ∷ []) (sym at) ∙ ap (λ z. take i xs ++ z ∷ []) (sym same) in
+    rw e (passed ks (take i xs) count those)
 
 -- elements of arrays, and whether there are some
 pub element_settles : (m : Sense) (n : word.Name) (w : List ℕ) (a : Array) (xs : List parsed.Expr) (ss : Vec Expr)
@@ -203,6 +253,26 @@ replaced_settles m f extent xs x y z s t q which is h g place = rw (is, place.1)
 pub record_settles : (m : Sense) (f : Function) (extent : Extent) (xs : List parsed.Expr) (x y : parsed.Expr) (s t : Box Expr) (q : Place)
     → extent_of f ≡ Some extent → xs ≡ x ∷ y ∷ [] → Settles m (ASought x s.value) → Settles m (AnExpr y t.value) → spec.IsRecordPlace q → Settles m (AnExpr (from.Builtin f xs) (tree.Replace extent s t q))
 record_settles m f extent xs x y s t q which is h g whole = rw is (spec.replaced_record s t which h g whole)
+
+-- what separates the parts of a text
+pub field_separates : (m : Sense) (t : Expr) → t ≡ tree.Read (tree_place.Global FS) → Settles m (ASeparator [] separation.Fields t)
+field_separates m t is = rw is spec.by_fields
+
+pub matches_separate : (m : Sense) (r : Result Expr ParseError) (q : Result (Separation × Box Expr) ParseError) (e : parsed.Expr) (left : ℕ) (v w : List ℕ) → e ≡ from.Ere left v → w ≡ v
+    → IfOk r (λ s. s ≡ tree.Text w) → IfOk q (λ p. p.0 ≡ separation.Matches) → IfOk q (λ p. r ≡ Ok p.1.value) → IfOk q (λ p. Settles m (ASeparator (e ∷ []) p.0 p.1.value))
+matches_separate m r (Ok p) e left v w is same made how held =
+    let text : p.1.value ≡ tree.Text v = IfOk-at_ok (λ s. s ≡ tree.Text w) held made ∙ ap tree.Text same in
+    rw (is, how, text) spec.by_matches
+matches_separate m r (Err d) e left v w is same made how held = tt
+
+pub value_separates : (m : Sense) (r : Result Expr ParseError) (q : Result (Separation × Box Expr) ParseError) (e : parsed.Expr) → ((left : ℕ) (w : List ℕ) → e ≡ from.Ere left w → ⊥)
+    → IfOk r (λ s. Settles m (AnExpr e s)) → IfOk q (λ p. p.0 ≡ separation.Fields) → IfOk q (λ p. r ≡ Ok p.1.value) → IfOk q (λ p. Settles m (ASeparator (e ∷ []) p.0 p.1.value))
+value_separates m r (Ok p) e not h how held = rw how (spec.by_value not (IfOk-at_ok (λ s. Settles m (AnExpr e s)) held h))
+value_separates m r (Err d) e not h how held = tt
+
+pub split_settles : (m : Sense) (xs : List parsed.Expr) (x y : parsed.Expr) (zs : List parsed.Expr) (s t : Box Expr) (a : Array) (how : Separation)
+    → xs ≡ x ∷ y ∷ zs → Settles m (AnExpr x s.value) → (n : word.Name) × (y ≡ from.Of (from_place.Name n)) × (m.array n.word ≡ Some a) → Settles m (ASeparator zs how t.value) → Settles m (AnExpr (from.Builtin fun.Split xs) (tree.Split how s a t))
+split_settles m xs x y zs s t a how is h array g = rw (is, array.1) (spec.split array.0 s t h array.2 g)
 
 pub all_printed : (m : Sense) (es : List parsed.Expr) (ss : List Expr) → length es ≢ 0 → Settles m (SomeExprs es ss) → spec.Prints m es ss
 all_printed m [] ss h g = absurd (h refl)

@@ -28,6 +28,8 @@ use Rattle.rawk_grammar.specs.declared.tree.Action.{Action}
 use Rattle.rawk_grammar.specs.declared.tree.Action.TheVariants as does
 use Rattle.rawk_grammar.specs.declared.tree.Item.{Item}
 use Rattle.rawk_grammar.specs.declared.tree.Item.TheVariants as part
+use Rattle.rawk_tree.specs.declared.tree.Kind.{Kind}
+use Rattle.rawk_tree.specs.declared.tree.Kind.TheVariants as kind
 use Rattle.rawk_builtin_trees.specs.Calls.{has_builtin}
 use Rattle.rawk_syntax.specs.Meant.{Sense, is_there}
 
@@ -92,6 +94,12 @@ replaces (e ∷ f ∷ []) = e.covered && f.covered
 replaces (e ∷ f ∷ p ∷ []) = (e.covered && f.covered) && can_change p
 replaces _ = false
 
+-- a text and the name of an array alone, and what separates or nothing
+abbrev pub splits : List Cover → Bool
+splits (e ∷ a ∷ []) = e.covered && a.array
+splits (e ∷ a ∷ f ∷ []) = (e.covered && a.array) && f.covered
+splits _ = false
+
 -- the name of an array alone
 abbrev pub counts : List Cover → Bool
 counts (e ∷ []) = e.array
@@ -102,6 +110,7 @@ abbrev pub builtin_step : Function → List Cover → Bool
 builtin_step fun.Match es = finds es
 builtin_step fun.Sub es = replaces es
 builtin_step fun.Gsub es = replaces es
+builtin_step fun.Split es = splits es
 builtin_step fun.Length es = counts es || (has_builtin fun.Length (length es) && all_covered es)
 builtin_step f es = has_builtin f (length es) && all_covered es
 
@@ -113,7 +122,24 @@ names_array means n = is_there (means.array n.word)
 abbrev pub names_scalar : Sense → Name → Bool
 names_scalar means n = is_there (means.scalar n.word)
 
--- by what names stand for; a call is one of a function of the program
+-- an argument of a parameter, or of none: of an array it is the name of one alone
+abbrev pub fits : Option Kind → Cover → Bool
+fits None e = false
+fits (Some kind.Scalar) e = e.covered
+fits (Some kind.Array) e = e.array
+
+-- the arguments of parameters, of which the last ones may have none
+abbrev pub all_fit : List Kind → List Cover → Bool
+all_fit ks [] = true
+all_fit [] (e ∷ es) = false
+all_fit (k ∷ ks) (e ∷ es) = fits (Some k) e && all_fit ks es
+
+-- a call of a function of the program
+abbrev pub calls : Sense → Option ℕ → List Cover → Bool
+calls means None es = false
+calls means (Some f) es = all_fit (means.kinds f) es
+
+-- by what names stand for
 abbrev pub expr_step : Sense → Expr-F Cover Cover Bool → Cover
 expr_step means (expr.Number n) = plain true
 expr_step means (expr.Text w) = plain true
@@ -131,7 +157,7 @@ expr_step means (expr.After c p) = plain p.covered
 expr_step means (expr.Assign how p e) = plain (p.covered && e.covered)
 expr_step means (expr.In e ns) = plain (e.covered && each (names_array means) ns)
 expr_step means (expr.ListIn es n) = plain (names_array means n && all_covered es)
-expr_step means (expr.Call n es) = plain (is_there (means.function n.word) && all_covered es)
+expr_step means (expr.Call n es) = plain (calls means (means.function n.word) es)
 expr_step means (expr.Builtin f es) = plain (builtin_step f es)
 expr_step means _ = plain false
 

@@ -179,10 +179,11 @@ ranges_of (guard.Range left e f) = 1
 abbrev pub words_of : List Name → List (List ℕ)
 words_of names = map (λ (n : Name). n.word) names
 
--- A function's parts, from those of the text. The site of its entry is at the token `function`, before those of its body.
-pub record Defines (text : List ℕ) (means : Sense) (left : ℕ) (name : Name) (parameters : List Name) (ss : List step.Stmt) (f : Function) (m n : List ℕ) : Type 0 where
+-- The parts of the function of this number, from those of the text. The site of its entry is at the token `function`, before those of its body.
+pub record Defines (text : List ℕ) (means : Sense) (number : ℕ) (left : ℕ) (name : Name) (parameters : List Name) (ss : List step.Stmt) (f : Function) (m n : List ℕ) : Type 0 where
   pub called : f.name ≡ name.word
   pub takes : f.parameters.items ≡ words_of parameters
+  pub kinds : f.kinds.items ≡ means.kinds number
   pub site : f.site ≡ length m
   pub steps : Vec Stmt
   pub block : f.body ≡ tree.Block steps
@@ -205,7 +206,7 @@ pub data Sorts (text : List ℕ) (means : ℕ → Sense) : List Item → List Fu
       → Sorts text means items functions ranges begins rules ends m → Rules text (means 0) ranges p x r m n
       → Sorts text means (items ++ part.Rule p x ∷ []) functions (ranges + ranges_of p) begins (rules ++ r ∷ []) ends n
   function : {items : List Item} {functions : List Function} {ranges : ℕ} {begins ends : List Stmt} {rules : List Rule} {name : Name} {parameters : List Name} {ss : List step.Stmt} {f : Function} {m n : List ℕ} (left : ℕ)
-      → Sorts text means items functions ranges begins rules ends m → Defines text (means (suc (length functions))) left name parameters ss f m n
+      → Sorts text means items functions ranges begins rules ends m → Defines text (means (suc (length functions))) (length functions) left name parameters ss f m n
       → Sorts text means (items ++ part.Function left name parameters ss ∷ []) (functions ++ f ∷ []) ranges begins rules ends n
 
 -- The program's parts are those of these items of the text, and these are the lines of its sites.

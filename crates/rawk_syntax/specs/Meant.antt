@@ -1,5 +1,6 @@
 -- What names stand for in the settled tree.
 use Rattle.std.specs.Prelude.{ℕ, ◌-◌, suc, Bool, true, false, if◌then◌else◌, nat_lt, List, [], ◌∷◌, map, slice_get, Option, Some, None}
+use Rattle.std.specs.List.{range_with_len}
 use Rattle.rawk_keys.specs.ArrayKey.{ArrayKey, array_key}
 use Rattle.rawk_names.specs.declared.names.Meaning.{Meaning}
 use Rattle.rawk_names.specs.declared.names.Meaning.TheVariants as meaning
@@ -17,11 +18,13 @@ use Rattle.rawk_tree.specs.declared.tree.Scalar.TheVariants as scalar
 use Rattle.rawk_words.specs.declared.array.Array.{Array}
 use Rattle.rawk_words.specs.declared.array.Array.TheVariants as array
 
--- what each name stands for: a scalar or an array, where the settled tree has it, or the number of a function
+-- what each name stands for: a scalar or an array, where the settled tree has it, or the number of a function;
+-- and what each parameter of a function is, in their order, by the function's number
 pub record Sense : Type 0 where
   pub scalar : List ℕ → Option Scalar
   pub array : List ℕ → Option Array
   pub function : List ℕ → Option ℕ
+  pub kinds : ℕ → List Kind
 
 -- where the parameters of a function stand among all variables
 abbrev pub first_of_all : Option Signature → ℕ
@@ -47,28 +50,48 @@ scalar_at names scope None = None
 scalar_at names scope (Some (meaning.Function f)) = None
 scalar_at names scope (Some (meaning.Variable v)) = unmarked_scalar names scope v
 
--- a global array has the number of its name among the globals that are not special; a parameter that is an array is left out
+-- a global array has the number of its name among the globals that are not special; a special variable is no array
 abbrev pub global_array : Known → ℕ → Option Array
 global_array names v = if nat_lt v (end_of_last names.signatures) then None else Some (array.Global (v - end_of_last names.signatures))
 
-abbrev pub marked_array : Known → ℕ → Option Array
-marked_array names v = if is_marked names.arrays v then global_array names v else None
+-- a parameter that is an array is a local, as one that is a scalar is (POSIX awk, "User-Defined Functions")
+abbrev pub variable_array : Known → ℕ → ℕ → Variable → Option Array
+variable_array names scope v variable.FieldCount = None
+variable_array names scope v (variable.Global n) = global_array names v
+variable_array names scope v (variable.Parameter p) = Some (array.Local (p - first_parameter names scope))
 
-abbrev pub array_at : Known → Option Meaning → Option Array
-array_at names None = None
-array_at names (Some (meaning.Function f)) = None
-array_at names (Some (meaning.Variable v)) = marked_array names v
+abbrev pub marked_array : Known → ℕ → ℕ → Option Array
+marked_array names scope v = if is_marked names.arrays v then variable_array names scope v (variable_of names v) else None
+
+abbrev pub array_at : Known → ℕ → Option Meaning → Option Array
+array_at names scope None = None
+array_at names scope (Some (meaning.Function f)) = None
+array_at names scope (Some (meaning.Variable v)) = marked_array names scope v
 
 -- functions have numbers from 0, in the order of the text
 abbrev pub function_of : Known → List ℕ → Option ℕ
 function_of names word = place_of (array_key 0 word) names.functions
 
+abbrev pub kind_of : Bool → Kind
+kind_of true = kind.Array
+kind_of false = kind.Scalar
+
+-- those of one function stand side by side
+abbrev pub kinds_at : Known → Option Signature → List Kind
+kinds_at names None = []
+kinds_at names (Some s) = map (λ v. kind_of (is_marked names.arrays v)) (range_with_len s.first (s.end - s.first))
+
+-- what each parameter of a function is, a scalar or an array, in their order (POSIX awk, "User-Defined Functions")
+abbrev pub parameter_kinds : Known → ℕ → List Kind
+parameter_kinds names function = kinds_at names (slice_get names.signatures function)
+
 -- by what is known of the names of a program, in each scope
 abbrev pub sense : Known → ℕ → Sense
 sense names scope = record {
   scalar = λ word. scalar_at names scope (meaning_of names scope word);
-  array = λ word. array_at names (meaning_of names scope word);
+  array = λ word. array_at names scope (meaning_of names scope word);
   function = function_of names;
+  kinds = parameter_kinds names;
 }
 
 abbrev pub sense_of : Scope → Sense
@@ -81,10 +104,6 @@ is_there (Some a) = true
 -- the names of the globals that are not special, in the order in which they appear
 abbrev pub global_words : Known → List (List ℕ)
 global_words names = map (λ (entry : ArrayKey). entry.key) (own_globals names)
-
-abbrev pub kind_of : Bool → Kind
-kind_of true = kind.Array
-kind_of false = kind.Scalar
 
 -- what variables are that stand side by side from this place on
 abbrev pub kinds_from : Known → ℕ → List ArrayKey → List Kind

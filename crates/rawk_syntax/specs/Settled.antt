@@ -34,7 +34,12 @@ use Rattle.rawk_tree.specs.declared.tree.Place.{Place}
 use Rattle.rawk_tree.specs.declared.tree.Place.TheVariants as tree_place
 use Rattle.rawk_tree.specs.declared.tree.Scalar.{Scalar}
 use Rattle.rawk_tree.specs.declared.tree.Scalar.TheVariants as scalar
+use Rattle.rawk_tree.specs.declared.tree.Kind.{Kind}
+use Rattle.rawk_tree.specs.declared.tree.Kind.TheVariants as kind
+use Rattle.rawk_tree.specs.declared.tree.Separation.{Separation}
+use Rattle.rawk_tree.specs.declared.tree.Separation.TheVariants as separation
 use Rattle.rawk_builtin_trees.specs.Calls.{Applies}
+use Rattle.rawk_special.specs.declared.special.TheConstants.{FS}
 use Rattle.rawk_syntax.specs.Meant.{Sense}
 
 -- a part of the parser's tree, and what it is settled as
@@ -46,6 +51,10 @@ pub data Pair : Type 0 where
   SomeLinks : List join.Link → List Link → Pair
   SomeTests : Logic → List parsed.Expr → List Link → Pair
   SomeExprs : List parsed.Expr → List Expr → Pair
+  -- the arguments of parameters of these kinds: the values of scalars, and the arrays
+  SomeArguments : List Kind → List parsed.Expr → List Expr → List Array → Pair
+  -- what separates the parts of a text, or nothing, and how it separates
+  ASeparator : List parsed.Expr → Separation → Expr → Pair
 
 -- the operator of a link
 abbrev pub joiner_of : Operator → Joiner
@@ -150,7 +159,8 @@ pub data Settles (means : Sense) : Pair → Type 0 where
   member : {e : parsed.Expr} {ns : List word.Name} {s t : Expr} → Settles means (AnExpr e s) → IsIn means s ns t → Settles means (AnExpr (from.In e ns) t)
   list_member : {n : word.Name} {es : List parsed.Expr} {a : Array} (ss : Vec Expr)
       → means.array n.word ≡ Some a → Settles means (SomeExprs es ss.items) → Settles means (AnExpr (from.ListIn es n) (tree.Has a ss))
-  call : {n : word.Name} {es : List parsed.Expr} {f : ℕ} (ss : Vec Expr) → means.function n.word ≡ Some f → Settles means (SomeExprs es ss.items) → Settles means (AnExpr (from.Call n es) (tree.Call f ss))
+  call : {n : word.Name} {es : List parsed.Expr} {f : ℕ} (ss : Vec Expr) (rs : Vec Array)
+      → means.function n.word ≡ Some f → Settles means (SomeArguments (means.kinds f) es ss.items rs.items) → Settles means (AnExpr (from.Call n es) (tree.Call f ss rs))
   builtin : {f : Function} {es : List parsed.Expr} {ss : List Expr} {s : Expr} → Settles means (SomeExprs es ss) → Applies f ss s → Settles means (AnExpr (from.Builtin f es) s)
   -- `length` of the name of an array alone counts its elements (POSIX awk, "String Functions")
   counted : {a : Array} (n : word.Name) → means.array n.word ≡ Some a → Settles means (AnExpr (from.Builtin fun.Length (from.Of (from_place.Name n) ∷ [])) (tree.Count a))
@@ -162,6 +172,9 @@ pub data Settles (means : Sense) : Pair → Type 0 where
   -- the second argument of `match` is sought in the first
   found : {e f : parsed.Expr} (s t : Box Expr)
       → Settles means (AnExpr e s.value) → Settles means (ASought f t.value) → Settles means (AnExpr (from.Builtin fun.Match (e ∷ f ∷ [])) (tree.Match s t))
+  -- the second argument of `split` is the name of an array alone (POSIX awk, "String Functions")
+  split : {e : parsed.Expr} {es : List parsed.Expr} {a : Array} {how : Separation} (n : word.Name) (s t : Box Expr)
+      → Settles means (AnExpr e s.value) → means.array n.word ≡ Some a → Settles means (ASeparator es how t.value) → Settles means (AnExpr (from.Builtin fun.Split (e ∷ from.Of (from_place.Name n) ∷ es)) (tree.Split how s a t))
   name : {n : word.Name} {v : Scalar} → means.scalar n.word ≡ Some v → Settles means (APlace (from_place.Name n) (scalar_place v))
   field : {e : parsed.Expr} (s : Box Expr) → Settles means (AnExpr e s.value) → Settles means (APlace (from_place.Field e) (tree_place.Field s))
   -- an element has its subscripts in the order of the text (POSIX awk, "Expressions in awk")
@@ -176,6 +189,16 @@ pub data Settles (means : Sense) : Pair → Type 0 where
   no_exprs : Settles means (SomeExprs [] [])
   an_expr : {es : List parsed.Expr} {ss : List Expr} {e : parsed.Expr} {s : Expr}
       → Settles means (SomeExprs es ss) → Settles means (AnExpr e s) → Settles means (SomeExprs (es ++ e ∷ []) (ss ++ s ∷ []))
+  -- the last parameters may have no argument; that of an array is the name of one alone (POSIX awk, "User-Defined Functions")
+  no_arguments : {ks : List Kind} → Settles means (SomeArguments ks [] [] [])
+  a_value : {ks : List Kind} {es : List parsed.Expr} {ss : List Expr} {rs : List Array} {e : parsed.Expr} {s : Expr}
+      → Settles means (AnExpr e s) → Settles means (SomeArguments ks es ss rs) → Settles means (SomeArguments (kind.Scalar ∷ ks) (e ∷ es) (s ∷ ss) rs)
+  an_array : {ks : List Kind} {es : List parsed.Expr} {ss : List Expr} {rs : List Array} {a : Array} (n : word.Name)
+      → means.array n.word ≡ Some a → Settles means (SomeArguments ks es ss rs) → Settles means (SomeArguments (kind.Array ∷ ks) (from.Of (from_place.Name n) ∷ es) ss (a ∷ rs))
+  -- a missing separator is FS, a regular expression separates by its matches, and anything else as its value in FS does (POSIX awk, "String Functions")
+  by_fields : Settles means (ASeparator [] separation.Fields (tree.Read (tree_place.Global FS)))
+  by_matches : {left : ℕ} {w : List ℕ} → Settles means (ASeparator (from.Ere left w ∷ []) separation.Matches (tree.Text w))
+  by_value : {e : parsed.Expr} {s : Expr} → ((left : ℕ) (w : List ℕ) → e ≡ from.Ere left w → ⊥) → Settles means (AnExpr e s) → Settles means (ASeparator (e ∷ []) separation.Fields s)
 
 -- what is printed: a missing list is the record, `$0`
 pub data Prints (means : Sense) : List parsed.Expr → List Expr → Type 0 where

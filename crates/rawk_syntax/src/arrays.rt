@@ -82,6 +82,17 @@ fn array_alone(scope: &Scope<'_>, e: &parsed::Expr) -> Option<Array>
     }
 }
 
+/// The same, where there has to be one.
+pub fn array_named(scope: &Scope<'_>, left: usize, e: &parsed::Expr) -> Result<Array, ParseError>
+    ensures named { IfOk result (λ a. (n : word.Name) × (e.now ≡ from.Of (from_place.Name n)) × ((sense_of scope.now).array n.word ≡ Some a)) }
+    ensures judged { Judges (unless (cover.cover_of (sense_of scope.now) e.now).array left) result }
+{
+    match array_alone(scope, e) {
+        Some(array) => Ok(array),
+        None => Err(left_out(left)),
+    }
+}
+
 /// The array whose name alone is the one argument.
 pub fn counted(scope: &Scope<'_>, arguments: &[Boxed<parsed::Expr>]) -> Option<Array>
     ensures named { IfSome result (λ a. (n : word.Name) × (arguments.now ≡ from.Of (from_place.Name n) ∷ []) × ((sense_of scope.now).array n.word ≡ Some a)) }

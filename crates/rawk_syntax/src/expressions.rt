@@ -1,75 +1,44 @@
 //! Expressions: names become numbers, and parentheses go.
 
-ghost use Rattle.std.specs.Prelude.{◌≡◌, [], ◌∷◌, ◌++◌, ◌&&◌, IfOk, OnOk, Ok, None, Some, length, pos, true};
-ghost use Rattle.std.specs.Global.{Box};
-ghost use Rattle.std.specs.Result.{result_err, result_map_both};
+ghost use Rattle.std.specs.Prelude.{◌≡◌, List, [], ◌∷◌, ◌++◌, ◌&&◌, IfOk, OnOk, Some, length, map, slice_get};
 ghost use Rattle.rawk_parsing.specs.declared.parse_error.ParseError.TheVariants.{Here};
 ghost use Rattle.rawk_parsing.specs.declared.refusal.RefusalKind.TheVariants as refused;
 ghost use Rattle.rawk_parsing.specs.declared.tree.Expr.TheVariants as from;
 ghost use Rattle.rawk_parsing.specs.declared.tree.Function.TheVariants as fun;
+ghost use Rattle.rawk_parsing.specs.declared.tree.Expr as parsed_expr;
+ghost use Rattle.rawk_parsing.specs.declared.tree.Name as word;
 ghost use Rattle.rawk_parsing.specs.declared.tree.Place as parsed_place;
 ghost use Rattle.rawk_parsing.specs.declared.tree.Place.TheVariants as from_place;
-ghost use Rattle.rawk_tree.specs.declared.tree.Expr as settled;
-ghost use Rattle.rawk_tree.specs.declared.tree.Expr.TheVariants as tree;
-ghost use Rattle.rawk_tree.specs.declared.tree.Link.TheVariants as tree_link;
-ghost use Rattle.rawk_tree.specs.declared.tree.Unary.TheVariants as unary;
+ghost use Rattle.rawk_tree.specs.declared.tree.Kind as tree_kind;
 ghost use Rattle.rawk_builtin_trees.specs.Calls.{Applies, has_builtin};
 ghost use Rattle.rawk_syntax.specs.Covered as cover;
 ghost use Rattle.rawk_syntax.specs.Covered.{Judges, unless};
-ghost use Rattle.rawk_syntax.specs.Meant.{Sense, sense_of};
-ghost use Rattle.rawk_syntax.specs.Settled.{Settles, AnExpr, APlace, ASought, IsMatchOf, IsRecord, IsRecordPlace, SomeLinks, SomeTests, SomeExprs, Prints, joiner_of, operator_of, neutral, right_of, extent_of, scalar_place};
+ghost use Rattle.rawk_syntax.specs.Meant.{sense_of};
+ghost use Rattle.rawk_syntax.specs.Settled.{Settles, AnExpr, APlace, ASought, ASeparator, SomeArguments, SomeLinks, SomeTests, SomeExprs, Prints, right_of, extent_of};
 
-use crate::arrays::{counted, members_of};
+use crate::arrays::{array_named, counted, members_of};
 use crate::growth::{boxed, boxed_if, push, push_if};
+use crate::kinds::kind_at;
+use crate::nodes::{
+    after_of, before_of, field_separator, joiner_of, neutral, push_link, push_test, read_of,
+    record, record_place, scalar_place, separated, settle_ere, settle_number, settle_text,
+    signed_of,
+};
 use crate::scope::{Scope, array_of, called, scalar_of};
 use rawk_builtin_trees::{apply, format_and_arguments};
 use rawk_items::Boxed;
-use rawk_parsing::tree::{Assignment, Change, Function, Operator};
+use rawk_parsing::tree::{Assignment, Function};
 use rawk_parsing::{ParseError, RefusalKind, tree as parsed};
-use rawk_tree::{Expr, Joiner, Link, Place, Scalar, Unary};
-use rawk_value::{Arithmetic, Bytes};
-use rawk_words::{Extent, Logic, Sign};
-use std::alloc::{AllocError, Global};
+use rawk_tree::{Array, Expr, Joiner, Kind, Link, Place, Separation};
+use rawk_value::Arithmetic;
+use rawk_words::{Extent, Logic};
+use std::alloc::Global;
 
 /// The refusal of what the settled tree does not have yet, at a place.
 pub fn left_out(left: usize) -> ParseError
     ensures { result ≡ Here refused.LeftOut left }
 {
     ParseError::Here(RefusalKind::LeftOut, left)
-}
-
-/// The operator of a link.
-fn joiner_of(operator: Operator) -> Joiner
-    ensures { result ≡ joiner_of operator }
-{
-    match operator {
-        Operator::Arithmetic(arithmetic) => Joiner::Arithmetic(arithmetic),
-        Operator::Comparison(comparison) => Joiner::Comparison(comparison),
-        Operator::Concat => Joiner::Concat,
-        Operator::Match => Joiner::Matches,
-        Operator::NotMatch => Joiner::NotMatches,
-    }
-}
-
-/// What `++` and `--` do with 1.
-fn operator_of(change: Change) -> Arithmetic
-    ensures { result ≡ operator_of change }
-{
-    match change {
-        Change::Increment => Arithmetic::Add,
-        Change::Decrement => Arithmetic::Sub,
-    }
-}
-
-/// A scalar, as a place.
-fn scalar_place(scalar: Scalar) -> Place
-    ensures { result ≡ scalar_place scalar }
-{
-    match scalar {
-        Scalar::Global(number) => Place::Global(number),
-        Scalar::Local(number) => Place::Local(number),
-        Scalar::FieldCount => Place::FieldCount,
-    }
 }
 
 /// The place that a name stands for.
@@ -80,21 +49,6 @@ fn settle_name(scope: &Scope<'_>, left: usize, name: &parsed::Name) -> Result<Pl
     match scalar_of(scope, name.word.as_slice()) {
         Some(scalar) => Ok(scalar_place(scalar)),
         None => Err(left_out(left)),
-    }
-}
-
-/// One more test at the end, if it was settled.
-fn push_test(
-    tests: &mut Vec<Link>,
-    logic: Logic,
-    test: Result<Expr, ParseError>,
-) -> Result<(), ParseError>
-    ensures pushed { OnOk result (IfOk test (λ s. tests.new.items ≡ tests.old.items ++ tree_link.Decide logic s ∷ [])) }
-    ensures judged { Judges (result_err test) result }
-{
-    match test {
-        Ok(test) => Ok(push(tests, Link::Decide(logic, test))?),
-        Err(e) => Err(e),
     }
 }
 
@@ -116,23 +70,6 @@ fn settle_tests(
         push_test(&mut settled, logic, operand)?;
     }
     Ok(settled)
-}
-
-/// A number that the text does not have.
-fn number(alloc: Global, n: i64) -> Result<Box<Expr>, AllocError>
-    ensures { IfOk result (λ b. b.value ≡ tree.Number n) }
-{
-    boxed(alloc, Expr::Number(n))
-}
-
-/// The constant before the first test, which decides nothing.
-fn neutral(logic: Logic) -> Expr
-    ensures { result ≡ tree.Number (neutral logic) }
-{
-    match logic {
-        Logic::And => Expr::Number(1),
-        Logic::Or => Expr::Number(0),
-    }
 }
 
 /// An element of an array.
@@ -177,21 +114,6 @@ fn settle_place(
     }
 }
 
-/// One more link at the end, if its operand was settled.
-fn push_link(
-    links: &mut Vec<Link>,
-    operator: Joiner,
-    operand: Result<Expr, ParseError>,
-) -> Result<(), ParseError>
-    ensures pushed { OnOk result (IfOk operand (λ s. links.new.items ≡ links.old.items ++ tree_link.Combine operator s ∷ [])) }
-    ensures judged { Judges (result_err operand) result }
-{
-    match operand {
-        Ok(operand) => Ok(push(links, Link::Combine(operator, operand))?),
-        Err(e) => Err(e),
-    }
-}
-
 #[cycle(settle)]
 fn settle_links(
     alloc: Global,
@@ -209,51 +131,6 @@ fn settle_links(
         push_link(&mut settled, operator, operand)?;
     }
     Ok(settled)
-}
-
-/// A number, which is settled as itself.
-fn settle_number(n: &i64) -> Result<Expr, ParseError>
-    ensures { result ≡ Ok (tree.Number n.now) }
-{
-    Ok(Expr::Number(*n))
-}
-
-/// A text, which is settled as itself.
-fn settle_text(alloc: Global, text: &[u8]) -> Result<Expr, ParseError>
-    ensures settled { IfOk result (λ s. s ≡ tree.Text text.now) }
-    ensures judged { Judges None result }
-{
-    let text = Bytes::from_slice(alloc, text)?;
-    Ok(Expr::Text(text))
-}
-
-/// `$0`, as a place.
-fn record_place(alloc: Global) -> Result<Place, AllocError>
-    ensures { IfOk result (λ q. IsRecordPlace q) }
-{
-    let number = number(alloc, 0)?;
-    Ok(Place::Field(number))
-}
-
-/// Its value.
-fn record(alloc: Global) -> Result<Expr, AllocError>
-    ensures { IfOk result (λ s. IsRecord s) }
-{
-    let place = record_place(alloc)?;
-    Ok(Expr::Read(place))
-}
-
-/// A regular expression by itself: whether `$0` has a match of it.
-fn settle_ere(alloc: Global, text: &[u8]) -> Result<Expr, ParseError>
-    ensures settled { IfOk result (λ s. IsMatchOf text.now s) }
-    ensures judged { Judges None result }
-{
-    let whole = record(alloc)?;
-    let first = boxed(alloc, whole)?;
-    let text = Bytes::from_slice(alloc, text)?;
-    let mut more = Vec::new(alloc);
-    push(&mut more, Link::Combine(Joiner::Matches, Expr::Text(text)))?;
-    Ok(Expr::Chain(first, more))
 }
 
 /// A text that is sought: a regular expression stands for its text, and anything else for its value.
@@ -288,54 +165,6 @@ fn settle_right(
     match joiner {
         Joiner::Matches | Joiner::NotMatches => settle_sought(alloc, scope, left, e),
         _ => settle_expr(alloc, scope, left, e),
-    }
-}
-
-/// The value of a place, if that was settled.
-fn read_of(place: Result<Place, ParseError>) -> Result<Expr, ParseError>
-    ensures { result ≡ result_map_both tree.Read (λ e. e) place }
-{
-    match place {
-        Ok(place) => Ok(Expr::Read(place)),
-        Err(e) => Err(e),
-    }
-}
-
-/// A sign before an operand, if that was settled.
-fn signed_of(sign: Sign, operand: Result<Box<Expr>, ParseError>) -> Result<Expr, ParseError>
-    ensures { result ≡ result_map_both (tree.Unary (unary.Sign sign)) (λ e. e) operand }
-{
-    match operand {
-        Ok(operand) => Ok(Expr::Unary(Unary::Sign(sign), operand)),
-        Err(e) => Err(e),
-    }
-}
-
-/// `++` or `--` before a place, if that was settled: an assignment with 1.
-fn before_of(
-    alloc: Global,
-    change: Change,
-    place: Result<Place, ParseError>,
-) -> Result<Expr, ParseError>
-    ensures settled { IfOk result (λ s. IfOk place (λ p. (one : Box settled.Expr) × (one.value ≡ tree.Number (pos 1)) × (s ≡ tree.Update (operator_of change) p one))) }
-    ensures judged { Judges (result_err place) result }
-{
-    match place {
-        Ok(place) => {
-            let one = number(alloc, 1)?;
-            Ok(Expr::Update(operator_of(change), place, one))
-        }
-        Err(e) => Err(e),
-    }
-}
-
-/// `++` or `--` behind a place, if that was settled.
-fn after_of(change: Change, place: Result<Place, ParseError>) -> Result<Expr, ParseError>
-    ensures { result ≡ result_map_both (tree.After (operator_of change)) (λ e. e) place }
-{
-    match place {
-        Ok(place) => Ok(Expr::After(operator_of(change), place)),
-        Err(e) => Err(e),
     }
 }
 
@@ -498,6 +327,58 @@ fn settle_list_in(
     Ok(Expr::Has(array, subscripts))
 }
 
+/// An argument of a parameter of this kind, which is added to the values or to the arrays; there may be no such parameter.
+#[cycle(settle)]
+fn settle_argument(
+    alloc: Global,
+    scope: &Scope<'_>,
+    left: usize,
+    kind: Option<Kind>,
+    argument: &parsed::Expr,
+    values: &mut Vec<Expr>,
+    arrays: &mut Vec<Array>,
+) -> Result<(), ParseError>
+    ensures settled { OnOk result ((kinds : List tree_kind.Kind) (before : List parsed_expr.Expr) → slice_get kinds (length before) ≡ kind
+        → Settles (sense_of scope.now) (SomeArguments kinds before values.old.items arrays.old.items)
+        → Settles (sense_of scope.now) (SomeArguments kinds (before ++ argument.now ∷ []) values.new.items arrays.new.items)) }
+    ensures judged { Judges (unless (cover.fits kind (cover.cover_of (sense_of scope.now) argument.now)) left) result }
+{
+    match kind {
+        Some(Kind::Scalar) => push_if(values, settle_expr(alloc, scope, left, argument)),
+        Some(Kind::Array) => push_if(arrays, array_named(scope, left, argument)),
+        None => Err(left_out(left)),
+    }
+}
+
+/// The arguments of the scalar parameters of a function, and those of its arrays, each in their order.
+#[cycle(settle)]
+fn settle_arguments(
+    alloc: Global,
+    scope: &Scope<'_>,
+    left: usize,
+    function: usize,
+    arguments: &[Boxed<parsed::Expr>],
+) -> Result<(Vec<Expr>, Vec<Array>), ParseError>
+    ensures settled { IfOk result (λ pair. Settles (sense_of scope.now) (SomeArguments ((sense_of scope.now).kinds function) arguments.now pair.0.items pair.1.items)) }
+    ensures judged { Judges (unless (cover.all_fit ((sense_of scope.now).kinds function) (map (cover.cover_of (sense_of scope.now)) arguments.now)) left) result }
+{
+    let mut values = Vec::new(alloc);
+    let mut arrays = Vec::new(alloc);
+    for (i, argument) in arguments.iter().enumerate() {
+        let kind = kind_at(scope.names, function, i);
+        settle_argument(
+            alloc,
+            scope,
+            left,
+            kind,
+            argument.get(),
+            &mut values,
+            &mut arrays,
+        )?;
+    }
+    Ok((values, arrays))
+}
+
 /// A call of a function of the program.
 #[cycle(settle)]
 fn settle_call(
@@ -513,8 +394,8 @@ fn settle_call(
     let Some(function) = called(scope, name.word.as_slice()) else {
         return Err(left_out(left));
     };
-    let arguments = settle_list(alloc, scope, left, arguments)?;
-    Ok(Expr::Call(function, arguments))
+    let (values, arrays) = settle_arguments(alloc, scope, left, function, arguments)?;
+    Ok(Expr::Call(function, values, arrays))
 }
 
 /// A call of `match`: a text, and what is sought in it.
@@ -602,6 +483,73 @@ fn settle_replace(
     }
 }
 
+/// A text, and the array that takes its parts.
+#[cycle(settle)]
+fn settle_parted(
+    alloc: Global,
+    scope: &Scope<'_>,
+    left: usize,
+    text: &parsed::Expr,
+    array: &parsed::Expr,
+) -> Result<(Box<Expr>, Array), ParseError>
+    ensures text { IfOk result (λ pair. Settles (sense_of scope.now) (AnExpr text.now pair.0.value)) }
+    ensures array { IfOk result (λ pair. (n : word.Name) × (array.now ≡ from.Of (from_place.Name n)) × ((sense_of scope.now).array n.word ≡ Some pair.1)) }
+    ensures judged { Judges (unless (cover.covers (sense_of scope.now) text.now && (cover.cover_of (sense_of scope.now) array.now).array) left) result }
+{
+    let array = array_named(scope, left, array)?;
+    let text = settle_boxed(alloc, scope, left, text)?;
+    Ok((text, array))
+}
+
+/// What separates the parts of a text: a regular expression by its matches, and anything else as its value in FS does.
+#[cycle(settle)]
+fn settle_separator(
+    alloc: Global,
+    scope: &Scope<'_>,
+    left: usize,
+    e: &parsed::Expr,
+) -> Result<(Separation, Box<Expr>), ParseError>
+    ensures settled { IfOk result (λ pair. Settles (sense_of scope.now) (ASeparator (e.now ∷ []) pair.0 pair.1.value)) }
+    ensures judged { Judges (unless (cover.covers (sense_of scope.now) e.now) left) result }
+{
+    match e {
+        parsed::Expr::Ere(_, text) => {
+            let pattern = settle_text(alloc, text.as_slice());
+            separated(alloc, Separation::Matches, pattern)
+        }
+        _ => {
+            let value = settle_expr(alloc, scope, left, e);
+            separated(alloc, Separation::Fields, value)
+        }
+    }
+}
+
+/// A call of `split`: a text, the array that takes its parts, and a separator, or FS.
+#[cycle(settle)]
+fn settle_split(
+    alloc: Global,
+    scope: &Scope<'_>,
+    left: usize,
+    arguments: &[Boxed<parsed::Expr>],
+) -> Result<Expr, ParseError>
+    ensures settled { IfOk result (λ s. Settles (sense_of scope.now) (AnExpr (from.Builtin fun.Split arguments.now) s)) }
+    ensures judged { Judges (unless (cover.covers (sense_of scope.now) (from.Builtin fun.Split arguments.now)) left) result }
+{
+    match arguments {
+        [text, array] => {
+            let (text, array) = settle_parted(alloc, scope, left, text.get(), array.get())?;
+            let separator = field_separator(alloc)?;
+            Ok(Expr::Split(Separation::Fields, text, array, separator))
+        }
+        [text, array, separator] => {
+            let (text, array) = settle_parted(alloc, scope, left, text.get(), array.get())?;
+            let (how, separator) = settle_separator(alloc, scope, left, separator.get())?;
+            Ok(Expr::Split(how, text, array, separator))
+        }
+        _ => Err(left_out(left)),
+    }
+}
+
 /// A call of a built-in function of the values of its arguments.
 #[cycle(settle)]
 fn settle_applied(
@@ -652,6 +600,7 @@ fn settle_builtin(
         Function::Match => settle_match(alloc, scope, left, arguments),
         Function::Sub => { settle_replace(alloc, scope, left, function, Extent::First, arguments) }
         Function::Gsub => settle_replace(alloc, scope, left, function, Extent::All, arguments),
+        Function::Split => settle_split(alloc, scope, left, arguments),
         _ => settle_applied(alloc, scope, left, function, arguments),
     }
 }

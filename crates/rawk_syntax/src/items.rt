@@ -1,6 +1,6 @@
 //! The items of a program.
 
-ghost use Rattle.std.specs.Prelude.{◌≡◌, ◌≤◌, List, [], ◌∷◌, ◌++◌, length, pos, IfOk, OnOk};
+ghost use Rattle.std.specs.Prelude.{◌≡◌, ◌≤◌, ◌-◌, List, [], ◌∷◌, ◌++◌, length, pos, IfOk, OnOk};
 ghost use Rattle.std.specs.Result.{result_err, result_map_both};
 ghost use Rattle.rawk_grammar.specs.declared.tree.Action.TheVariants as does;
 ghost use Rattle.rawk_grammar.specs.declared.tree.Item as part;
@@ -10,11 +10,12 @@ ghost use Rattle.rawk_tree.specs.declared.tree.Stmt.TheVariants as tree;
 ghost use Rattle.rawk_syntax.specs.Covered as cover;
 ghost use Rattle.rawk_syntax.specs.Covered.{Judges};
 ghost use Rattle.rawk_names.specs.Named.{known};
-ghost use Rattle.rawk_syntax.specs.Meant.{global_kinds, global_words, kind_of, sense, sense_of};
+ghost use Rattle.rawk_syntax.specs.Meant.{global_words, sense, sense_of};
 ghost use Rattle.rawk_syntax.specs.Laid.{sited, rule_of, Adds, Does, Guards, Rules, Defines, IsLaidWith, IsLaid, ranges_of, words_of};
 
 use crate::expressions::{settle_expr, settle_printed};
 use crate::growth::{push, push_if};
+use crate::kinds::{global_kinds, parameter_kinds};
 use crate::lines::Sites;
 use crate::scope::Scope;
 use crate::statements::{block_of, print_of, settle_statements};
@@ -209,16 +210,18 @@ fn push_function(
     functions: &mut Vec<Function>,
     name: Bytes,
     parameters: Vec<Bytes>,
+    kinds: Vec<Kind>,
     site: usize,
     steps: Vec<Stmt>,
 ) -> Result<(), AllocError>
-    ensures { OnOk result (functions.new.items ≡ functions.old.items ++ record { name = name; parameters = parameters; site = site; body = tree.Block steps } ∷ []) }
+    ensures { OnOk result (functions.new.items ≡ functions.old.items ++ record { name = name; parameters = parameters; kinds = kinds; site = site; body = tree.Block steps } ∷ []) }
 {
     push(
         functions,
         Function {
             name,
             parameters,
+            kinds,
             site,
             body: Stmt::Block(steps),
         },
@@ -237,15 +240,16 @@ fn settle_function(
     functions: &mut Vec<Function>,
 ) -> Result<(), ParseError>
     ensures text { sites.new.text ≡ sites.old.text }
-    ensures settled { OnOk result (Adds (λ f. Defines sites.old.text.now (sense_of scope.now) left name.now parameters.now steps.now f sites.old.lines.items sites.new.lines.items) functions.old.items functions.new.items) }
+    ensures settled { OnOk result (Adds (λ f. Defines sites.old.text.now (sense_of scope.now) (scope.now.number - 1) left name.now parameters.now steps.now f sites.old.lines.items sites.new.lines.items) functions.old.items functions.new.items) }
     ensures judged { Judges (cover.first_of (cover.gap (sense_of scope.now)) steps.now) result }
 {
     let site = sites.lines.len();
     sites.add(left)?;
     let name = Bytes::from_slice(alloc, name.word.as_slice())?;
     let parameters = words_of(alloc, parameters)?;
+    let kinds = parameter_kinds(alloc, scope.names, scope.number.saturating_sub(1))?;
     let steps = settle_statements(alloc, sites, scope, steps)?;
-    Ok(push_function(functions, name, parameters, site, steps)?)
+    Ok(push_function(functions, name, parameters, kinds, site, steps)?)
 }
 
 /// An item, which is added to the program.
@@ -308,24 +312,6 @@ fn global_words(alloc: Global, names: &Names) -> Result<Vec<Bytes>, AllocError>
         words.push(Bytes::from_slice(alloc, names.variable_name(variable))?)?;
     }
     Ok(words)
-}
-
-/// What a global is.
-fn kind_of(array: bool) -> Kind
-    ensures { result ≡ kind_of array }
-{
-    if array { Kind::Array } else { Kind::Scalar }
-}
-
-/// What each of these globals is, in the same order.
-fn global_kinds(alloc: Global, names: &Names) -> Result<Vec<Kind>, AllocError>
-    ensures { IfOk result (λ kinds. kinds.items ≡ global_kinds (known names.now)) }
-{
-    let mut kinds = Vec::new(alloc);
-    for global in names.first_own_global()..names.variable_count() {
-        kinds.push(kind_of(names.is_array(global)))?;
-    }
-    Ok(kinds)
 }
 
 /// The program of the items of a text, by their names. What the settled tree does not have yet is refused as left out, at the place of

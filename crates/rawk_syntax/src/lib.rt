@@ -5,8 +5,10 @@ mod arrays;
 mod expressions;
 mod growth;
 mod items;
+mod kinds;
 pub mod laws;
 mod lines;
+mod nodes;
 mod parsing;
 mod scope;
 mod statements;
@@ -16,5 +18,5 @@ pub use rawk_lexer::unescaped;
 pub use rawk_parsing::{Refusal, RefusalKind};
 pub use rawk_tree::{
     Array, Branch, Expr, Function, Guard, Joiner, Kind, Link, Logic, Place, Program, Rule, Scalar,
-    Sign, Stmt, Unary,
+    Separation, Sign, Stmt, Unary,
 };

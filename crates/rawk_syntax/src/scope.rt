@@ -1,8 +1,8 @@
 //! What names stand for where a part of a program stands.
 
 ghost use Rattle.std.specs.Prelude.{◌≡◌};
-ghost use Rattle.rawk_names.specs.Named.{known};
-ghost use Rattle.rawk_syntax.specs.Meant.{array_at, first_parameter, global_array, marked_array, scalar_at, sense_of, unmarked_scalar, variable_scalar};
+ghost use Rattle.rawk_names.specs.Named.{known, variable_of};
+ghost use Rattle.rawk_syntax.specs.Meant.{array_at, first_parameter, global_array, marked_array, scalar_at, sense_of, unmarked_scalar, variable_array, variable_scalar};
 
 use rawk_names::{Meaning, Names, Variable};
 use rawk_tree::{Array, Scalar};
@@ -75,24 +75,36 @@ fn global_array(names: &Names, variable: usize) -> Option<Array>
     }
 }
 
-/// The array of a variable, if it is one.
-fn marked_array(names: &Names, variable: usize) -> Option<Array>
-    ensures { result ≡ marked_array (known names.now) variable }
+/// The array of a variable that is one; a special variable is none.
+fn variable_array(scope: &Scope<'_>, variable: usize) -> Option<Array>
+    ensures { let names = known scope.now.names.now in result ≡ variable_array names scope.now.number variable (variable_of names variable) }
 {
-    if names.is_array(variable) {
-        global_array(names, variable)
-    } else {
-        None
+    match scope.names.variable(variable) {
+        Variable::FieldCount => None,
+        Variable::Global(_) => global_array(scope.names, variable),
+        Variable::Parameter(number) => {
+            Some(Array::Local(number.saturating_sub(first_parameter(scope))))
+        }
     }
 }
 
-fn array_at(names: &Names, meaning: Option<Meaning>) -> Option<Array>
-    ensures { result ≡ array_at (known names.now) meaning }
+/// The array of a variable, by its place among all variables, if it is one.
+fn marked_array(scope: &Scope<'_>, variable: usize) -> Option<Array>
+    ensures { result ≡ marked_array (known scope.now.names.now) scope.now.number variable }
+{
+    if !scope.names.is_array(variable) {
+        return None;
+    }
+    variable_array(scope, variable)
+}
+
+fn array_at(scope: &Scope<'_>, meaning: Option<Meaning>) -> Option<Array>
+    ensures { result ≡ array_at (known scope.now.names.now) scope.now.number meaning }
 {
     match meaning {
         None => None,
         Some(Meaning::Function(_)) => None,
-        Some(Meaning::Variable(variable)) => marked_array(names, variable),
+        Some(Meaning::Variable(variable)) => marked_array(scope, variable),
     }
 }
 
@@ -100,7 +112,7 @@ fn array_at(names: &Names, meaning: Option<Meaning>) -> Option<Array>
 pub fn array_of(scope: &Scope<'_>, word: &[u8]) -> Option<Array>
     ensures { result ≡ (sense_of scope.now).array word.now }
 {
-    array_at(scope.names, scope.names.meaning(scope.number, word))
+    array_at(scope, scope.names.meaning(scope.number, word))
 }
 
 /// The number of the function that a name stands for. It takes no memory.

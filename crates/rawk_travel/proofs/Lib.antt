@@ -16,5 +16,6 @@ pub mod Turns
 pub mod Calls
 pub mod Oks
 pub mod Replaces
+pub mod Splits
 pub mod Subscripts
 pub mod Visits

@@ -16,5 +16,6 @@ mod print;
 pub mod reach;
 mod reading;
 mod replace;
+mod split;
 mod transfer;
 pub mod travel;

@@ -7,5 +7,6 @@ pub mod tree;
 
 pub use rawk_words::{Array, Extent, Logic, Sign};
 pub use tree::{
-    Branch, Expr, Function, Guard, Joiner, Kind, Link, Place, Program, Rule, Scalar, Stmt, Unary,
+    Branch, Expr, Function, Guard, Joiner, Kind, Link, Place, Program, Rule, Scalar, Separation,
+    Stmt, Unary,
 };

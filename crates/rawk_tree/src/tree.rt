@@ -32,6 +32,15 @@ pub enum Unary {
     Int,
 }
 
+/// How a separator separates (POSIX awk, String Functions, `split`).
+#[derive(Clone, Copy, PartialEq, Eq)]
+pub enum Separation {
+    /// as the same text in FS does
+    Fields,
+    /// as an extended regular expression of any length
+    Matches,
+}
+
 /// An expression (POSIX awk, Expressions in awk).
 #[cycle(expressions)]
 #[derive(Drop)]
@@ -51,14 +60,16 @@ pub enum Expr {
     Update(Arithmetic, Place, Box<Expr>),
     /// `++` and `--` behind what is assigned, which add 1 or take it away
     After(Arithmetic, Place),
-    /// a call of a function, by its number from 0 in the order of the text, with its arguments
-    Call(usize, Vec<Expr>),
+    /// a call of a function, by its number from 0 in the order of the text: the arguments of its scalar parameters, and those of its arrays, each in their order
+    Call(usize, Vec<Expr>, Vec<Array>),
     /// the bytes of a text from a place on, so many: `substr` with three arguments
     Part(Box<Expr>, Box<Expr>, Box<Expr>),
     /// `match`: the place where the first match stands in the left text of the expression that the right text is
     Match(Box<Expr>, Box<Expr>),
     /// `sub` and `gsub`: the expression, the replacement, and the place whose text is changed
     Replace(Extent, Box<Expr>, Box<Expr>, Place),
+    /// `split`: the text, the array that takes its parts, and the separator; how many parts there are
+    Split(Separation, Box<Expr>, Array, Box<Expr>),
     /// `sprintf`: the format and its arguments
     Sprintf(Box<Expr>, Vec<Expr>),
     /// `getline`: the next record becomes `$0`; 1, or 0 where there is none
@@ -165,16 +176,17 @@ pub struct Rule {
     pub action: Stmt,
 }
 
-/// A function: its name, the names of its parameters, the site of its entry and its body.
+/// A function: its name, the names of its parameters and what each is, the site of its entry and its body.
 #[derive(Drop)]
 pub struct Function {
     pub name: Bytes,
     pub parameters: Vec<Bytes>,
+    pub kinds: Vec<Kind>,
     pub site: usize,
     pub body: Stmt,
 }
 
-/// What a global is.
+/// What a global or a parameter is.
 #[derive(Clone, Copy, PartialEq, Eq)]
 pub enum Kind {
     Scalar,

@@ -14,5 +14,5 @@ loop-function-preserved c =
     c.len-place.ensures ∙ c.loop-function.code.ok.0 ∙ ap length inv.items ∙ length-append base (functions_code (take i fs) (length base)) in
     record {
       items = more_turns function_code fs i c.function-item.result nowhere base m c.emit_function.new.code.items c.loop-function-test.true c.function-item.is inv.items c.in_ok-emit_function.ensures;
-      entries = c.in_ok-push.ensures.items ∙ more_entries fs i c.function-item.result (length base) c.len-place.result c.len-parameters.result c.loop-function.entries.items c.loop-function-test.true c.function-item.is at (c.len-parameters.ensures ∙ c.function-item.result.parameters.ok.0) inv.entries;
+      entries = c.in_ok-push.ensures.items ∙ more_entries fs i c.function-item.result (length base) c.len-place.result c.in_ok-kinds.kinds c.loop-function.entries.items c.loop-function-test.true c.function-item.is at (c.in_ok-kinds.ensures ∙ c.deref.ensures.value) inv.entries;
     }

@@ -1,4 +1,4 @@
-use Rattle.std.proofs.Common.{◌≡◌, ◌≢◌, ◌∙◌, sym, ap, refl, length, true, [], ◌∷◌, Some, ◌&&◌, arith}
+use Rattle.std.proofs.Common.{◌≡◌, ◌≢◌, ◌∙◌, sym, ap, refl, length, map, true, [], ◌∷◌, None, Some, ◌&&◌, arith}
 use Rattle.std.proofs.lemmas.Bool.Decides.{nat_tests}
 use Rattle.std.proofs.lemmas.Result.{err_from_is_err_and}
 use Rattle.rawk_builtin_trees.specs.Calls.{has_builtin}
@@ -6,15 +6,17 @@ use Rattle.rawk_parsing.specs.declared.tree.Expr.TheVariants as from
 use Rattle.rawk_parsing.specs.declared.tree.Function.TheVariants as fun
 use Rattle.rawk_parsing.specs.declared.tree.Place.TheVariants as from_place
 use Rattle.rawk_tree.specs.declared.tree.Expr.TheVariants as tree
+use Rattle.rawk_tree.specs.declared.tree.Kind.TheVariants as kind
+use Rattle.rawk_tree.specs.declared.tree.Separation.TheVariants as separation
 use Rattle.rawk_tree.specs.declared.tree.Unary.TheVariants as unary
-use Rattle.rawk_syntax.specs.Covered.{unless, each, names_array, covers, changes, covers_place, covers_link}
+use Rattle.rawk_syntax.specs.Covered.{unless, all_fit, cover_of, fits, each, names_array, covers, changes, covers_place, covers_link}
 use Rattle.rawk_syntax.specs.Meant.{is_there, sense_of}
 use Rattle.rawk_syntax.specs.Settled as spec
-use Rattle.rawk_syntax.proofs.Coverings.{in_covers, in_judged, list_in_covers, exits, passes, holds, sure, fails, both, first_false, second_false, was_settled, was_refused, judges_on, each_more, each_stops, number_covers, text_covers, ere_covers, getline_covers, of_covers, group_covers, signed_covers, power_covers, chain_covers, logic_covers, choice_covers, before_covers, after_covers, assign_covers, call_covers, match_covers, match_uncovered, applied_covers, applied_judged, counted_covers, uncounted_covers, none_there, other_covers, field_covers, element_covers, link_covers, pair_of, three_of, record_covers, changed_covers, replace_uncovered, of_changes, no_change}
+use Rattle.rawk_syntax.proofs.Coverings.{in_covers, in_judged, list_in_covers, exits, passes, holds, sure, fails, both, first_false, second_false, was_settled, was_refused, judges_on, each_more, each_stops, number_covers, text_covers, ere_covers, getline_covers, of_covers, group_covers, signed_covers, power_covers, chain_covers, logic_covers, choice_covers, before_covers, after_covers, assign_covers, call_covers, no_call, arguments_more, arguments_stop, split_covers, separated_covers, split_uncovered, parted, match_covers, match_uncovered, applied_covers, applied_judged, counted_covers, uncounted_covers, none_there, other_covers, field_covers, element_covers, link_covers, pair_of, three_of, record_covers, changed_covers, replace_uncovered, of_changes, no_change}
 use Rattle.rawk_syntax.proofs.Gaps.{made_judged}
-use Rattle.rawk_syntax.proofs.Settlements.{element_settles, in_settles, list_in_settles, number_settles, number_judged, text_settles, ere_settles, sought_settles, made_settles, right_settles, read_settles, group_settles, boxed_settles, signed_settles, power_settles, before_settles, after_settles, test_settles, field_settles, link_settles, call_settles, builtin_settles, counted_settles, found_settles, replaced_settles, record_settles, same_count, expr_settles}
+use Rattle.rawk_syntax.proofs.Settlements.{element_settles, in_settles, list_in_settles, number_settles, number_judged, text_settles, ere_settles, sought_settles, made_settles, right_settles, read_settles, group_settles, boxed_settles, signed_settles, power_settles, before_settles, after_settles, test_settles, field_settles, link_settles, call_settles, value_passes, array_passes, argument_settles, field_separates, matches_separate, value_separates, split_settles, builtin_settles, counted_settles, found_settles, replaced_settles, record_settles, same_count, expr_settles}
 use Rattle.rawk_syntax.proofs.expressions.+settle.Goals as goal
-use Rattle.rawk_syntax.proofs.expressions.+settle.Goals.{settle_match-in_default-via-then-arguments-lt2, settle_match-in_default-via-else-arguments-lt2+else-arguments-lt3, settle_replace-in_default-via-then-arguments-lt2, settle_replace-in_default-via-else-arguments-lt2+else-arguments-lt3+else-arguments-lt4}
+use Rattle.rawk_syntax.proofs.expressions.+settle.Goals.{settle_match-in_default-via-then-arguments-lt2, settle_match-in_default-via-else-arguments-lt2+else-arguments-lt3, settle_split-in_default-via-then-arguments-lt2, settle_split-in_default-via-else-arguments-lt2+else-arguments-lt3+else-arguments-lt4, settle_replace-in_default-via-then-arguments-lt2, settle_replace-in_default-via-else-arguments-lt2+else-arguments-lt3+else-arguments-lt4}
 
 pub settle_expr-returns-in-Number-clause-settled : goal.settle_expr-returns-in-Number-clause-settled
 settle_expr-returns-in-Number-clause-settled t c =
@@ -214,22 +216,166 @@ pub settle_assign-returns-in-Update-clause-judged : goal.settle_assign-returns-i
 settle_assign-returns-in-Update-clause-judged t c =
     holds (covers (sense_of c.args.scope.now) (from.Assign c.args.how c.args.place.now c.args.value.now)) c.args.left (assign_covers (sense_of c.args.scope.now) c.args.how c.args.place.now c.args.value.now ∙ both (covers_place (sense_of c.args.scope.now) c.args.place.now) (covers (sense_of c.args.scope.now) c.args.value.now) (sure (covers_place (sense_of c.args.scope.now) c.args.place.now) c.args.left c.in_ok-place.ensures.judged) (sure (covers (sense_of c.args.scope.now) c.args.value.now) c.args.left c.in_ok-value.ensures.judged))
 
+pub settle_argument-returns-in-Some-Scalar-clause-settled : goal.settle_argument-returns-in-Some-Scalar-clause-settled
+settle_argument-returns-in-Some-Scalar-clause-settled t c =
+    let is : c.args.kind ≡ Some c.in-Some-Scalar.field-0 = c.in-Some-Scalar.is in
+    let same : c.in-Some-Scalar.field-0 ≡ kind.Scalar = rw is at c.in-Some-Scalar.field-0-is in
+    value_passes (sense_of c.args.scope.now) c.push_if.result c.settle_expr.result c.args.kind c.args.argument.now c.args.values.now.items c.push_if.new.values.items c.args.arrays.now.items
+    (is ∙ ap Some same) c.push_if.ensures.judged c.push_if.ensures.pushed c.settle_expr.ensures.settled
+
+pub settle_argument-returns-in-Some-Array-clause-settled : goal.settle_argument-returns-in-Some-Array-clause-settled
+settle_argument-returns-in-Some-Array-clause-settled t c =
+    let is : c.args.kind ≡ Some c.in-Some-Array.field-0 = c.in-Some-Array.is in
+    let same : c.in-Some-Array.field-0 ≡ kind.Array = rw is at c.in-Some-Array.field-0-is in
+    array_passes (sense_of c.args.scope.now) c.push_if-in-Some-Array.result c.array_named.result c.args.kind c.args.argument.now c.args.values.now.items c.args.arrays.now.items c.push_if-in-Some-Array.new.values.items
+    (is ∙ ap Some same) c.push_if-in-Some-Array.ensures.judged c.push_if-in-Some-Array.ensures.pushed c.array_named.ensures.named
+
+pub settle_arguments-loop-i-init : goal.settle_arguments-loop-i-init
+settle_arguments-loop-i-init t c =
+    record { settled = rw (c.new-values.ensures.items, c.new-arrays.ensures.items) spec.no_arguments; judged = refl }
+
+pub settle_arguments-loop-i-preserved : goal.settle_arguments-loop-i-preserved
+settle_arguments-loop-i-preserved t c =
+    let m = sense_of c.args.scope.now in
+    record {
+      settled = argument_settles m (m.kinds c.args.function) c.kind_at-kind.result c.args.arguments.now c.loop-i.i c.index-arguments-i.result c.get.result.now c.loop-i.values.items c.settle_argument.new.values.items c.loop-i.arrays.items c.settle_argument.new.arrays.items
+          c.loop-i-test.true c.index-arguments-i.is c.get.ensures c.kind_at-kind.ensures c.in_ok-settle_argument.ensures.settled c.loop-i.invariant.settled;
+      judged = arguments_more m (m.kinds c.args.function) c.kind_at-kind.result c.args.arguments.now c.loop-i.i c.index-arguments-i.result c.get.result.now c.loop-i-test.true c.index-arguments-i.is c.get.ensures c.kind_at-kind.ensures c.loop-i.invariant.judged
+          (sure (fits c.kind_at-kind.result (cover_of m c.get.result.now)) c.args.left c.in_ok-settle_argument.ensures.judged);
+    }
+
+pub settle_arguments-returns-in_err-settle_argument-clause-judged : goal.settle_arguments-returns-in_err-settle_argument-clause-judged
+settle_arguments-returns-in_err-settle_argument-clause-judged t c =
+    let p = err_from_is_err_and c.from_residual.result c.from_residual.ensures.1 in
+    let m = sense_of c.args.scope.now in
+    let all = all_fit (m.kinds c.args.function) (map (cover_of m) c.args.arguments.now) in
+    exits c.from_residual.result (unless all c.args.left) c.in_err-settle_argument.field-0.0 p.0 p.1 p.2 (passes (fits c.kind_at-kind.result (cover_of m c.get.result.now)) all c.args.left c.in_err-settle_argument.field-0.0
+    (λ h. arguments_stop m (m.kinds c.args.function) c.kind_at-kind.result c.args.arguments.now c.loop-i.i c.index-arguments-i.result c.get.result.now c.loop-i-test.true c.index-arguments-i.is c.get.ensures c.kind_at-kind.ensures h) c.in_err-settle_argument.ensures.judged)
+
 pub settle_call-returns-in_default-clause-judged : goal.settle_call-returns-in_default-clause-judged
 settle_call-returns-in_default-clause-judged t c =
-    λ ne. fails (covers (sense_of c.args.scope.now) (from.Call c.args.name.now c.args.arguments.now)) c.args.left (call_covers (sense_of c.args.scope.now) c.args.name.now c.as_slice.result.now c.called.result c.args.arguments.now c.as_slice.ensures c.called.ensures ∙ first_false (is_there c.called.result) (each (covers (sense_of c.args.scope.now)) c.args.arguments.now) (none_there c.called.result c.in_default.not-Some)) ∙ ap Some (sym c.left_out.ensures)
+    let m = sense_of c.args.scope.now in
+    λ ne. fails (covers m (from.Call c.args.name.now c.args.arguments.now)) c.args.left (call_covers m c.args.name.now c.as_slice.result.now c.called.result c.args.arguments.now c.as_slice.ensures c.called.ensures ∙ no_call m c.called.result (map (cover_of m) c.args.arguments.now) c.in_default.not-Some) ∙ ap Some (sym c.left_out.ensures)
 
-pub settle_call-returns-in_err-arguments-clause-judged : goal.settle_call-returns-in_err-arguments-clause-judged
-settle_call-returns-in_err-arguments-clause-judged t c =
+pub settle_call-returns-in_err-values-clause-judged : goal.settle_call-returns-in_err-values-clause-judged
+settle_call-returns-in_err-values-clause-judged t c =
     let p = err_from_is_err_and c.from_residual.result c.from_residual.ensures.1 in
-    exits c.from_residual.result (unless (covers (sense_of c.args.scope.now) (from.Call c.args.name.now c.args.arguments.now)) c.args.left) c.in_err-arguments.field-0.0 p.0 p.1 p.2 (passes (each (covers (sense_of c.args.scope.now)) c.args.arguments.now) (covers (sense_of c.args.scope.now) (from.Call c.args.name.now c.args.arguments.now)) c.args.left c.in_err-arguments.field-0.0 (λ h. call_covers (sense_of c.args.scope.now) c.args.name.now c.as_slice.result.now (Some c.in-Some.function) c.args.arguments.now c.as_slice.ensures c.in-Some.ensures ∙ h) c.in_err-arguments.ensures.judged)
+    let m = sense_of c.args.scope.now in
+    let all = all_fit (m.kinds c.in-Some.function) (map (cover_of m) c.args.arguments.now) in
+    let whole = covers m (from.Call c.args.name.now c.args.arguments.now) in
+    exits c.from_residual.result (unless whole c.args.left) c.in_err-values.field-0.0 p.0 p.1 p.2 (passes all whole c.args.left c.in_err-values.field-0.0
+    (λ h. call_covers m c.args.name.now c.as_slice.result.now (Some c.in-Some.function) c.args.arguments.now c.as_slice.ensures c.in-Some.ensures ∙ h) c.in_err-values.ensures.judged)
 
 pub settle_call-returns-clause-settled : goal.settle_call-returns-clause-settled
 settle_call-returns-clause-settled t c =
-    call_settles (sense_of c.args.scope.now) c.args.name.now c.as_slice.result.now c.in-Some.function c.args.arguments.now c.in_ok-arguments.arguments c.as_slice.ensures c.in-Some.ensures c.in_ok-arguments.ensures.settled
+    call_settles (sense_of c.args.scope.now) c.args.name.now c.as_slice.result.now c.in-Some.function c.args.arguments.now c.in_ok-values.values c.in_ok-values.arrays c.as_slice.ensures c.in-Some.ensures c.in_ok-values.ensures.settled
 
 pub settle_call-returns-clause-judged : goal.settle_call-returns-clause-judged
 settle_call-returns-clause-judged t c =
-    holds (covers (sense_of c.args.scope.now) (from.Call c.args.name.now c.args.arguments.now)) c.args.left (call_covers (sense_of c.args.scope.now) c.args.name.now c.as_slice.result.now (Some c.in-Some.function) c.args.arguments.now c.as_slice.ensures c.in-Some.ensures ∙ sure (each (covers (sense_of c.args.scope.now)) c.args.arguments.now) c.args.left c.in_ok-arguments.ensures.judged)
+    let m = sense_of c.args.scope.now in
+    holds (covers m (from.Call c.args.name.now c.args.arguments.now)) c.args.left
+    (call_covers m c.args.name.now c.as_slice.result.now (Some c.in-Some.function) c.args.arguments.now c.as_slice.ensures c.in-Some.ensures ∙ sure (all_fit (m.kinds c.in-Some.function) (map (cover_of m) c.args.arguments.now)) c.args.left c.in_ok-values.ensures.judged)
+
+pub settle_separator-returns-in-Ere-clause-settled : goal.settle_separator-returns-in-Ere-clause-settled
+settle_separator-returns-in-Ere-clause-settled t c =
+    matches_separate (sense_of c.args.scope.now) c.settle_text-pattern.result c.separated.result c.args.e.now c.in-Ere.field-0 c.in-Ere.text c.as_slice.result.now c.in-Ere.is c.as_slice.ensures c.settle_text-pattern.ensures.settled c.separated.ensures.how c.separated.ensures.held
+
+pub settle_separator-returns-in-Ere-clause-judged : goal.settle_separator-returns-in-Ere-clause-judged
+settle_separator-returns-in-Ere-clause-judged t c =
+    rw (holds (covers (sense_of c.args.scope.now) c.args.e.now) c.args.left (ere_covers (sense_of c.args.scope.now) c.args.e.now _ _ c.in-Ere.is)) (judges_on None c.settle_text-pattern.result c.separated.result c.settle_text-pattern.ensures.judged c.separated.ensures.judged)
+
+pub settle_separator-returns-in_default : goal.settle_separator-returns-in_default
+settle_separator-returns-in_default t c = record {
+  settled = value_separates (sense_of c.args.scope.now) c.settle_expr-value.result c.separated-in_default.result c.args.e.now c.in_default.not-Ere c.settle_expr-value.ensures.settled c.separated-in_default.ensures.how c.separated-in_default.ensures.held;
+  judged = judges_on (unless (covers (sense_of c.args.scope.now) c.args.e.now) c.args.left) c.settle_expr-value.result c.separated-in_default.result c.settle_expr-value.ensures.judged c.separated-in_default.ensures.judged;
+}
+
+pub settle_split-returns-in_err-text-in-len2-clause-judged : goal.settle_split-returns-in_err-text-in-len2-clause-judged
+settle_split-returns-in_err-text-in-len2-clause-judged t c =
+    let p = err_from_is_err_and c.from_residual.result c.from_residual.ensures.1 in
+    let m = sense_of c.args.scope.now in
+    let whole = covers m (from.Builtin fun.Split c.args.arguments.now) in
+    let two = pair_of c.args.arguments.now c.text-item.result c.array-item.result c.in-len2.len_at_least c.in-len2.len_below c.text-item.is c.array-item.is in
+    let parts = covers m c.get.result.now && (cover_of m c.get-in-len2.result.now).array in
+    exits c.from_residual.result (unless whole c.args.left) c.in_err-text-in-len2.field-0.0 p.0 p.1 p.2 (passes parts whole c.args.left c.in_err-text-in-len2.field-0.0
+    (λ h. split_covers m c.args.arguments.now c.text-item.result c.array-item.result two ∙ parted m c.text-item.result c.get.result.now c.array-item.result c.get-in-len2.result.now c.get.ensures c.get-in-len2.ensures ∙ h) c.in_err-text-in-len2.ensures.judged)
+
+pub settle_split-returns-in_err-text-in-len3-clause-judged : goal.settle_split-returns-in_err-text-in-len3-clause-judged
+settle_split-returns-in_err-text-in-len3-clause-judged t c =
+    let p = err_from_is_err_and c.from_residual-in_err-text-in-len3.result c.from_residual-in_err-text-in-len3.ensures.1 in
+    let m = sense_of c.args.scope.now in
+    let whole = covers m (from.Builtin fun.Split c.args.arguments.now) in
+    let x = c.text-item-then-arguments-lt4.result in
+    let y = c.array-item-then-arguments-lt4.result in
+    let z = c.separator-item.result in
+    let three = three_of c.args.arguments.now x y z c.in-len3.len_at_least c.in-len3.len_below c.text-item-then-arguments-lt4.is c.array-item-then-arguments-lt4.is c.separator-item.is in
+    let parts = covers m c.get-in-len3.result.now && (cover_of m c.get-in-len3-2.result.now).array in
+    exits c.from_residual-in_err-text-in-len3.result (unless whole c.args.left) c.in_err-text-in-len3.field-0.0 p.0 p.1 p.2 (passes parts whole c.args.left c.in_err-text-in-len3.field-0.0
+    (λ h. separated_covers m c.args.arguments.now x y z three ∙ first_false (covers m x && (cover_of m y).array) (covers m z) (parted m x c.get-in-len3.result.now y c.get-in-len3-2.result.now c.get-in-len3.ensures c.get-in-len3-2.ensures ∙ h)) c.in_err-text-in-len3.ensures.judged)
+
+pub settle_split-returns-in_err-how-in-len3-clause-judged : goal.settle_split-returns-in_err-how-in-len3-clause-judged
+settle_split-returns-in_err-how-in-len3-clause-judged t c =
+    let p = err_from_is_err_and c.from_residual-in_err-how-in-len3.result c.from_residual-in_err-how-in-len3.ensures.1 in
+    let m = sense_of c.args.scope.now in
+    let whole = covers m (from.Builtin fun.Split c.args.arguments.now) in
+    let x = c.text-item-then-arguments-lt4.result in
+    let y = c.array-item-then-arguments-lt4.result in
+    let z = c.separator-item.result in
+    let three = three_of c.args.arguments.now x y z c.in-len3.len_at_least c.in-len3.len_below c.text-item-then-arguments-lt4.is c.array-item-then-arguments-lt4.is c.separator-item.is in
+    exits c.from_residual-in_err-how-in-len3.result (unless whole c.args.left) c.in_err-how-in-len3.field-0.0 p.0 p.1 p.2 (passes (covers m c.get-in-len3-3.result.now) whole c.args.left c.in_err-how-in-len3.field-0.0
+    (λ h. separated_covers m c.args.arguments.now x y z three ∙ second_false (covers m x && (cover_of m y).array) (covers m z) (ap (covers m) (sym c.get-in-len3-3.ensures) ∙ h)) c.in_err-how-in-len3.ensures.judged)
+
+pub settle_split-returns-in_ok-separator-in-len2-clause-settled : goal.settle_split-returns-in_ok-separator-in-len2-clause-settled
+settle_split-returns-in_ok-separator-in-len2-clause-settled t c =
+    let m = sense_of c.args.scope.now in
+    let two = pair_of c.args.arguments.now c.text-item.result c.array-item.result c.in-len2.len_at_least c.in-len2.len_below c.text-item.is c.array-item.is in
+    split_settles m c.args.arguments.now c.get.result.now c.get-in-len2.result.now [] c.in_ok-text-in-len2.text c.in_ok-separator-in-len2.separator c.in_ok-text-in-len2.array separation.Fields
+    (two ∙ ap (λ v. v ∷ c.array-item.result ∷ []) (sym c.get.ensures) ∙ ap (λ v. c.get.result.now ∷ v ∷ []) (sym c.get-in-len2.ensures))
+    c.in_ok-text-in-len2.ensures.text c.in_ok-text-in-len2.ensures.array (field_separates m c.in_ok-separator-in-len2.separator.value c.in_ok-separator-in-len2.ensures)
+
+pub settle_split-returns-in_ok-separator-in-len2-clause-judged : goal.settle_split-returns-in_ok-separator-in-len2-clause-judged
+settle_split-returns-in_ok-separator-in-len2-clause-judged t c =
+    let m = sense_of c.args.scope.now in
+    let whole = covers m (from.Builtin fun.Split c.args.arguments.now) in
+    let two = pair_of c.args.arguments.now c.text-item.result c.array-item.result c.in-len2.len_at_least c.in-len2.len_below c.text-item.is c.array-item.is in
+    let parts = covers m c.get.result.now && (cover_of m c.get-in-len2.result.now).array in
+    holds whole c.args.left (split_covers m c.args.arguments.now c.text-item.result c.array-item.result two ∙ parted m c.text-item.result c.get.result.now c.array-item.result c.get-in-len2.result.now c.get.ensures c.get-in-len2.ensures ∙ sure parts c.args.left c.in_ok-text-in-len2.ensures.judged)
+
+pub settle_split-returns-in_ok-how-in-len3-clause-settled : goal.settle_split-returns-in_ok-how-in-len3-clause-settled
+settle_split-returns-in_ok-how-in-len3-clause-settled t c =
+    let m = sense_of c.args.scope.now in
+    let x = c.text-item-then-arguments-lt4.result in
+    let y = c.array-item-then-arguments-lt4.result in
+    let z = c.separator-item.result in
+    let three = three_of c.args.arguments.now x y z c.in-len3.len_at_least c.in-len3.len_below c.text-item-then-arguments-lt4.is c.array-item-then-arguments-lt4.is c.separator-item.is in
+    split_settles m c.args.arguments.now c.get-in-len3.result.now c.get-in-len3-2.result.now (c.get-in-len3-3.result.now ∷ []) c.in_ok-text-in-len3.text c.in_ok-how-in-len3.separator c.in_ok-text-in-len3.array c.in_ok-how-in-len3.how
+    (three ∙ ap (λ v. v ∷ y ∷ z ∷ []) (sym c.get-in-len3.ensures) ∙ ap (λ v. c.get-in-len3.result.now ∷ v ∷ z ∷ []) (sym c.get-in-len3-2.ensures) ∙ ap (λ v. c.get-in-len3.result.now ∷ c.get-in-len3-2.result.now ∷ v ∷ []) (sym c.get-in-len3-3.ensures))
+    c.in_ok-text-in-len3.ensures.text c.in_ok-text-in-len3.ensures.array c.in_ok-how-in-len3.ensures.settled
+
+pub settle_split-returns-in_ok-how-in-len3-clause-judged : goal.settle_split-returns-in_ok-how-in-len3-clause-judged
+settle_split-returns-in_ok-how-in-len3-clause-judged t c =
+    let m = sense_of c.args.scope.now in
+    let whole = covers m (from.Builtin fun.Split c.args.arguments.now) in
+    let x = c.text-item-then-arguments-lt4.result in
+    let y = c.array-item-then-arguments-lt4.result in
+    let z = c.separator-item.result in
+    let three = three_of c.args.arguments.now x y z c.in-len3.len_at_least c.in-len3.len_below c.text-item-then-arguments-lt4.is c.array-item-then-arguments-lt4.is c.separator-item.is in
+    let parts = covers m c.get-in-len3.result.now && (cover_of m c.get-in-len3-2.result.now).array in
+    let front : (covers m x && (cover_of m y).array) ≡ true = parted m x c.get-in-len3.result.now y c.get-in-len3-2.result.now c.get-in-len3.ensures c.get-in-len3-2.ensures ∙ sure parts c.args.left c.in_ok-text-in-len3.ensures.judged in
+    let last : covers m z ≡ true = ap (covers m) (sym c.get-in-len3-3.ensures) ∙ sure (covers m c.get-in-len3-3.result.now) c.args.left c.in_ok-how-in-len3.ensures.judged in
+    holds whole c.args.left (separated_covers m c.args.arguments.now x y z three ∙ both (covers m x && (cover_of m y).array) (covers m z) front last)
+
+pub settle_split-returns-in_default-clause-judged : goal.settle_split-returns-in_default-clause-judged
+settle_split-returns-in_default-clause-judged t c =
+    let not_two : length c.args.arguments.now ≢ 2 = λ h. elim c.in_default.branch [
+      | settle_split-in_default-via-then-arguments-lt2 w ↦ grind (arith, nat_tests, h)
+      | settle_split-in_default-via-else-arguments-lt2+else-arguments-lt3+else-arguments-lt4 w ↦ grind (arith, nat_tests, h)
+    ] in
+    let not_three : length c.args.arguments.now ≢ 3 = λ h. elim c.in_default.branch [
+      | settle_split-in_default-via-then-arguments-lt2 w ↦ grind (arith, nat_tests, h)
+      | settle_split-in_default-via-else-arguments-lt2+else-arguments-lt3+else-arguments-lt4 w ↦ grind (arith, nat_tests, h)
+    ] in
+    λ ne. fails (covers (sense_of c.args.scope.now) (from.Builtin fun.Split c.args.arguments.now)) c.args.left (split_uncovered (sense_of c.args.scope.now) c.args.arguments.now not_two not_three) ∙ ap Some (sym c.left_out.ensures)
 
 pub settle_element-returns-in_default-clause-judged : goal.settle_element-returns-in_default-clause-judged
 settle_element-returns-in_default-clause-judged t c =
@@ -421,7 +567,7 @@ settle_length-returns-in-None-clause-judged t c =
 
 pub settle_builtin-returns-in_default-clause-judged : goal.settle_builtin-returns-in_default-clause-judged
 settle_builtin-returns-in_default-clause-judged t c =
-    rw (applied_covers (sense_of c.args.scope.now) c.args.function c.args.arguments.now c.in_default.not-Length c.in_default.not-Match c.in_default.not-Sub c.in_default.not-Gsub) c.settle_applied.ensures.judged
+    rw (applied_covers (sense_of c.args.scope.now) c.args.function c.args.arguments.now c.in_default.not-Length c.in_default.not-Match c.in_default.not-Sub c.in_default.not-Gsub c.in_default.not-Split) c.settle_applied.ensures.judged
 
 pub settle_tests-loop-test-init : goal.settle_tests-loop-test-init
 settle_tests-loop-test-init t c =

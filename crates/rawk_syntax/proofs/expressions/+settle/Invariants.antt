@@ -1,11 +1,11 @@
-use Rattle.std.proofs.Common.{◌≡◌, ◌+◌, ◌*◌, max, take, true}
+use Rattle.std.proofs.Common.{◌≡◌, ◌+◌, ◌*◌, map, max, take, true}
 use denote.Param.Weighed.{most}
 use Rattle.rawk_parsing.proofs.tree.Expr.TheLaws as expr
 use Rattle.rawk_parsing.proofs.tree.Link.TheLaws as link
 use Rattle.rawk_parsing.proofs.tree.Place.TheLaws as place
-use Rattle.rawk_syntax.specs.Covered.{each, covers, covers_link}
+use Rattle.rawk_syntax.specs.Covered.{all_fit, each, cover_of, covers, covers_link}
 use Rattle.rawk_syntax.specs.Meant.{sense_of}
-use Rattle.rawk_syntax.specs.Settled.{Settles, SomeLinks, SomeTests, SomeExprs}
+use Rattle.rawk_syntax.specs.Settled.{Settles, SomeArguments, SomeLinks, SomeTests, SomeExprs}
 use Rattle.rawk_syntax.proofs.expressions.+settle.Given as goal
 
 abbrev pub invariant-settle_links-loop-link : goal.invariant-settle_links-loop-link
@@ -24,6 +24,12 @@ abbrev pub invariant-settle_list-loop-e : goal.invariant-settle_list-loop-e
 invariant-settle_list-loop-e l = record {
   settled : Settles (sense_of l.scope) (SomeExprs (take l.e-index l.list) l.settled.items);
   judged : each (covers (sense_of l.scope)) (take l.e-index l.list) ≡ true;
+}
+
+abbrev pub invariant-settle_arguments-loop-i : goal.invariant-settle_arguments-loop-i
+invariant-settle_arguments-loop-i l = record {
+  settled : Settles (sense_of l.scope) (SomeArguments ((sense_of l.scope).kinds l.function) (take l.i l.arguments) l.values.items l.arrays.items);
+  judged : all_fit ((sense_of l.scope).kinds l.function) (map (cover_of (sense_of l.scope)) (take l.i l.arguments)) ≡ true;
 }
 
 -- the depth, and whose calls come first where it stays
@@ -76,8 +82,23 @@ decreases-settle_length l = 5 * goal.size-settle_length l + 3
 abbrev pub decreases-settle_builtin : goal.decreases-settle_builtin
 decreases-settle_builtin l = 5 * goal.size-settle_builtin l + 4
 
+abbrev pub decreases-settle_parted : goal.decreases-settle_parted
+decreases-settle_parted l = 5 * expr.the_size l.text.now + 2
+
+abbrev pub decreases-settle_separator : goal.decreases-settle_separator
+decreases-settle_separator l = 5 * expr.the_size l.e.now + 1
+
+abbrev pub decreases-settle_split : goal.decreases-settle_split
+decreases-settle_split l = 5 * goal.size-settle_split l + 3
+
+abbrev pub decreases-settle_argument : goal.decreases-settle_argument
+decreases-settle_argument l = 5 * expr.the_size l.argument.now + 1
+
+abbrev pub decreases-settle_arguments : goal.decreases-settle_arguments
+decreases-settle_arguments l = 5 * goal.size-settle_arguments l + 2
+
 abbrev pub decreases-settle_call : goal.decreases-settle_call
-decreases-settle_call l = 5 * goal.size-settle_call l + 2
+decreases-settle_call l = 5 * goal.size-settle_call l + 3
 
 abbrev pub decreases-settle_power : goal.decreases-settle_power
 decreases-settle_power l = 5 * max (expr.the_size l.base.now) (expr.the_size l.exponent.now) + 2

@@ -1,6 +1,6 @@
 use Rattle.std.proofs.Common.{ap}
 use Rattle.rawk_tree.specs.declared.tree.Expr.TheVariants as tree
-use Rattle.rawk_syntax.proofs.expressions.before_of.Goals as goal
+use Rattle.rawk_syntax.proofs.nodes.before_of.Goals as goal
 
 pub returns-in_ok-one-in-Ok-clause-settled : goal.returns-in_ok-one-in-Ok-clause-settled
 returns-in_ok-one-in-Ok-clause-settled c =

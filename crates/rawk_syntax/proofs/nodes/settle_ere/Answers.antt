@@ -4,7 +4,7 @@ use Rattle.rawk_tree.specs.declared.tree.Expr.TheVariants as tree
 use Rattle.rawk_tree.specs.declared.tree.Joiner.TheVariants as joiner
 use Rattle.rawk_tree.specs.declared.tree.Link.TheVariants as tree_link
 use Rattle.rawk_syntax.specs.Settled.{IsRecord}
-use Rattle.rawk_syntax.proofs.expressions.settle_ere.Goals as goal
+use Rattle.rawk_syntax.proofs.nodes.settle_ere.Goals as goal
 
 pub returns-clause-settled : goal.returns-clause-settled
 returns-clause-settled c = record {

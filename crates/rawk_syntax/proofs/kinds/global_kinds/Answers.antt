@@ -2,7 +2,7 @@ use Rattle.std.proofs.Common.{◌<◌, length, arith, ◌∙◌, ap}
 use Rattle.rawk_names.specs.Named.{known}
 use Rattle.rawk_syntax.specs.Meant.{global_kinds, kind_of}
 use Rattle.rawk_syntax.proofs.Globals.{kind_more}
-use Rattle.rawk_syntax.proofs.items.global_kinds.Goals as goal
+use Rattle.rawk_syntax.proofs.kinds.global_kinds.Goals as goal
 
 pub loop-global-preserved : goal.loop-global-preserved
 loop-global-preserved c =
