@@ -14,6 +14,7 @@ use rawk_store::{Ending, FieldRef, Target};
 use rawk_tape::Source;
 use rawk_tree::Program;
 use rawk_value::{Fault, Value};
+use rawk_words::Array;
 use std::alloc::{AllocError, Global};
 use std::marker::Model;
 
@@ -138,6 +139,18 @@ impl<R: Source + Drop, K: Keeper> Stepper for Stage<R, K> {
 
     fn field(&self, number: usize) -> Option<FieldRef<'_>> {
         self.machine.field(number)
+    }
+
+    fn element(&self, array: Array, key: &[u8]) -> Option<&Value> {
+        self.machine.element_named(array, key)
+    }
+
+    fn element_count(&self, array: Array) -> usize {
+        self.machine.elements_named(array)
+    }
+
+    fn array_keys(&self, alloc: Global, array: Array) -> Result<Vec<Vec<u8>>, AllocError> {
+        self.machine.keys_named(alloc, array)
     }
 
     fn changed(&self, place: Watched) -> bool {

@@ -1,6 +1,7 @@
 pub mod Follows
 pub mod Expressions
 pub mod Keys
+pub mod Getlines
 pub mod Statements
 pub mod Adding
 pub mod KeyLoops
@@ -18,3 +19,4 @@ pub mod FirstOutput
 pub mod Rows
 pub mod CallRows
 pub mod ArrayRows
+pub mod GetlineRows

@@ -31,7 +31,7 @@ use Rattle.rawk_code.specs.declared.code.Instr.{Instr}
 use Rattle.rawk_code.specs.declared.code.Op.TheVariants as does
 use Rattle.rawk_code.specs.declared.code.Instr.TheVariants as instr
 use Rattle.rawk_code.specs.Trace.{reads}
-use Rattle.rawk_compiler.specs.Code.{appending, constant_field, simple_field, unless_constant, destination_of, operand_of, sought_operand, separator_operand, constant_operand, right_operand, unless_ready, pushed, joined, key_code, key_operand, choice_code, decide_code, expr_code, expr_codes, effect_code, place_code, parts_code, link_code, link_codes, front_of, simples_behind, Piece, nowhere, always, in_turn, when_code, Arm, then_to, branch_to, if_code, step_around, body_around, loop_code, keys_around, keys_code, scalar_destination, jump_code, test_code, stmt_code, stmt_codes, arms_of, added, added_to, or_else, closing_code, opened_code, guard_code, rule_code, records_code, main_code, begin_code, record_at_of, end_at_of, functions_at_of, function_code, functions_code, entries_of, program_code, HasAt}
+use Rattle.rawk_compiler.specs.Code.{appending, constant_field, simple_field, unless_constant, destination_of, operand_of, sought_operand, separator_operand, constant_operand, right_operand, unless_ready, pushed, joined, key_code, key_operand, choice_code, decide_code, part_dropped, missing_code, getline_to_code, expr_code, expr_codes, effect_code, place_code, parts_code, link_code, link_codes, front_of, simples_behind, Piece, nowhere, always, in_turn, when_code, Arm, then_to, branch_to, if_code, step_around, body_around, loop_code, keys_around, keys_code, scalar_destination, jump_code, test_code, stmt_code, stmt_codes, arms_of, added, added_to, or_else, closing_code, opened_code, guard_code, rule_code, records_code, main_code, begin_code, record_at_of, end_at_of, functions_at_of, function_code, functions_code, entries_of, program_code, HasAt}
 use Rattle.rawk_code.specs.Valid.{rank_of, rank, IsEntry, Descends, IsValid}
 use Rattle.rawk_compiler.proofs.Follows.{has_front, has_back, has_all}
 use Rattle.rawk_compiler.proofs.Statements.{branches_length}
@@ -106,6 +106,18 @@ module _ (code : List Instr) where
   decide_fine : (l : Logic) (test : List Instr) (from : Operand) → Fine test → Fine (decide_code l test from)
   decide_fine l test from ft = fine_cons (instr.Decide l (length test + 1)) (test ++ instr.Do (does.Truth from) ∷ []) (λ pc. tt) (fine_last test (instr.Do (does.Truth from)) (λ pc. tt) ft)
 
+  dropped_fine : (x : Destination) → Fine (part_dropped x)
+  dropped_fine (destination.Variable x) = fine_none
+  dropped_fine destination.FieldCount = fine_none
+  dropped_fine (destination.Field n) = fine_none
+  dropped_fine destination.FieldBelow = fine_last [] (instr.Do does.Pop) (λ pc. tt) fine_none
+  dropped_fine (destination.ElementBelow a) = fine_last [] (instr.Do does.Pop) (λ pc. tt) fine_none
+
+  getline_to_fine : (x : Destination) → Fine (getline_to_code x)
+  getline_to_fine x =
+      fine_cons (instr.ReadText 3) _ (λ pc. tt) (fine_cons (instr.Do (does.Store x operand.Popped)) _ (λ pc. tt) (fine_cons (instr.Do (does.Push (simple.Number (pos 1)))) (missing_code x) (λ pc. tt)
+      (fine_cons (instr.GoOn (length (part_dropped x) + 1)) _ (λ pc. tt) (fine_last (part_dropped x) (instr.Do (does.Push (simple.Number (pos 0)))) (λ pc. tt) (dropped_fine x)))))
+
   key_fine : (cs : List (List Instr)) → AllFine cs → Fine (key_code cs)
   key_fine [] all = fine_last [] (instr.Do (does.Key 0)) (λ pc. tt) fine_none
   key_fine (c ∷ []) all = all.0
@@ -141,6 +153,7 @@ module _ (code : List Instr) where
     expr_fine (expr.Sprintf' p f shape args) =
         fine_append (expr_code f) (joined (expr_codes args) ++ instr.Do (does.Sprintf (length (expr_codes args))) ∷ []) (expr_fine f) (fine_last (joined (expr_codes args)) (instr.Do (does.Sprintf (length (expr_codes args)))) (λ pc. tt) (joined_fine (expr_codes args) (exprs_fine args)))
     expr_fine expr.Getline = fine_cons (instr.ReadRecord 2) _ (λ pc. tt) (fine_cons (instr.Do (does.Push (simple.Number (pos 1)))) _ (λ pc. tt) (fine_cons (instr.GoOn 1) _ (λ pc. tt) (fine_cons (instr.Do (does.Push (simple.Number (pos 0)))) [] (λ pc. tt) fine_none)))
+    expr_fine (expr.GetlineTo q) = fine_append (parts_code q) (getline_to_code (destination_of q)) (parts_fine q) (getline_to_fine (destination_of q))
     expr_fine (expr.Count a) = fine_last [] (instr.Do (does.Count a)) (λ pc. tt) fine_none
     expr_fine (expr.Has' a shape subscripts) =
         let from = key_operand (items-the_row-Expr _ subscripts) in
@@ -210,6 +223,7 @@ module _ (code : List Instr) where
   effect_fine (expr.Split' how p e a q by) = fine_last _ (instr.Do does.Pop) (λ pc. tt) (expr_fine (expr.Split' how p e a q by))
   effect_fine (expr.Sprintf' p f shape args) = fine_last _ (instr.Do does.Pop) (λ pc. tt) (expr_fine (expr.Sprintf' p f shape args))
   effect_fine expr.Getline = fine_last _ (instr.Do does.Pop) (λ pc. tt) (expr_fine expr.Getline)
+  effect_fine (expr.GetlineTo q) = fine_last _ (instr.Do does.Pop) (λ pc. tt) (expr_fine (expr.GetlineTo q))
   effect_fine (expr.Has' a shape subscripts) = fine_last _ (instr.Do does.Pop) (λ pc. tt) (expr_fine (expr.Has' a shape subscripts))
   effect_fine (expr.Count a) = fine_last _ (instr.Do does.Pop) (λ pc. tt) (expr_fine (expr.Count a))
 
@@ -554,6 +568,7 @@ module _ (code : List Instr) where
   descends again entries ready begins pc (Some instr.NextRecord) h back = next_down again pc begins h
   descends again entries ready begins pc (Some (instr.SkipIfFalse k from)) h back = (onward pc (instr.SkipIfFalse k from) h refl (pc + 1) (omega arith), onward pc (instr.SkipIfFalse k from) h refl (pc + 1 + k) (omega arith))
   descends again entries ready begins pc (Some (instr.ReadRecord k)) h back = (onward pc (instr.ReadRecord k) h refl (pc + 1) (omega arith), onward pc (instr.ReadRecord k) h refl (pc + 1 + k) (omega arith))
+  descends again entries ready begins pc (Some (instr.ReadText k)) h back = (onward pc (instr.ReadText k) h refl (pc + 1) (omega arith), onward pc (instr.ReadText k) h refl (pc + 1 + k) (omega arith))
   descends again entries ready begins pc (Some (instr.GoOn k)) h back = jumps_on pc k h
   descends again entries ready begins pc (Some (instr.GoTo p)) h back = lands pc (instr.GoTo p) h refl p (slice_get code p) refl (back (instr.GoTo p) refl)
   descends again entries ready begins pc (Some (instr.Decide l k)) h back = (onward pc (instr.Decide l k) h refl (pc + 1) (omega arith), onward pc (instr.Decide l k) h refl (pc + 1 + k) (omega arith))

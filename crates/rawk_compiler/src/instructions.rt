@@ -1,7 +1,7 @@
 // Instructions, one behind another; and jumps forward, which are left open until their ends are known.
 
 ghost use Rattle.std.specs.Prelude.{◌≡◌, [], ◌∷◌, ◌++◌, ◌-◌, ◌<◌, Some, pos, IfOk, OnOk, length};
-ghost use Rattle.rawk_compiler.specs.Code.{getline_code};
+ghost use Rattle.rawk_compiler.specs.Code.{getline_code, missing_code, getline_to_code};
 ghost use Rattle.rawk_compiler.specs.Written.{over, led};
 
 use rawk_code::{Destination, Instr, Op, Operand, Simple};
@@ -103,6 +103,33 @@ pub(crate) fn put_getline(code: &mut Vec<Instr>) -> Result<(), AllocError>
     put_push(code, Simple::Number(1))?;
     put(code, Instr::GoOn(1))?;
     put_push(code, Simple::Number(0))
+}
+
+// The reading of a text, which a place takes, and behind it whether there was a record.
+pub(crate) fn put_getline_to(code: &mut Vec<Instr>, x: Destination) -> Result<(), AllocError>
+    ensures { OnOk result (code.new.items ≡ code.old.items ++ getline_to_code x) }
+{
+    put(code, Instr::ReadText(3))?;
+    put(code, Instr::Do(Op::Store(x, Operand::Popped)))?;
+    put_push(code, Simple::Number(1))?;
+    put_missing(code, x)
+}
+
+// 0 in place of a place's part, which is passed.
+fn put_missing(code: &mut Vec<Instr>, x: Destination) -> Result<(), AllocError>
+    ensures { OnOk result (code.new.items ≡ code.old.items ++ missing_code x) }
+{
+    match x {
+        Destination::Variable(_) | Destination::FieldCount | Destination::Field(_) => {
+            put(code, Instr::GoOn(1))?;
+            put_push(code, Simple::Number(0))
+        }
+        Destination::FieldBelow | Destination::ElementBelow(_) => {
+            put(code, Instr::GoOn(2))?;
+            put(code, Instr::Do(Op::Pop))?;
+            put_push(code, Simple::Number(0))
+        }
+    }
 }
 
 // A part of a text.

@@ -4,7 +4,7 @@ use Rattle.std.specs.Prelude.{slice_index_or}
 use Rattle.std.proofs.Math.Seq.{drop-append_seam}
 use Rattle.rawk_value.specs.Values.{Bytes}
 use Rattle.rawk_debug.specs.declared.answer.Answer.{Answer}
-use Rattle.rawk_debug.specs.declared.answer.Answer.TheVariants.{Went, Halted, Returned, Stayed, Shown, TakenBack, Made, Deleted, Traced, Left}
+use Rattle.rawk_debug.specs.declared.answer.Answer.TheVariants.{Went, Halted, Returned, Stayed, Shown, Listed, TakenBack, Made, Deleted, Traced, Left}
 use Rattle.rawk_debug.specs.Positions.{Snapshot}
 use Rattle.rawk_debug.specs.Watching.{Observed}
 use Rattle.rawk_debug.specs.Moves.{Stand}
@@ -42,6 +42,7 @@ whole_answer s h came (Halted from) = rejoined (drop from h.state.output) _ _
 whole_answer s h came (Returned found) = refl
 whole_answer s h came Stayed = refl
 whole_answer s h came (Shown place) = refl
+whole_answer s h came (Listed a) = refl
 whole_answer s h came TakenBack = refl
 whole_answer s h came (Made e) = refl
 whole_answer s h came (Deleted e) = refl

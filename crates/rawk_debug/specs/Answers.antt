@@ -8,22 +8,24 @@ use Rattle.rawk_value.specs.Faults.{fault_number, fault_text}
 use Rattle.rawk_code.specs.Actions.{Ended, Faulted, Limited}
 use Rattle.rawk_special.specs.Special.{field_count_name, global_name}
 use Rattle.rawk_frames.specs.Frame.{Frame}
-use Rattle.rawk_store.specs.State.{State, local_value}
+use Rattle.rawk_words.specs.declared.array.Array.{Array}
+use Rattle.rawk_words.specs.declared.array.Array.TheVariants as array
+use Rattle.rawk_store.specs.State.{State, array_in, count_in, element_in, keys_in, local_value}
 use Rattle.rawk_tree.specs.declared.tree.Program.{Program}
 use Rattle.rawk_tree.specs.Sites.{line_at}
 use Rattle.rawk_commands.specs.declared.command.Place.TheVariants as place
 use Rattle.rawk_commands.specs.declared.command.C.TheVariants.{OutOfMemory}
 use Rattle.rawk_commands.specs.Refusals.{refusal_line}
-use Rattle.rawk_commands.specs.Texts.{shown_place, shown_value}
+use Rattle.rawk_commands.specs.Texts.{shown_element, shown_held, shown_place}
 use Rattle.rawk_debug.specs.declared.stop.Watched.{Watched}
 use Rattle.rawk_debug.specs.declared.stop.Watched.TheVariants.{Global, FieldCount, Field}
 use Rattle.rawk_debug.specs.declared.stop.Lvalue.{Lvalue}
-use Rattle.rawk_debug.specs.declared.stop.Lvalue.TheVariants.{Local, Shared}
+use Rattle.rawk_debug.specs.declared.stop.Lvalue.TheVariants.{Local, Shared, Element}
 use Rattle.rawk_debug.specs.declared.stop.Stop.{Stop}
 use Rattle.rawk_debug.specs.declared.stop.Stop.TheVariants.{Break, Watch}
 use Rattle.rawk_debug.specs.declared.stop.Entry.{Entry}
 use Rattle.rawk_debug.specs.declared.answer.Answer.{Answer}
-use Rattle.rawk_debug.specs.declared.answer.Answer.TheVariants.{Went, Halted, Returned, Stayed, Shown, TakenBack, Made, Deleted, Traced, Left}
+use Rattle.rawk_debug.specs.declared.answer.Answer.TheVariants.{Went, Halted, Returned, Stayed, Shown, Listed, TakenBack, Made, Deleted, Traced, Left}
 use Rattle.rawk_debug.specs.Positions.{Position, Snapshot}
 use Rattle.rawk_debug.specs.Watching.{Observed, seen, value_at}
 use Rattle.rawk_debug.specs.Moves.{Stand, hits}
@@ -105,19 +107,38 @@ line_end text = if nat_eq (slice_index_or text (length text - 1) 10) 10 then [] 
 abbrev pub added : ℕ → Snapshot → Bytes
 added from h = as_lines (drop from h.state.output)
 
+-- the name of an array where these are the locals
+abbrev pub array_name : List Bytes → List Bytes → Array → Bytes
+array_name locals names (array.Global number) = slice_index_or names number []
+array_name locals names (array.Local number) = slice_index_or locals number []
+
 -- a place where these are the locals
 abbrev pub lvalue_text : List Bytes → List Bytes → Lvalue → Bytes
 lvalue_text locals names (Local number) = slice_index_or locals number []
 lvalue_text locals names (Shared place) = place_text names place
+lvalue_text locals names (Element a key) = shown_element (array_name locals names a) key
 
--- its value
-abbrev pub lvalue_value : Lvalue → State → Value
-lvalue_value (Local number) s = local_value number s
-lvalue_value (Shared place) s = value_at place (seen s)
+-- what it holds: an element that is not there holds nothing
+abbrev pub held_at : Lvalue → State → Option Value
+held_at (Local number) s = Some (local_value number s)
+held_at (Shared place) s = Some (value_at place (seen s))
+held_at (Element a key) s = element_in (array_in a s.frames) key s.arrays
 
--- a place and its value
+-- a place and what it holds
 abbrev pub shown_line : Program → Lvalue → Snapshot → Bytes
-shown_line p place h = lvalue_text (local_names p h.state.frames) p.names.items place ++ codes " = " ++ shown_value (lvalue_value place h.state) ++ 10 ∷ []
+shown_line p place h = lvalue_text (local_names p h.state.frames) p.names.items place ++ codes " = " ++ shown_held (held_at place h.state) ++ 10 ∷ []
+
+-- an array: its name, and how many elements it has
+abbrev pub array_line : Program → Array → State → Bytes
+array_line p a s = array_name (local_names p s.frames) p.names.items a ++ codes ": array, " ++ decimal (count_in (array_in a s.frames) s.arrays) ++ codes " elements\n"
+
+-- a line for each of these keys
+abbrev pub element_lines : Program → Array → Snapshot → List Bytes → Bytes
+element_lines p a h keys = flat_map (λ key. shown_line p (Element a key) h) keys
+
+-- an array with its elements, in byte order of the keys
+abbrev pub array_text : Program → Array → Snapshot → Bytes
+array_text p a h = array_line p a h.state ++ element_lines p a h (keys_in (array_in a h.state.frames) h.state.arrays)
 
 -- an activation, by its number and the line where it stands
 abbrev pub frame_line : ℕ → Bytes → ℕ → Bytes
@@ -139,6 +160,7 @@ text_of s h came (Halted from) = added from h ++ refusal_line OutOfMemory ++ pla
 text_of s h came (Returned found) = (if found then stop_lines (names_of s) came h s.stops else codes "No more reverse-execution history.\n") ++ place_line s.machine h
 text_of s h came Stayed = place_line s.machine h
 text_of s h came (Shown place) = shown_line s.machine.program place h
+text_of s h came (Listed a) = array_text s.machine.program a h
 text_of s h came TakenBack = codes "set taken back\n"
 text_of s h came (Made e) = made_line s.machine.program.lines.items (names_of s) e
 text_of s h came (Deleted e) = deleted_line e

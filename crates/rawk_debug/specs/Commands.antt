@@ -15,17 +15,18 @@ use Rattle.rawk_commands.specs.declared.command.Command.TheVariants.{Break, Watc
 use Rattle.rawk_commands.specs.declared.command.C.{C}
 use Rattle.rawk_commands.specs.declared.command.C.TheVariants.{BadArgument, NoSuchPlace, NoSuchNumber, ProgramEnded, NotInFunction, SetRefused, NoSetToTakeBack, OutOfMemory}
 use Rattle.rawk_commands.specs.Reading.{names_something}
+use Rattle.rawk_words.specs.declared.array.Array.{Array}
 use Rattle.rawk_debug.specs.declared.stop.Watched.{Watched}
 use Rattle.rawk_debug.specs.declared.stop.Lvalue.{Lvalue}
 use Rattle.rawk_debug.specs.declared.stop.Stop.{Stop}
 use Rattle.rawk_debug.specs.declared.stop.Stop.TheVariants as stop
 use Rattle.rawk_debug.specs.declared.stop.Entry.{Entry}
 use Rattle.rawk_debug.specs.declared.answer.Answer.{Answer}
-use Rattle.rawk_debug.specs.declared.answer.Answer.TheVariants.{Went, Halted, Returned, Stayed, Shown, TakenBack, Made, Deleted, Traced, Left}
+use Rattle.rawk_debug.specs.declared.answer.Answer.TheVariants.{Went, Halted, Returned, Stayed, Shown, Listed, TakenBack, Made, Deleted, Traced, Left}
 use Rattle.rawk_debug.specs.Positions.{Snapshot, here, back_at, with_set, has_set_at, IsTakenBack}
 use Rattle.rawk_debug.specs.Watching.{Observed}
 use Rattle.rawk_debug.specs.Activations.{local_kinds, local_names}
-use Rattle.rawk_debug.specs.Naming.{place_of, lvalue_of, site_of, target_of, constant_value, is_refused}
+use Rattle.rawk_debug.specs.Naming.{place_of, listed_of, lvalue_of, site_of, target_of, constant_value, is_refused}
 use Rattle.rawk_debug.specs.Moves.{Stand, Goes, Halts, Returns, is_found, from_below, from_above, depth_of}
 
 -- whether a move leaves a function where there is none
@@ -70,6 +71,10 @@ names_of s = s.machine.program.names.items
 abbrev pub lvalue_at : Stand → Snapshot → Place → Result Lvalue C
 lvalue_at s h place = lvalue_of (local_names s.machine.program h.state.frames) (local_kinds s.machine.program h.state.frames) s.machine.program place
 
+-- an array that can be shown with its elements there
+abbrev pub listed_at : Stand → Snapshot → Place → Option Array
+listed_at s h place = listed_of (local_names s.machine.program h.state.frames) (local_kinds s.machine.program h.state.frames) s.machine.program place
+
 -- Why a command is refused: where several reasons hold, that of the least number.
 abbrev pub refusal : Command → Stand → Snapshot → Option C
 refusal (Break spot) s h = if nat_le most s.made then Some BadArgument else if is_none (site_of s.machine.program spot) then Some NoSuchPlace else None
@@ -79,7 +84,7 @@ refusal (Unwatch n) s h = if is_none (entry_of false n s.stops) then Some NoSuch
 refusal (Move Forward goal) s h = if is_some h.over then Some ProgramEnded else if leaves_none goal h then Some NotInFunction else None
 refusal (Move Back goal) s h = if leaves_none goal h then Some NotInFunction else None
 refusal Run s h = None
-refusal (Print place) s h = reason_of (lvalue_at s h place)
+refusal (Print place) s h = if is_some (listed_at s h place) then None else reason_of (lvalue_at s h place)
 refusal (Set place constant) s h = set_refusal (lvalue_at s h place) constant h
 refusal ReverseSet s h = if has_set_at s.machine.point s.machine.sets then None else Some NoSetToTakeBack
 refusal Backtrace s h = None
@@ -116,6 +121,11 @@ abbrev pub Removes : Bool → ℕ → Stand → Answer → Stand → Type 0
 Removes breaks n old answer new =
     (e : Entry) × (entry_of breaks n old.stops ≡ Some e) × (answer ≡ Deleted e) × (new ≡ record old { stops = filter (λ e. not (is_entry breaks n e)) old.stops })
 
+-- an array is shown with its elements, and any other place with its value
+abbrev pub Shows : Option Array → Result Lvalue C → Answer → Type 0
+Shows (Some a) place answer = answer ≡ Listed a
+Shows None place answer = (l : Lvalue) × (place ≡ Ok l) × (answer ≡ Shown l)
+
 -- What a command that is not refused does.
 abbrev pub Does : Input → Command → Stand → Answer → Observed → Stand → Type 0
 Does input (Break spot) old answer came new = (site : ℕ) × (site_of old.machine.program spot ≡ Some site) × Makes (stop.Break site) old answer new
@@ -126,7 +136,7 @@ Does input (Move Forward goal) old answer came new = Forwards input goal old ans
 Does input (Move Back goal) old answer came new = Backwards input goal old answer came new
 Does input Run old answer came new =
     MatchBool (is_some (here input (rewound old).machine).over) ((answer ≡ Stayed) × (new ≡ rewound old)) (Forwards input StopOnly (rewound old) answer came new)
-Does input (Print place) old answer came new = (l : Lvalue) × (lvalue_at old (here input old.machine) place ≡ Ok l) × (answer ≡ Shown l) × (new ≡ old)
+Does input (Print place) old answer came new = Shows (listed_at old (here input old.machine) place) (lvalue_at old (here input old.machine) place) answer × (new ≡ old)
 Does input (Set place constant) old answer came new =
     (l : Lvalue) × (lvalue_at old (here input old.machine) place ≡ Ok l)
     × (answer ≡ Shown l) × (new ≡ record old { machine = with_set (target_of l) (constant_value constant) old.machine })

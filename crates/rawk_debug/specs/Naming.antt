@@ -22,7 +22,10 @@ use Rattle.rawk_commands.specs.declared.command.C.TheVariants.{BadArgument, NoSu
 use Rattle.rawk_debug.specs.declared.stop.Watched.{Watched}
 use Rattle.rawk_debug.specs.declared.stop.Watched.TheVariants as watched
 use Rattle.rawk_debug.specs.declared.stop.Lvalue.{Lvalue}
+use Rattle.rawk_debug.specs.declared.stop.Lvalue.TheVariants as lvalue
 use Rattle.rawk_debug.specs.declared.stop.Lvalue.TheVariants.{Local, Shared}
+use Rattle.rawk_words.specs.declared.array.Array.{Array}
+use Rattle.rawk_words.specs.declared.array.Array.TheVariants as array
 use Rattle.rawk_code.specs.Actions.{fault_of}
 
 -- what the name of a scalar is: NF, a special variable, or a global of the program
@@ -58,10 +61,33 @@ local_or kinds None (Err reason) = Err reason
 abbrev pub named_here : List Bytes → List Kind → Program → Bytes → Result Lvalue C
 named_here locals kinds p name = local_or kinds (position (bytes_eq name) locals) (named p name)
 
+-- the array that a name of a program is, if it is one
+abbrev pub array_named : Program → Bytes → Option Array
+array_named p name = if names_array p.names.items p.kinds.items name then option_map array.Global (position (bytes_eq name) p.names.items) else None
+
+-- the array that a name is where these are what the locals are: one of them, or else what it is everywhere
+abbrev pub local_array_or : List Kind → Option ℕ → Option Array → Option Array
+local_array_or kinds (Some number) elsewhere = if is_array (slice_get kinds number) then Some (array.Local number) else None
+local_array_or kinds None elsewhere = elsewhere
+
+abbrev pub array_here : List Bytes → List Kind → Program → Bytes → Option Array
+array_here locals kinds p name = local_array_or kinds (position (bytes_eq name) locals) (array_named p name)
+
+-- the element at a key of an array, or why there is none
+abbrev pub element_of : Option Array → Bytes → C → Result Lvalue C
+element_of (Some a) key reason = Ok (lvalue.Element a key)
+element_of None key reason = Err reason
+
+-- an array that can be shown with its elements
+abbrev pub listed_of : List Bytes → List Kind → Program → Place → Option Array
+listed_of locals kinds p (Name name) = array_here locals kinds p name
+listed_of locals kinds p (Element name key) = None
+listed_of locals kinds p (Field number) = None
+
 -- a place that can be shown and set where these are the locals, or why it is refused
 abbrev pub lvalue_of : List Bytes → List Kind → Program → Place → Result Lvalue C
 lvalue_of locals kinds p (Name name) = named_here locals kinds p name
-lvalue_of locals kinds p (Element name key) = Err (subscript_refusal (named_here locals kinds p name))
+lvalue_of locals kinds p (Element name key) = element_of (array_here locals kinds p name) key (subscript_refusal (named_here locals kinds p name))
 lvalue_of locals kinds p (Field number) = Ok (Shared (watched.Field number))
 
 -- the site of a breakpoint: the first one on a line, or the entry of a function
@@ -78,6 +104,7 @@ shared_target (watched.Field number) = target.Field number
 abbrev pub target_of : Lvalue → Target
 target_of (Local number) = target.Local number
 target_of (Shared place) = shared_target place
+target_of (lvalue.Element a key) = target.Element a key
 
 abbrev pub constant_value : Constant → Value
 constant_value (constant.Number n) = Number n

@@ -10,14 +10,15 @@ use crate::session::Session;
 use crate::stepper::Stepper;
 use crate::stop::{Entry, Lvalue};
 use crate::text::{
-    output_from, push_backtrace, push_deleted, push_line_end, push_made, push_place_line,
-    push_shown_line, push_stop_line,
+    output_from, push_array, push_backtrace, push_deleted, push_line_end, push_made,
+    push_place_line, push_shown_line, push_stop_line,
 };
 use rawk_commands::{C, push_text};
+use rawk_words::Array;
 use std::alloc::{AllocError, Global};
 
 /// What a command is answered, as plain data: its text is made of it and of the session, before the next command.
-#[derive(Clone, Copy)]
+#[derive(Drop)]
 pub enum Answer {
     /// A forward move came to its end; the length of the output before it.
     Went(usize),
@@ -29,6 +30,8 @@ pub enum Answer {
     Stayed,
     /// A place is shown.
     Shown(Lvalue),
+    /// An array is shown with its elements.
+    Listed(Array),
     /// The last set of this point stands no more.
     TakenBack,
     /// A breakpoint or a watch was made.
@@ -56,40 +59,53 @@ fn push_stop_lines<M: Stepper>(out: &mut Vec<u8>, session: &Session<M>) -> Resul
     Ok(())
 }
 
-/// Adds an answer's text behind the output that it shows.
-fn push_behind<M: Stepper>(
+/// Adds what a move backward is answered, by whether it ended where it looked for.
+fn push_returned<M: Stepper>(
     out: &mut Vec<u8>,
     session: &Session<M>,
-    answer: Answer,
+    found: bool,
 ) -> Result<(), AllocError>
-    requires { IsReady (M.fresh session.now.machine) answer }
+    requires { IsReady (M.fresh session.now.machine) (Answer.Returned found) }
     ensures { OnOk result (out.new.items
-        ≡ out.old.items ++ behind_shown (stand M.position session.now) (M.held session.now.machine) (M.before session.now.machine) answer) }
+        ≡ out.old.items ++ behind_shown (stand M.position session.now) (M.held session.now.machine) (M.before session.now.machine) (Answer.Returned found)) }
+{
+    if found {
+        push_stop_lines(out, session)?;
+    } else {
+        push_text(out, b"No more reverse-execution history.\n")?;
+    }
+    push_place_line(out, &session.machine)
+}
+
+/// Adds an answer's text behind the output that it shows.
+fn push_behind<M: Stepper>(
+    alloc: Global,
+    out: &mut Vec<u8>,
+    session: &Session<M>,
+    answer: &Answer,
+) -> Result<(), AllocError>
+    requires { IsReady (M.fresh session.now.machine) answer.now }
+    ensures { OnOk result (out.new.items
+        ≡ out.old.items ++ behind_shown (stand M.position session.now) (M.held session.now.machine) (M.before session.now.machine) answer.now) }
 {
     match answer {
         Answer::Went(from) => {
-            push_line_end(out, output_from(session.machine.output(), from))?;
+            push_line_end(out, output_from(session.machine.output(), *from))?;
             push_stop_lines(out, session)?;
             push_place_line(out, &session.machine)
         }
         Answer::Halted(from) => {
-            push_line_end(out, output_from(session.machine.output(), from))?;
+            push_line_end(out, output_from(session.machine.output(), *from))?;
             push_text(out, C::OutOfMemory.line().as_bytes())?;
             push_place_line(out, &session.machine)
         }
-        Answer::Returned(true) => {
-            push_stop_lines(out, session)?;
-            push_place_line(out, &session.machine)
-        }
-        Answer::Returned(false) => {
-            push_text(out, b"No more reverse-execution history.\n")?;
-            push_place_line(out, &session.machine)
-        }
+        Answer::Returned(found) => push_returned(out, session, *found),
         Answer::Stayed => push_place_line(out, &session.machine),
         Answer::Shown(place) => push_shown_line(out, &session.machine, place),
+        Answer::Listed(array) => push_array(alloc, out, &session.machine, *array),
         Answer::TakenBack => push_text(out, b"set taken back\n"),
-        Answer::Made(entry) => push_made(out, session.machine.program(), entry),
-        Answer::Deleted(entry) => push_deleted(out, entry),
+        Answer::Made(entry) => push_made(out, session.machine.program(), *entry),
+        Answer::Deleted(entry) => push_deleted(out, *entry),
         Answer::Traced => push_backtrace(out, &session.machine),
         Answer::Left => Ok(()),
     }
@@ -117,7 +133,7 @@ impl Answer {
         ensures { IfOk result (λ text. text.items ≡ behind_shown (stand M.position session.now) (M.held (machine_of session.now)) (M.before (machine_of session.now)) self.now) }
     {
         let mut out = Vec::new(alloc);
-        push_behind(&mut out, session, *self)?;
+        push_behind(alloc, &mut out, session, self)?;
         Ok(out)
     }
 
@@ -133,7 +149,7 @@ impl Answer {
         let output = session.machine.output();
         let mut out = Vec::new(alloc);
         push_text(&mut out, output_from(output, self.shown_from(output)))?;
-        push_behind(&mut out, session, *self)?;
+        push_behind(alloc, &mut out, session, self)?;
         Ok(out)
     }
 }

@@ -1,10 +1,10 @@
 //! What the names of a command are in a program.
 
-ghost use Rattle.std.specs.Prelude.{◌≡◌, if◌then◌else◌, position, slice_get, Err, Ok};
+ghost use Rattle.std.specs.Prelude.{◌≡◌, if◌then◌else◌, position, slice_get, Err, IfOk, None, Ok, Some};
 ghost use Rattle.std.specs.Str.{bytes_eq};
 ghost use Rattle.rawk_tree.specs.Kinds.{is_array};
 ghost use Rattle.rawk_debug.specs.Activations.{local_kinds, local_names};
-ghost use Rattle.rawk_debug.specs.Naming.{scalar_named, named, named_here, place_of, lvalue_of, site_of, shared_target, target_of, constant_value};
+ghost use Rattle.rawk_debug.specs.Naming.{array_here, array_named, listed_of, scalar_named, subscript_refusal, named, named_here, place_of, lvalue_of, site_of, shared_target, target_of, constant_value};
 
 use crate::stepper::Stepper;
 use crate::stop::{Lvalue, Watched};
@@ -13,6 +13,8 @@ use rawk_special::{global_number, is_field_count};
 use rawk_store::Target;
 use rawk_tree::{Kind, Program};
 use rawk_value::{Bytes, Value};
+use rawk_words::Array;
+use std::alloc::AllocError;
 
 /// What the name of a scalar is everywhere.
 fn scalar_named(names: &[Bytes], name: &[u8]) -> Option<Watched>
@@ -40,11 +42,11 @@ fn named(program: &Program, name: &[u8]) -> Result<Watched, C>
     }
 }
 
-/// The number of a local, by its name.
-fn local_number(locals: &[Bytes], name: &[u8]) -> Option<usize>
-    ensures { result ≡ position (bytes_eq name.now) locals.now }
+/// The place of a name among these.
+fn place_among(names: &[Bytes], name: &[u8]) -> Option<usize>
+    ensures { result ≡ position (bytes_eq name.now) names.now }
 {
-    locals.iter().position(|local| name == local.as_slice())
+    names.iter().position(|own| name == own.as_slice())
 }
 
 /// A local that can be shown and set where these are what the locals are: an array is no place.
@@ -62,12 +64,72 @@ fn local_place(kinds: &[Kind], number: usize) -> Result<Lvalue, C>
 fn named_here(locals: &[Bytes], kinds: &[Kind], program: &Program, name: &[u8]) -> Result<Lvalue, C>
     ensures { result ≡ named_here locals.now kinds.now program.now name.now }
 {
-    match local_number(locals, name) {
+    match place_among(locals, name) {
         Some(number) => local_place(kinds, number),
         None => match named(program, name) {
             Ok(place) => Ok(Lvalue::Shared(place)),
             Err(reason) => Err(reason),
         },
+    }
+}
+
+/// The array that a name is everywhere, if it is one.
+fn array_named(program: &Program, name: &[u8]) -> Option<Array>
+    ensures { result ≡ array_named program.now name.now }
+{
+    if !program.is_array(name) {
+        return None;
+    }
+    match place_among(&program.names, name) {
+        Some(number) => Some(Array::Global(number)),
+        None => None,
+    }
+}
+
+/// The array that a local is, if it is one.
+fn local_array(kinds: &[Kind], number: usize) -> Option<Array>
+    ensures { result ≡ (if is_array (slice_get kinds.now number) then Some (Array.Local number) else None) }
+{
+    match kinds.get(number) {
+        Some(Kind::Array) => Some(Array::Local(number)),
+        Some(Kind::Scalar) => None,
+        None => None,
+    }
+}
+
+/// The array that a name is where these are the locals, if it is one.
+fn array_here(locals: &[Bytes], kinds: &[Kind], program: &Program, name: &[u8]) -> Option<Array>
+    ensures { result ≡ array_here locals.now kinds.now program.now name.now }
+{
+    match place_among(locals, name) {
+        Some(number) => local_array(kinds, number),
+        None => array_named(program, name),
+    }
+}
+
+/// The array that can be shown with its elements where these are the locals, if the place is one.
+pub(crate) fn listed_of(
+    locals: &[Bytes],
+    kinds: &[Kind],
+    program: &Program,
+    place: &Place,
+) -> Option<Array>
+    ensures { result ≡ listed_of locals.now kinds.now program.now place.now }
+{
+    match place {
+        Place::Name(name) => array_here(locals, kinds, program, name.as_slice()),
+        Place::Element(_, _) => None,
+        Place::Field(_) => None,
+    }
+}
+
+/// Why a name with a subscript that is no array is refused.
+fn subscript_refusal(named: Result<Lvalue, C>) -> C
+    ensures { result ≡ subscript_refusal named }
+{
+    match named {
+        Ok(_) => C::BadArgument,
+        Err(reason) => reason,
     }
 }
 
@@ -102,17 +164,17 @@ pub(crate) fn lvalue_of(
     locals: &[Bytes],
     kinds: &[Kind],
     program: &Program,
-    place: &Place,
+    place: Place,
 ) -> Result<Lvalue, C>
-    ensures { result ≡ lvalue_of locals.now kinds.now program.now place.now }
+    ensures { result ≡ lvalue_of locals.now kinds.now program.now place }
 {
     match place {
         Place::Name(name) => named_here(locals, kinds, program, name.as_slice()),
-        Place::Element(name, _) => match named_here(locals, kinds, program, name.as_slice()) {
-            Ok(_) => Err(C::BadArgument),
-            Err(reason) => Err(reason),
+        Place::Element(name, key) => match array_here(locals, kinds, program, name.as_slice()) {
+            Some(array) => Ok(Lvalue::Element(array, key)),
+            None => Err(subscript_refusal(named_here(locals, kinds, program, name.as_slice()))),
         },
-        Place::Field(number) => Ok(Lvalue::Shared(Watched::Field(*number))),
+        Place::Field(number) => Ok(Lvalue::Shared(Watched::Field(number))),
     }
 }
 
@@ -151,13 +213,17 @@ fn shared_target(place: Watched) -> Target
     }
 }
 
-/// What is assigned of a place.
-pub(crate) fn target_of(place: Lvalue) -> Target
-    ensures { result ≡ target_of place }
+/// What is assigned of a place. It fails where memory is refused.
+pub(crate) fn target_of(place: &Lvalue) -> Result<Target, AllocError>
+    ensures { IfOk result (λ target. target ≡ target_of place.now) }
 {
     match place {
-        Lvalue::Local(number) => Target::Local(number),
-        Lvalue::Shared(place) => shared_target(place),
+        Lvalue::Local(number) => Ok(Target::Local(*number)),
+        Lvalue::Shared(place) => Ok(shared_target(*place)),
+        Lvalue::Element(array, key) => {
+            let key = key.copy()?;
+            Ok(Target::Element(*array, key))
+        }
     }
 }
 

@@ -3,17 +3,18 @@
 ghost use Rattle.std.specs.Prelude.{◌≡◌, ◌≢◌, ◌<◌, [], false, not, filter, Err, None, IfOk, IfErr};
 ghost use Rattle.rawk_tape.specs.Records.{Input};
 ghost use Rattle.rawk_commands.specs.declared.command.C.TheVariants.{OutOfMemory, NoSuchNumber};
-ghost use Rattle.rawk_debug.specs.Commands.{Makes, Removes, Executes, IsReady, goes_forward, needs_memory, entry_of, is_entry, is_kind, lvalue_at, most};
+ghost use Rattle.rawk_debug.specs.Commands.{Makes, Removes, Executes, IsReady, goes_forward, needs_memory, entry_of, is_entry, is_kind, listed_at, lvalue_at, most};
 ghost use Rattle.rawk_debug.specs.Sessions.{stand, machine_of};
 ghost use Rattle.rawk_debug.specs.Works.{Draws};
 
 use crate::answer::Answer;
 use crate::naming::{
-    constant_value, local_kinds, local_names, lvalue_of, place_of, site_of, target_of,
+    constant_value, listed_of, local_kinds, local_names, lvalue_of, place_of, site_of, target_of,
 };
 use crate::stepper::Stepper;
 use crate::stop::{Entry, Lvalue, Stop};
 use rawk_commands::{C, Command, Constant, Goal, Place, Spot, Way};
+use rawk_words::Array;
 use std::alloc::{AllocError, Global};
 
 /// The greatest number of a breakpoint or watch.
@@ -164,9 +165,21 @@ impl<M: Stepper> Session<M> {
         }
     }
 
+    /// An array that can be shown with its elements here, if the place is one.
+    fn listed_at(&self, place: &Place) -> Option<Array>
+        ensures { result ≡ listed_at (stand M.position self.now) (M.held self.now.machine) place.now }
+    {
+        listed_of(
+            local_names(&self.machine),
+            local_kinds(&self.machine),
+            self.machine.program(),
+            place,
+        )
+    }
+
     /// A place that can be shown and set here, or why it is refused.
-    fn lvalue_at(&self, place: &Place) -> Result<Lvalue, C>
-        ensures { result ≡ lvalue_at (stand M.position self.now) (M.held self.now.machine) place.now }
+    fn lvalue_at(&self, place: Place) -> Result<Lvalue, C>
+        ensures { result ≡ lvalue_at (stand M.position self.now) (M.held self.now.machine) place }
     {
         lvalue_of(
             local_names(&self.machine),
@@ -177,12 +190,15 @@ impl<M: Stepper> Session<M> {
     }
 
     /// `print`.
-    fn print(&self, place: &Place) -> Result<Answer, C>
+    fn print(&self, place: Place) -> Result<Answer, C>
         ensures executes { (input : Input) → M.may_be self.now.machine input
-            → Executes input (Command.Print place.now) (stand M.position self.now) result (M.before self.now.machine) (stand M.position self.now) }
+            → Executes input (Command.Print place) (stand M.position self.now) result (M.before self.now.machine) (stand M.position self.now) }
         ensures ready { IfOk result (λ answer. IsReady (M.fresh self.now.machine) answer) }
     {
         self.machine.known();
+        if let Some(array) = self.listed_at(&place) {
+            return Ok(Answer::Listed(array));
+        }
         match self.lvalue_at(place) {
             Ok(place) => Ok(Answer::Shown(place)),
             Err(reason) => Err(reason),
@@ -199,17 +215,17 @@ impl<M: Stepper> Session<M> {
         ensures idle { M.work self.new.machine ≡ M.work self.old.machine }
     {
         self.machine.known();
-        let place = match self.lvalue_at(&place) {
+        let place = match self.lvalue_at(place) {
             Ok(place) => place,
             Err(reason) => return Err(reason),
         };
         if self.machine.is_over() {
             return Err(C::ProgramEnded);
         }
-        match self
-            .machine
-            .set(alloc, target_of(place), constant_value(constant))
-        {
+        let Ok(target) = target_of(&place) else {
+            return Err(C::OutOfMemory);
+        };
+        match self.machine.set(alloc, target, constant_value(constant)) {
             Ok(None) => Ok(Answer::Shown(place)),
             Ok(Some(_)) => Err(C::SetRefused),
             Err(AllocError) => Err(C::OutOfMemory),
@@ -283,7 +299,7 @@ impl<M: Stepper> Session<M> {
             Command::Unwatch(number) => self.delete(false, number),
             Command::Move(way, goal) => self.travel(alloc, way, goal),
             Command::Run => Ok(self.run(alloc)),
-            Command::Print(place) => self.print(&place),
+            Command::Print(place) => self.print(place),
             Command::Set(place, constant) => self.set(alloc, place, constant),
             Command::ReverseSet => self.take_back(),
             Command::Backtrace => Ok(Answer::Traced),

@@ -6,7 +6,8 @@ ghost use Rattle.rawk_tape.specs.Inputs.{before as behind};
 ghost use Rattle.rawk_tape.specs.declared.source.Ending.TheVariants.{Failed};
 ghost use Rattle.rawk_record.specs.FieldRefs.{ref_value};
 ghost use Rattle.rawk_frames.specs.Frame.{locals_now};
-ghost use Rattle.rawk_store.specs.State.{assigned};
+ghost use Rattle.rawk_arrays.specs.Walks.{texts};
+ghost use Rattle.rawk_store.specs.State.{array_in, assigned, count_in, element_in, keys_in};
 ghost use Rattle.rawk_code.specs.Actions.{fault_of};
 ghost use Rattle.rawk_debug.specs.Positions.{Position, Snapshot, IsPosition, Stands, IsTakenBack, gone_to, back_at, with_set, has_set_at};
 ghost use Rattle.rawk_debug.specs.Watching.{Observed, seen, differs};
@@ -20,6 +21,7 @@ use rawk_store::{Ending, Target};
 use rawk_tape::Source;
 use rawk_tree::Program;
 use rawk_value::{Fault, Value};
+use rawk_words::Array;
 use std::alloc::{AllocError, Global};
 
 /// A call that goes on: its function, by its number from 0, and the site of its calling point.
@@ -118,6 +120,18 @@ pub trait Stepper: Drop {
     fn field(&self, number: usize) -> Option<FieldRef<'_>>
         requires { 0 < number }
         ensures { option_map ref_value result ≡ slice_get (held self.now).state.fields (number - 1) };
+
+    /// An element of an array, if both are there.
+    fn element(&self, array: Array, key: &[u8]) -> Option<&Value>
+        ensures { option_copied result ≡ element_in (array_in array (held self.now).state.frames) key.now (held self.now).state.arrays };
+
+    /// How many elements an array has, 0 where it is not there.
+    fn element_count(&self, array: Array) -> usize
+        ensures { result ≡ count_in (array_in array (held self.now).state.frames) (held self.now).state.arrays };
+
+    /// The keys of an array, in byte order. It fails where memory is refused.
+    fn array_keys(&self, alloc: Global, array: Array) -> Result<Vec<Vec<u8>>, AllocError>
+        ensures { IfOk result (λ keys. texts keys.items ≡ keys_in (array_in array (held self.now).state.frames) (held self.now).state.arrays) };
 
     /// Whether a place's value differs between the points before and after the last step. It takes no memory.
     fn changed(&self, place: Watched) -> bool

@@ -1,4 +1,7 @@
-//! Where a session stops.
+//! Where a session stops, and what it shows and sets.
+
+use rawk_value::Bytes;
+use rawk_words::Array;
 
 /// What can be watched.
 #[derive(Clone, Copy)]
@@ -12,12 +15,14 @@ pub enum Watched {
 }
 
 /// What can be shown and set.
-#[derive(Clone, Copy)]
+#[derive(Drop)]
 pub enum Lvalue {
     /// A local of the innermost activation, by its number from 0.
     Local(usize),
     /// What all activations share.
     Shared(Watched),
+    /// An element of an array, by its key.
+    Element(Array, Bytes),
 }
 
 /// What stops a search.

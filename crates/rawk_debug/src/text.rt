@@ -2,23 +2,25 @@
 
 ghost use Rattle.std.specs.Prelude.{◌≡◌, ◌++◌, [], drop, OnOk, slice_index_or};
 ghost use Rattle.rawk_tree.specs.Sites.{line_at};
-ghost use Rattle.rawk_commands.specs.Texts.{shown_value};
+ghost use Rattle.rawk_arrays.specs.Walks.{texts};
+ghost use Rattle.rawk_commands.specs.Texts.{shown_held, shown_value};
 ghost use Rattle.rawk_store.specs.State.{local_value};
 ghost use Rattle.rawk_debug.specs.Activations.{function_at, name_of};
 ghost use Rattle.rawk_debug.specs.Watching.{seen, value_at};
-ghost use Rattle.rawk_debug.specs.Answers.{place_text, entry_text, watch_text, stop_line, spot_text, made_line, deleted_line, at_line, fault_place, site_text, where_text, place_line, line_end, lvalue_text, lvalue_value, shown_line, frame_line, backtrace};
+ghost use Rattle.rawk_debug.specs.Answers.{place_text, entry_text, watch_text, stop_line, spot_text, made_line, deleted_line, at_line, fault_place, site_text, where_text, place_line, line_end, array_line, array_name, array_text, element_lines, lvalue_text, held_at, shown_line, frame_line, backtrace};
 
 use crate::naming::local_names;
 use crate::stepper::Stepper;
 use crate::stop::{Entry, Lvalue, Stop, Watched};
-use rawk_commands::{push_number, push_shown, push_text, push_value};
+use rawk_commands::{push_element, push_held, push_number, push_shown, push_text, push_value};
 use rawk_frames::Local;
 use rawk_record::FieldRef;
 use rawk_special::{FIELD_COUNT, global_name};
 use rawk_store::Ending;
 use rawk_tree::Program;
 use rawk_value::{Bytes, Fault};
-use std::alloc::AllocError;
+use rawk_words::Array;
+use std::alloc::{AllocError, Global};
 
 /// Adds a place.
 fn push_place(out: &mut Vec<u8>, names: &[Bytes], place: Watched) -> Result<(), AllocError>
@@ -292,13 +294,23 @@ fn push_value_at<M: Stepper>(
     }
 }
 
-/// The name of a local, by its number.
-fn local_name(locals: &[Bytes], number: usize) -> &[u8]
-    ensures { result.now ≡ slice_index_or locals.now number [] }
+/// A name, by its number.
+fn name_at(names: &[Bytes], number: usize) -> &[u8]
+    ensures { result.now ≡ slice_index_or names.now number [] }
 {
-    match locals.get(number) {
+    match names.get(number) {
         Some(name) => name.as_slice(),
         None => b"",
+    }
+}
+
+/// The name of an array where these are the locals.
+fn array_name<'a>(locals: &'a [Bytes], names: &'a [Bytes], array: Array) -> &'a [u8]
+    ensures { result.now ≡ array_name locals.now names.now array }
+{
+    match array {
+        Array::Global(number) => name_at(names, number),
+        Array::Local(number) => name_at(locals, number),
     }
 }
 
@@ -307,13 +319,16 @@ fn push_lvalue(
     out: &mut Vec<u8>,
     locals: &[Bytes],
     names: &[Bytes],
-    place: Lvalue,
+    place: &Lvalue,
 ) -> Result<(), AllocError>
-    ensures { OnOk result (out.new.items ≡ out.old.items ++ lvalue_text locals.now names.now place) }
+    ensures { OnOk result (out.new.items ≡ out.old.items ++ lvalue_text locals.now names.now place.now) }
 {
     match place {
-        Lvalue::Local(number) => push_text(out, local_name(locals, number)),
-        Lvalue::Shared(place) => push_place(out, names, place),
+        Lvalue::Local(number) => push_text(out, name_at(locals, *number)),
+        Lvalue::Shared(place) => push_place(out, names, *place),
+        Lvalue::Element(array, key) => {
+            push_element(out, array_name(locals, names, *array), key.as_slice())
+        }
     }
 }
 
@@ -328,17 +343,18 @@ fn push_local<M: Stepper>(out: &mut Vec<u8>, machine: &M, number: usize) -> Resu
     }
 }
 
-/// Adds the value of what is shown.
-fn push_lvalue_value<M: Stepper>(
+/// Adds what a place holds.
+fn push_held_at<M: Stepper>(
     out: &mut Vec<u8>,
     machine: &M,
-    place: Lvalue,
+    place: &Lvalue,
 ) -> Result<(), AllocError>
-    ensures { OnOk result (out.new.items ≡ out.old.items ++ shown_value (lvalue_value place (M.held machine.now).state)) }
+    ensures { OnOk result (out.new.items ≡ out.old.items ++ shown_held (held_at place.now (M.held machine.now).state)) }
 {
     match place {
-        Lvalue::Local(number) => push_local(out, machine, number),
-        Lvalue::Shared(place) => push_value_at(out, machine, place),
+        Lvalue::Local(number) => push_local(out, machine, *number),
+        Lvalue::Shared(place) => push_value_at(out, machine, *place),
+        Lvalue::Element(array, key) => push_held(out, machine.element(*array, key.as_slice())),
     }
 }
 
@@ -346,12 +362,72 @@ fn push_lvalue_value<M: Stepper>(
 pub(crate) fn push_shown_line<M: Stepper>(
     out: &mut Vec<u8>,
     machine: &M,
-    place: Lvalue,
+    place: &Lvalue,
 ) -> Result<(), AllocError>
-    ensures { OnOk result (out.new.items ≡ out.old.items ++ shown_line (M.position machine.now).program place (M.held machine.now)) }
+    ensures { OnOk result (out.new.items ≡ out.old.items ++ shown_line (M.position machine.now).program place.now (M.held machine.now)) }
 {
     push_lvalue(out, local_names(machine), &machine.program().names, place)?;
     push_text(out, b" = ")?;
-    push_lvalue_value(out, machine, place)?;
+    push_held_at(out, machine, place)?;
     push_text(out, b"\n")
+}
+
+/// Adds an element and its value.
+fn push_element_line<M: Stepper>(
+    out: &mut Vec<u8>,
+    machine: &M,
+    array: Array,
+    key: &[u8],
+) -> Result<(), AllocError>
+    ensures { OnOk result (out.new.items ≡ out.old.items ++ shown_line (M.position machine.now).program (Lvalue.Element array key.now) (M.held machine.now)) }
+{
+    let name = array_name(local_names(machine), &machine.program().names, array);
+    push_element(out, name, key)?;
+    push_text(out, b" = ")?;
+    push_held(out, machine.element(array, key))?;
+    push_text(out, b"\n")
+}
+
+/// Adds a line for each of these keys of an array.
+fn push_elements<M: Stepper>(
+    out: &mut Vec<u8>,
+    machine: &M,
+    array: Array,
+    keys: &[Vec<u8>],
+) -> Result<(), AllocError>
+    ensures { OnOk result (out.new.items ≡ out.old.items ++ element_lines (M.position machine.now).program array (M.held machine.now) (texts keys.now)) }
+{
+    for key in keys {
+        push_element_line(out, machine, array, key.as_slice())?;
+    }
+    Ok(())
+}
+
+/// Adds an array's name, and how many elements it has.
+fn push_array_line<M: Stepper>(
+    out: &mut Vec<u8>,
+    machine: &M,
+    array: Array,
+) -> Result<(), AllocError>
+    ensures { OnOk result (out.new.items ≡ out.old.items ++ array_line (M.position machine.now).program array (M.held machine.now).state) }
+{
+    let name = array_name(local_names(machine), &machine.program().names, array);
+    push_text(out, name)?;
+    push_text(out, b": array, ")?;
+    push_number(out, machine.element_count(array) as u64)?;
+    push_text(out, b" elements\n")
+}
+
+/// Adds an array with its elements, in byte order of their keys.
+pub(crate) fn push_array<M: Stepper>(
+    alloc: Global,
+    out: &mut Vec<u8>,
+    machine: &M,
+    array: Array,
+) -> Result<(), AllocError>
+    ensures { OnOk result (out.new.items ≡ out.old.items ++ array_text (M.position machine.now).program array (M.held machine.now)) }
+{
+    push_array_line(out, machine, array)?;
+    let keys = machine.array_keys(alloc, array)?;
+    push_elements(out, machine, array, &keys)
 }

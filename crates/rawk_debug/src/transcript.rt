@@ -52,8 +52,8 @@ impl Reply {
 }
 
 /// What stands for an answer whose text is refused memory.
-fn lost(answer: Answer) -> C
-    ensures { result ≡ lost answer }
+fn lost(answer: &Answer) -> C
+    ensures { result ≡ lost answer.now }
 {
     match answer {
         Answer::Halted(_) => C::OutOfMemory,
@@ -71,7 +71,7 @@ fn told<M: Stepper>(alloc: Global, session: &Session<M>, answer: Answer) -> Repl
     session.machine.known();
     match answer.behind(alloc, session) {
         Ok(text) => Reply::Text(answer.shown_from(session.machine.output()), text),
-        Err(AllocError) => Reply::Line(lost(answer)),
+        Err(AllocError) => Reply::Line(lost(&answer)),
     }
 }
 

@@ -1,10 +1,12 @@
 //! What a machine holds.
 
-ghost use Rattle.std.specs.Prelude.{◌≡◌, ◌≤◌, ◌<◌, ◌+◌, ◌-◌, ◌^◌, ◌∷◌, ◌++◌, List, ℕ, MatchOption, None, Some, length, slice_get, option_copied, option_map};
+ghost use Rattle.std.specs.Prelude.{◌≡◌, ◌≤◌, ◌<◌, ◌+◌, ◌-◌, ◌^◌, ◌∷◌, ◌++◌, List, ℕ, IfOk, MatchOption, None, Some, length, slice_get, option_copied, option_map};
 ghost use Rattle.std.specs.FinMap.{len};
 ghost use Rattle.rawk_value.specs.Values.{Bytes};
 ghost use Rattle.rawk_frames.specs.Frame.{Frame, IsOf, locals_now};
 ghost use Rattle.rawk_arrays.specs.Elements.{array_at, element_at};
+ghost use Rattle.rawk_arrays.specs.Walks.{texts};
+ghost use Rattle.rawk_store.specs.State.{array_in, count_in, element_in, keys_in};
 ghost use Rattle.rawk_tape.specs.Records.{Input};
 ghost use Rattle.rawk_record.specs.FieldRefs.{ref_value};
 ghost use Rattle.rawk_code.specs.Actions.{SetAt};
@@ -16,6 +18,8 @@ use rawk_history::Keeper;
 use rawk_store::{Activation, Ending, FieldRef, Local};
 use rawk_tape::Source;
 use rawk_value::Value;
+use rawk_words::Array;
+use std::alloc::{AllocError, Global};
 
 impl<R: Source + Drop, K: Keeper> Machine<R, K> {
     /// What is so of each machine. It does nothing.
@@ -70,6 +74,27 @@ impl<R: Source + Drop, K: Keeper> Machine<R, K> {
         ensures { option_copied result ≡ element_at array key.now self.now.state.arrays }
     {
         self.store.arrays.element(array, key)
+    }
+
+    /// An element of an array, if both are there. It is not made.
+    pub fn element_named(&self, array: Array, key: &[u8]) -> Option<&Value>
+        ensures { option_copied result ≡ element_in (array_in array self.now.state.frames) key.now self.now.state.arrays }
+    {
+        self.store.element(array, key)
+    }
+
+    /// How many elements an array has, 0 where it is not there. It is linear in the slots of the array.
+    pub fn elements_named(&self, array: Array) -> usize
+        ensures { result ≡ count_in (array_in array self.now.state.frames) self.now.state.arrays }
+    {
+        self.store.element_count(array)
+    }
+
+    /// The keys of an array in byte order, none where it is not there: a copy of each. It fails where memory is refused.
+    pub fn keys_named(&self, alloc: Global, array: Array) -> Result<Vec<Vec<u8>>, AllocError>
+        ensures { IfOk result (λ keys. texts keys.items ≡ keys_in (array_in array self.now.state.frames) self.now.state.arrays) }
+    {
+        self.store.array_keys(alloc, array)
     }
 
     /// How the run ended, if the machine stands at the ending.

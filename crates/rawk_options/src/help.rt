@@ -27,4 +27,5 @@ Commands of a session, one a line:
   reverse-set           take back the last set at this point
   backtrace, bt         show the activations
   quit, q               end the session
-PLACE is a variable or a field, as NR or $1; CONSTANT is a number or a string.";
+PLACE is a variable, an element or a field, as NR, n[\"x\"] or $1; CONSTANT is a
+number or a string. An array is shown whole by its name.";

@@ -1,5 +1,5 @@
 -- What of the parser's tree is covered, from its parts.
-use Rattle.std.proofs.Common.{◌≡◌, ◌≢◌, ℕ, ℤ, ◌+◌, ◌<◌, ◌≤◌, suc, Bool, true, false, not, ◌&&◌, ◌||◌, List, [], ◌∷◌, ◌++◌, length, take, drop, map, get_or, slice_get, Option, Some, None, Result, Ok, Err, refl, sym, ap, subst, ◌∙◌, arith}
+use Rattle.std.proofs.Common.{◌≡◌, ◌≢◌, ℕ, ◌+◌, ◌<◌, ◌≤◌, suc, Bool, true, false, not, ◌&&◌, ◌||◌, List, [], ◌∷◌, ◌++◌, length, take, drop, map, get_or, slice_get, Option, Some, None, Result, Ok, Err, refl, sym, ap, subst, ◌∙◌, arith}
 use Rattle.std.specs.Result.{result_err}
 use Rattle.std.proofs.lemmas.List.{take_more, take-append-drop, drop_all, length-map, length-take-le, map-append}
 use Rattle.std.proofs.Math.Seq.{drop-cons}
@@ -14,7 +14,7 @@ use Rattle.rawk_parsing.specs.declared.tree.Function.TheVariants as fun
 use Rattle.rawk_parsing.specs.declared.tree.Name as word
 use Rattle.rawk_parsing.specs.declared.tree.Expr.{Expr, out-Expr, roll-Expr, roll-out-Expr, map-Expr, fold-roll-Expr, fold_out-Expr}
 use Rattle.rawk_parsing.specs.declared.tree.Expr.TheVariants as tree
-use Rattle.rawk_parsing.specs.declared.tree.Expr.TheVariants.{rolls-Number, rolls-Text, rolls-Ere, rolls-Getline, rolls-Of, rolls-Group, rolls-Signed, rolls-Power, rolls-Chain, rolls-In, rolls-ListIn, rolls-Logic, rolls-Choice, rolls-Before, rolls-After, rolls-Assign, rolls-Call, rolls-Builtin}
+use Rattle.rawk_parsing.specs.declared.tree.Expr.TheVariants.{rolls-Number, rolls-Text, rolls-Ere, rolls-Getline, rolls-GetlineTo, rolls-Of, rolls-Group, rolls-Signed, rolls-Power, rolls-Chain, rolls-In, rolls-ListIn, rolls-Logic, rolls-Choice, rolls-Before, rolls-After, rolls-Assign, rolls-Call, rolls-Builtin}
 use Rattle.rawk_parsing.specs.declared.tree.Expr.TheOpen as expr
 use Rattle.rawk_parsing.specs.declared.tree.Expr.TheOpen.{Expr-F, Place-F, Link-F}
 use Rattle.rawk_parsing.specs.declared.tree.Link.{Link, fold_out-Link}
@@ -147,6 +147,9 @@ ere_covers m e left w is = ap (covers m) (is ∙ sym (rolls-Ere left w)) ∙ cov
 
 pub getline_covers : (m : Sense) (e : Expr) → e ≡ tree.Getline → covers m e ≡ true
 getline_covers m e is = ap (covers m) (is ∙ sym rolls-Getline) ∙ covers_roll m expr.Getline
+
+pub getline_to_covers : (m : Sense) (e : Expr) (p : Place) → e ≡ tree.GetlineTo p → covers m e ≡ covers_place m p
+getline_to_covers m e p is = ap (covers m) (is ∙ sym (rolls-GetlineTo p)) ∙ covers_roll m (expr.GetlineTo p)
 
 pub of_covers : (m : Sense) (e : Expr) (p : Place) → e ≡ tree.Of p → covers m e ≡ covers_place m p
 of_covers m e p is = ap (covers m) (is ∙ sym (rolls-Of p)) ∙ covers_roll m (expr.Of p)
@@ -360,9 +363,6 @@ cover_out : (m : Sense) (e : Expr) → cover_of m e ≡ expr_step m (map-Expr Ex
 unfolding cover_of place_cover covers_link
 cover_out m e = fold_out-Expr Cover Cover Bool (expr_step m) (place_step m) link_step e
 
-covers_out : (m : Sense) (e : Expr) → covers m e ≡ (expr_step m (map-Expr Expr Place Link Cover Cover Bool (cover_of m) (place_cover m) (covers_link m) (out-Expr e))).covered
-covers_out m e = ap (λ (c : Cover). c.covered) (cover_out m e)
-
 place_cover_roll : (m : Sense) (d : Place-F Expr Place Link) → place_cover m (roll-Place d) ≡ place_step m (map-Place Expr Place Link Cover Cover Bool (cover_of m) (place_cover m) (covers_link m) d)
 unfolding cover_of place_cover covers_link
 place_cover_roll m d = fold-roll-Place Cover Cover Bool (expr_step m) (place_step m) link_step d
@@ -426,33 +426,6 @@ no_array m e not = sym (ap (λ (c : Cover). c.array) (cover_out m e) ∙ go (out
   where
     go : (d : Expr-F Expr Place Link) → e ≡ roll-Expr d → (expr_step m (map-Expr Expr Place Link Cover Cover Bool (cover_of m) (place_cover m) (covers_link m) d)).array ≡ false
     go (expr.Of p) q = absurd (not p (q ∙ rolls-Of p))
-    go _ q = refl
-
--- no other expression is covered
-pub other_covers : (m : Sense) (e : Expr) → ((n : ℤ) → e ≡ tree.Number n → ⊥) → ((w : List ℕ) → e ≡ tree.Text w → ⊥) → ((left : ℕ) (w : List ℕ) → e ≡ tree.Ere left w → ⊥) → (e ≡ tree.Getline → ⊥) → ((p : Place) → e ≡ tree.Of p → ⊥) → ((x : Expr) → e ≡ tree.Group x → ⊥)
-    → ((s : Sign) (x : Expr) → e ≡ tree.Signed s x → ⊥) → ((x y : Expr) → e ≡ tree.Power x y → ⊥) → ((x : Expr) (xs : List Link) → e ≡ tree.Chain x xs → ⊥) → ((l : Logic) (xs : List Expr) → e ≡ tree.Logic l xs → ⊥) → ((x y z : Expr) → e ≡ tree.Choice x y z → ⊥) → ((c : Change) (p : Place) → e ≡ tree.Before c p → ⊥) → ((c : Change) (p : Place) → e ≡ tree.After c p → ⊥)
-    → ((x : Expr) (ns : List word.Name) → e ≡ tree.In x ns → ⊥) → ((xs : List Expr) (n : word.Name) → e ≡ tree.ListIn xs n → ⊥) → ((how : Assignment) (p : Place) (x : Expr) → e ≡ tree.Assign how p x → ⊥) → ((n : word.Name) (xs : List Expr) → e ≡ tree.Call n xs → ⊥) → ((f : Function) (xs : List Expr) → e ≡ tree.Builtin f xs → ⊥) → covers m e ≡ false
-other_covers m e number text ere getline place group signed power chain logic choice before after within list_within assign call builtin = covers_out m e ∙ go (out-Expr e) (sym (roll-out-Expr e))
-  where
-    go : (d : Expr-F Expr Place Link) → e ≡ roll-Expr d → (expr_step m (map-Expr Expr Place Link Cover Cover Bool (cover_of m) (place_cover m) (covers_link m) d)).covered ≡ false
-    go (expr.Number n) q = absurd (number n (q ∙ rolls-Number n))
-    go (expr.Text w) q = absurd (text w (q ∙ rolls-Text w))
-    go (expr.Ere left w) q = absurd (ere left w (q ∙ rolls-Ere left w))
-    go expr.Getline q = absurd (getline (q ∙ rolls-Getline))
-    go (expr.Of p) q = absurd (place p (q ∙ rolls-Of p))
-    go (expr.Group x) q = absurd (group x (q ∙ rolls-Group x))
-    go (expr.Signed s x) q = absurd (signed s x (q ∙ rolls-Signed s x))
-    go (expr.Power x y) q = absurd (power x y (q ∙ rolls-Power x y))
-    go (expr.Chain x xs) q = absurd (chain x xs (q ∙ rolls-Chain x xs))
-    go (expr.Logic l xs) q = absurd (logic l xs (q ∙ rolls-Logic l xs))
-    go (expr.Choice x y z) q = absurd (choice x y z (q ∙ rolls-Choice x y z))
-    go (expr.Before c p) q = absurd (before c p (q ∙ rolls-Before c p))
-    go (expr.After c p) q = absurd (after c p (q ∙ rolls-After c p))
-    go (expr.In x ns) q = absurd (within x ns (q ∙ rolls-In x ns))
-    go (expr.ListIn xs n) q = absurd (list_within xs n (q ∙ rolls-ListIn xs n))
-    go (expr.Assign how p x) q = absurd (assign how p x (q ∙ rolls-Assign how p x))
-    go (expr.Call n xs) q = absurd (call n xs (q ∙ rolls-Call n xs))
-    go (expr.Builtin f xs) q = absurd (builtin f xs (q ∙ rolls-Builtin f xs))
     go _ q = refl
 
 -- ---- places

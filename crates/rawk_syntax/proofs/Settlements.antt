@@ -86,6 +86,11 @@ pub after_settles : (m : Sense) {E : Type 0} (e : parsed.Expr) (c : Change) (p :
 after_settles m e c p (Ok t) q is made h = rw (made, is) (spec.after h)
 after_settles m e c p (Err f) q is made h = rw made tt
 
+pub getline_to_settles : (m : Sense) {E : Type 0} (e : parsed.Expr) (p : spot.Place) (r : Result Place E) (q : Result Expr E)
+    → e ≡ from.GetlineTo p → q ≡ result_map_both tree.GetlineTo (λ z. z) r → IfOk r (λ t. Settles m (APlace p t)) → IfOk q (λ s. Settles m (AnExpr e s))
+getline_to_settles m e p (Ok t) q is made h = rw (made, is) (spec.getline_to h)
+getline_to_settles m e p (Err f) q is made h = rw made tt
+
 pub test_settles : (m : Sense) (l : Logic) (xs : List parsed.Expr) (i : ℕ) (x y : parsed.Expr) (ys zs : List Link) (r : Result Expr ParseError)
     → i < length xs → x ≡ get_or xs i x → y ≡ x → result_err r ≡ None → IfOk r (λ s. zs ≡ ys ++ tree_link.Decide l s ∷ []) → Settles m (SomeTests l (take i xs) ys) → IfOk r (λ s. Settles m (AnExpr y s)) → Settles m (SomeTests l (take (i + 1) xs) zs)
 test_settles m l xs i x y ys zs (Ok s) h held same none more g f' =

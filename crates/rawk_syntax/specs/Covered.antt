@@ -145,6 +145,7 @@ expr_step means (expr.Number n) = plain true
 expr_step means (expr.Text w) = plain true
 expr_step means (expr.Ere left w) = plain true
 expr_step means expr.Getline = plain true
+expr_step means (expr.GetlineTo p) = plain p.covered
 expr_step means (expr.Of p) = p
 expr_step means (expr.Group e) = plain e.covered
 expr_step means (expr.Signed s e) = plain e.covered
@@ -159,7 +160,6 @@ expr_step means (expr.In e ns) = plain (e.covered && each (names_array means) ns
 expr_step means (expr.ListIn es n) = plain (names_array means n && all_covered es)
 expr_step means (expr.Call n es) = plain (calls means (means.function n.word) es)
 expr_step means (expr.Builtin f es) = plain (builtin_step f es)
-expr_step means _ = plain false
 
 abbrev pub place_step : Sense → Place-F Cover Cover Bool → Cover
 place_step means (expr.Name n) = record { covered = names_scalar means n; place = true; array = names_array means n }

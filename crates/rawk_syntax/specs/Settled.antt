@@ -129,6 +129,7 @@ pub data Settles (means : Sense) : Pair → Type 0 where
   number : {n : ℤ} → Settles means (AnExpr (from.Number n) (tree.Number n))
   text : {w : List ℕ} → Settles means (AnExpr (from.Text w) (tree.Text w))
   getline : Settles means (AnExpr from.Getline tree.Getline)
+  getline_to : {p : spot.Place} {q : Place} → Settles means (APlace p q) → Settles means (AnExpr (from.GetlineTo p) (tree.GetlineTo q))
   -- a regular expression by itself
   matched : {left : ℕ} {w : List ℕ} {s : Expr} → IsMatchOf w s → Settles means (AnExpr (from.Ere left w) s)
   -- what is sought: a regular expression stands for its text, and anything else for its value

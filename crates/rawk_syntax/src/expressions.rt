@@ -20,8 +20,8 @@ use crate::arrays::{array_named, counted, members_of};
 use crate::growth::{boxed, boxed_if, push, push_if};
 use crate::kinds::kind_at;
 use crate::nodes::{
-    after_of, before_of, field_separator, joiner_of, neutral, push_link, push_test, read_of,
-    record, record_place, scalar_place, separated, settle_ere, settle_number, settle_text,
+    after_of, before_of, field_separator, getline_to, joiner_of, neutral, push_link, push_test,
+    read_of, record, record_place, scalar_place, separated, settle_ere, settle_number, settle_text,
     signed_of,
 };
 use crate::scope::{Scope, array_of, called, scalar_of};
@@ -644,6 +644,7 @@ pub fn settle_expr(
         parsed::Expr::After(change, place) => {
             after_of(*change, settle_place(alloc, scope, left, place))
         }
+        parsed::Expr::GetlineTo(place) => getline_to(settle_place(alloc, scope, left, place)),
         parsed::Expr::Assign(how, place, value) => {
             settle_assign(alloc, scope, left, *how, place, value.get())
         }
@@ -659,7 +660,6 @@ pub fn settle_expr(
         parsed::Expr::Builtin(function, arguments) => {
             settle_builtin(alloc, scope, left, *function, arguments.as_slice())
         }
-        _ => Err(left_out(left)),
     }
 }
 

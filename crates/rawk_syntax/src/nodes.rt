@@ -194,6 +194,16 @@ pub fn after_of(change: Change, place: Result<Place, ParseError>) -> Result<Expr
     }
 }
 
+/// `getline` of a place, if that was settled.
+pub fn getline_to(place: Result<Place, ParseError>) -> Result<Expr, ParseError>
+    ensures { result ≡ result_map_both tree.GetlineTo (λ e. e) place }
+{
+    match place {
+        Ok(place) => Ok(Expr::GetlineTo(place)),
+        Err(e) => Err(e),
+    }
+}
+
 /// The value of FS, which separates where no separator is given.
 pub fn field_separator(alloc: Global) -> Result<Box<Expr>, AllocError>
     ensures { IfOk result (λ b. b.value ≡ tree.Read (tree_place.Global FS)) }

@@ -1,10 +1,11 @@
 //! The reading of a record.
 
 ghost use Rattle.std.specs.Prelude.{◌≡◌, ◌≢◌, ◌≤◌, ◌⊎◌, List, Some, length, slice_range, IfOk, OnOk};
+ghost use Rattle.rawk_store.specs.Layout.{Grown};
 ghost use Rattle.rawk_store.specs.Stores.{start_of};
 ghost use Rattle.rawk_travel.specs.Plain.{IsPlainMove};
 ghost use Rattle.rawk_travel.specs.Moving.{moving};
-ghost use Rattle.rawk_travel.specs.Reading.{counter_up, Takes, Shows, Counts, Finds, consumed_by, ReadsTo, KeepsRegisters, IsQuietReading};
+ghost use Rattle.rawk_travel.specs.Reading.{counter_up, taken_of, with_counted_text, text_taken_of, Takes, Shows, Counts, Finds, consumed_by, ReadsTo, ReadsText, KeepsRegisters, KeepsPlaces, IsQuietReading};
 ghost use Rattle.rawk_travel.specs.Borrowed.{global_in};
 ghost use Rattle.rawk_travel.specs.Asking.{Draws, IsDue};
 ghost use Rattle.rawk_record.specs.Shown.{read_as};
@@ -14,6 +15,7 @@ ghost use Rattle.rawk_tape.specs.Tapes.{MayBe};
 ghost use Rattle.rawk_tape.specs.declared.source.Ending.{Ending};
 ghost use Rattle.rawk_code.specs.Actions.{Point};
 
+use crate::act::put;
 use crate::at_once::global_number;
 use crate::borrowed::global_borrowed;
 use itoa::Buffer;
@@ -21,7 +23,7 @@ use rawk_operators::{number, text_borrowed};
 use rawk_special::{FNR, FS, NR, RS};
 use rawk_store::{Cells, Store};
 use rawk_tape::{Found, Source, Tape};
-use rawk_value::{Fault, Value};
+use rawk_value::{Bytes, Fault, Value};
 use std::alloc::{AllocError, Global};
 
 /// What came of the reading of a record.
@@ -118,7 +120,7 @@ fn take_text(
     paragraph: bool,
 ) -> Result<Reading, AllocError>
     requires { paragraph ≡ is_empty (text_of (global_in RS store.old.globals.now)) }
-    ensures did { IfOk result (λ r. Takes r text.now (moving store.old) (moving store.new)) }
+    ensures did { IfOk result (λ r. Takes r (taken_of text.now (moving store.old)) (moving store.old) (moving store.new)) }
     ensures start { start_of store.new ≡ start_of store.old }
     ensures plain { IsPlainMove store.old store.new }
 {
@@ -127,6 +129,40 @@ fn take_text(
         Ok(nr) => match counter_up(&store.globals, FNR) {
             Err(fault) => Ok(Reading::Faulted(fault)),
             Ok(fnr) => show_counted(alloc, store, text, paragraph, nr, fnr),
+        },
+    }
+}
+
+/// A text becomes the newest operand, with these counters. It fails where memory is refused.
+fn put_counted(
+    alloc: Global,
+    store: &mut Store,
+    text: &[u8],
+    nr: i64,
+    fnr: i64,
+) -> Result<(), AllocError>
+    ensures did { OnOk result (moving store.new ≡ with_counted_text nr fnr text.now (moving store.old)) }
+    ensures start { Grown (start_of store.old) (start_of store.new) }
+{
+    let copy = Bytes::from_slice(alloc, text)?;
+    store.globals.set(NR, Value::Number(nr))?;
+    store.globals.set(FNR, Value::Number(fnr))?;
+    put(store, 0, Value::Input(copy))
+}
+
+/// A text becomes the newest operand, and is counted; a fault of a counter changes nothing. It fails where memory is refused.
+fn put_text(alloc: Global, store: &mut Store, text: &[u8]) -> Result<Reading, AllocError>
+    ensures did { IfOk result (λ r. Takes r (text_taken_of text.now (moving store.old)) (moving store.old) (moving store.new)) }
+    ensures start { Grown (start_of store.old) (start_of store.new) }
+{
+    match counter_up(&store.globals, NR) {
+        Err(fault) => Ok(Reading::Faulted(fault)),
+        Ok(nr) => match counter_up(&store.globals, FNR) {
+            Err(fault) => Ok(Reading::Faulted(fault)),
+            Ok(fnr) => {
+                put_counted(alloc, store, text, nr, fnr)?;
+                Ok(Reading::Taken)
+            }
         },
     }
 }
@@ -153,7 +189,7 @@ fn take_found<R: Source + Drop>(
     requires ordered { found.start ≤ found.end }
     requires end_in_range { found.end ≤ length tape.old.bytes }
     requires in_range { found.count ≤ length tape.old.bytes }
-    ensures did { IfOk result (λ r. Finds r (slice_range tape.old.bytes found.start found.end) found.count (moving store.old) (moving store.new)) }
+    ensures did { IfOk result (λ r. Finds r (taken_of (slice_range tape.old.bytes found.start found.end) (moving store.old)) found.count (moving store.old) (moving store.new)) }
     ensures start { start_of store.new ≡ start_of store.old }
     ensures plain { IsPlainMove store.old store.new }
     ensures tape { tape.new ≡ record tape.old { consumed = tape.new.consumed } }
@@ -195,5 +231,58 @@ pub fn read<R: Source + Drop>(
         Err(fault) => refused(fault),
         Ok(None) => Ok(Reading::Missing),
         Ok(Some(found)) => take_found(alloc, store, tape, found, paragraph),
+    }
+}
+
+/// The text of a record that was found becomes the newest operand, and its bytes are consumed. It fails where memory is refused.
+fn put_found<R: Source + Drop>(
+    alloc: Global,
+    store: &mut Store,
+    tape: &mut Tape<R>,
+    found: Found,
+) -> Result<Reading, AllocError>
+    requires ordered { found.start ≤ found.end }
+    requires end_in_range { found.end ≤ length tape.old.bytes }
+    requires in_range { found.count ≤ length tape.old.bytes }
+    ensures did { IfOk result (λ r. Finds r (text_taken_of (slice_range tape.old.bytes found.start found.end) (moving store.old)) found.count (moving store.old) (moving store.new)) }
+    ensures start { Grown (start_of store.old) (start_of store.new) }
+    ensures tape { tape.new ≡ record tape.old { consumed = tape.new.consumed } }
+    ensures consumed { IfOk result (λ r. tape.new.consumed ≡ consumed_by r found.count tape.old.consumed) }
+{
+    match put_text(alloc, store, tape.text(&found))? {
+        Reading::Taken => {
+            tape.consume(found.count);
+            store.registers.now.consumed = found.count;
+            Ok(Reading::Taken)
+        }
+        other => Ok(other),
+    }
+}
+
+/// Reads a record: its text becomes the newest operand and is counted, all or nothing; the present record stays. It fails where memory is refused; bytes may
+/// be read ahead then.
+pub fn read_text<R: Source + Drop>(
+    alloc: Global,
+    store: &mut Store,
+    tape: &mut Tape<R>,
+) -> Result<Reading, AllocError>
+    requires { tape.old.consumed ≡ store.old.registers.now.consumed }
+    ensures may { (kept : Input) → MayBe R.may_give tape.new kept → MayBe R.may_give tape.old kept }
+    ensures did { IfOk result (λ r. (points : List Point) (gone handed : Bytes) (kept : Input) → MayBe R.may_give tape.new kept → ReadsText r points gone handed kept (moving store.old) (moving store.new)) }
+    ensures registers { IfOk result (λ r. KeepsRegisters (moving store.old) (moving store.new)) }
+    ensures places { IfOk result (λ r. KeepsPlaces (moving store.old) (moving store.new)) }
+    ensures start { Grown (start_of store.old) (start_of store.new) }
+    ensures consumed { OnOk result (tape.new.consumed ≡ store.new.registers.now.consumed) }
+    ensures asks { (tape.new.bytes ≡ tape.old.bytes) ⊎ IsDue (text_of (global_in RS store.old.globals.now)) store.old.registers.now.consumed tape.new.bytes }
+    ensures draws { Draws R.over R.handed tape.old tape.new }
+    ensures quiet { IfOk result IsQuietReading }
+    ensures failed { IfOk result (λ r. r ≡ Reading.Faulted Fault.ReadFailed → R.over tape.new.source ≡ Some Ending.Failed) }
+{
+    let mut digits = Buffer::new();
+    let separator = separator_in(&store.globals, RS, &mut digits);
+    match tape.next(separator) {
+        Err(fault) => refused(fault),
+        Ok(None) => Ok(Reading::Missing),
+        Ok(Some(found)) => put_found(alloc, store, tape, found),
     }
 }

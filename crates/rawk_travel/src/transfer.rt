@@ -17,6 +17,8 @@ pub enum Transfer {
     Point(Option<usize>),
     /// to a record that is still to be read; past so many instructions where there is none
     Read(usize),
+    /// to a record whose text is still to be read; past so many instructions where there is none
+    ReadText(usize),
     /// to the END actions, or in them to the end
     Quit,
     /// to the reading of the next record, where a main rule runs

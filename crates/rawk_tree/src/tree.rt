@@ -74,6 +74,8 @@ pub enum Expr {
     Sprintf(Box<Expr>, Vec<Expr>),
     /// `getline`: the next record becomes `$0`; 1, or 0 where there is none
     Getline,
+    /// `getline` of a place: the next record's text becomes its value; 1, or 0 where there is none
+    GetlineTo(Place),
     /// `in`: whether an array has the element of these subscripts
     Has(Array, Vec<Expr>),
     /// `length` of an array: how many elements it has

@@ -1,10 +1,11 @@
-use Rattle.rawk_debug.proofs.Shown.{both_added}
+use Rattle.std.proofs.Common.{◌≡◌, ◌++◌, OnOk, subst, sym}
+use Rattle.rawk_debug.specs.declared.answer.Answer.{Answer}
+use Rattle.rawk_debug.specs.Answers.{behind_shown}
+use Rattle.rawk_debug.specs.Sessions.{stand}
 use Rattle.rawk_debug.proofs.answer.push_behind.Goals as goal
 
-pub returns-in_ok-push_text-in-Returned-false : goal.returns-in_ok-push_text-in-Returned-false
-returns-in_ok-push_text-in-Returned-false g c =
-    rw (c.in-Returned-false.is, c.in-Returned-false.field-0-test)
-    (both_added c.push_place_line-in-Returned-false.result c.args.out.now.items c.push_text-in-Returned-false.new.out.items c.push_place_line-in-Returned-false.new.out.items _ _ c.in_ok-push_text-in-Returned-false.ensures c.push_place_line-in-Returned-false.ensures)
-
 pub returns-in-TakenBack : goal.returns-in-TakenBack
-returns-in-TakenBack g c = rw c.in-TakenBack.is c.push_text-in-TakenBack.ensures
+returns-in-TakenBack g c =
+    let machine = c.args.session.now.machine in
+    subst (λ (a : Answer). OnOk c.push_text-in-TakenBack.result (c.push_text-in-TakenBack.new.out.items ≡ c.args.out.now.items ++ behind_shown (stand g.M.Stepper.position c.args.session.now) (g.M.Stepper.held machine) (g.M.Stepper.before machine) a))
+    (sym c.in-TakenBack.is) c.push_text-in-TakenBack.ensures

@@ -12,9 +12,9 @@ use Rattle.rawk_tree.specs.declared.tree.Unary.TheVariants as unary
 use Rattle.rawk_syntax.specs.Covered.{unless, all_fit, cover_of, fits, each, names_array, covers, changes, covers_place, covers_link}
 use Rattle.rawk_syntax.specs.Meant.{is_there, sense_of}
 use Rattle.rawk_syntax.specs.Settled as spec
-use Rattle.rawk_syntax.proofs.Coverings.{in_covers, in_judged, list_in_covers, exits, passes, holds, sure, fails, both, first_false, second_false, was_settled, was_refused, judges_on, each_more, each_stops, number_covers, text_covers, ere_covers, getline_covers, of_covers, group_covers, signed_covers, power_covers, chain_covers, logic_covers, choice_covers, before_covers, after_covers, assign_covers, call_covers, no_call, arguments_more, arguments_stop, split_covers, separated_covers, split_uncovered, parted, match_covers, match_uncovered, applied_covers, applied_judged, counted_covers, uncounted_covers, none_there, other_covers, field_covers, element_covers, link_covers, pair_of, three_of, record_covers, changed_covers, replace_uncovered, of_changes, no_change}
+use Rattle.rawk_syntax.proofs.Coverings.{in_covers, in_judged, list_in_covers, exits, passes, holds, sure, fails, both, first_false, second_false, was_settled, was_refused, judges_on, each_more, each_stops, number_covers, text_covers, ere_covers, getline_covers, getline_to_covers, of_covers, group_covers, signed_covers, power_covers, chain_covers, logic_covers, choice_covers, before_covers, after_covers, assign_covers, call_covers, no_call, arguments_more, arguments_stop, split_covers, separated_covers, split_uncovered, parted, match_covers, match_uncovered, applied_covers, applied_judged, counted_covers, uncounted_covers, none_there, field_covers, element_covers, link_covers, pair_of, three_of, record_covers, changed_covers, replace_uncovered, of_changes, no_change}
 use Rattle.rawk_syntax.proofs.Gaps.{made_judged}
-use Rattle.rawk_syntax.proofs.Settlements.{element_settles, in_settles, list_in_settles, number_settles, number_judged, text_settles, ere_settles, sought_settles, made_settles, right_settles, read_settles, group_settles, boxed_settles, signed_settles, power_settles, before_settles, after_settles, test_settles, field_settles, link_settles, call_settles, value_passes, array_passes, argument_settles, field_separates, matches_separate, value_separates, split_settles, builtin_settles, counted_settles, found_settles, replaced_settles, record_settles, same_count, expr_settles}
+use Rattle.rawk_syntax.proofs.Settlements.{element_settles, in_settles, list_in_settles, number_settles, number_judged, text_settles, ere_settles, sought_settles, made_settles, right_settles, read_settles, group_settles, boxed_settles, signed_settles, power_settles, before_settles, after_settles, getline_to_settles, test_settles, field_settles, link_settles, call_settles, value_passes, array_passes, argument_settles, field_separates, matches_separate, value_separates, split_settles, builtin_settles, counted_settles, found_settles, replaced_settles, record_settles, same_count, expr_settles}
 use Rattle.rawk_syntax.proofs.expressions.+settle.Goals as goal
 use Rattle.rawk_syntax.proofs.expressions.+settle.Goals.{settle_match-in_default-via-then-arguments-lt2, settle_match-in_default-via-else-arguments-lt2+else-arguments-lt3, settle_split-in_default-via-then-arguments-lt2, settle_split-in_default-via-else-arguments-lt2+else-arguments-lt3+else-arguments-lt4, settle_replace-in_default-via-then-arguments-lt2, settle_replace-in_default-via-else-arguments-lt2+else-arguments-lt3+else-arguments-lt4}
 
@@ -102,12 +102,13 @@ pub settle_expr-returns-in-After-clause-judged : goal.settle_expr-returns-in-Aft
 settle_expr-returns-in-After-clause-judged t c =
     rw (after_covers (sense_of c.args.scope.now) c.args.e.now c.in-After.change c.in-After.place c.in-After.is) (made_judged (tree.After (spec.operator_of c.in-After.change)) (unless (covers_place (sense_of c.args.scope.now) c.in-After.place) c.args.left) c.settle_place-in-After.result c.after_of.result c.after_of.ensures c.settle_place-in-After.ensures.judged)
 
-pub settle_expr-returns-in_default : goal.settle_expr-returns-in_default
-settle_expr-returns-in_default t c =
-    record {
-      settled = tt;
-      judged = λ ne. fails (covers (sense_of c.args.scope.now) c.args.e.now) c.args.left (other_covers (sense_of c.args.scope.now) c.args.e.now c.in_default.not-Number c.in_default.not-Text c.in_default.not-Ere c.in_default.not-Getline c.in_default.not-Of c.in_default.not-Group c.in_default.not-Signed c.in_default.not-Power c.in_default.not-Chain c.in_default.not-Logic c.in_default.not-Choice c.in_default.not-Before c.in_default.not-After c.in_default.not-In c.in_default.not-ListIn c.in_default.not-Assign c.in_default.not-Call c.in_default.not-Builtin) ∙ ap Some (sym c.left_out.ensures);
-    }
+pub settle_expr-returns-in-GetlineTo-clause-settled : goal.settle_expr-returns-in-GetlineTo-clause-settled
+settle_expr-returns-in-GetlineTo-clause-settled t c =
+    getline_to_settles (sense_of c.args.scope.now) c.args.e.now c.in-GetlineTo.place c.settle_place-in-GetlineTo.result c.getline_to.result c.in-GetlineTo.is c.getline_to.ensures c.settle_place-in-GetlineTo.ensures.settled
+
+pub settle_expr-returns-in-GetlineTo-clause-judged : goal.settle_expr-returns-in-GetlineTo-clause-judged
+settle_expr-returns-in-GetlineTo-clause-judged t c =
+    rw (getline_to_covers (sense_of c.args.scope.now) c.args.e.now c.in-GetlineTo.place c.in-GetlineTo.is) (made_judged tree.GetlineTo (unless (covers_place (sense_of c.args.scope.now) c.in-GetlineTo.place) c.args.left) c.settle_place-in-GetlineTo.result c.getline_to.result c.getline_to.ensures c.settle_place-in-GetlineTo.ensures.judged)
 
 pub settle_boxed-returns-clause-settled : goal.settle_boxed-returns-clause-settled
 settle_boxed-returns-clause-settled t c =

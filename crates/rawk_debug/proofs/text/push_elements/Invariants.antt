@@ -1,0 +1,11 @@
+use Rattle.std.proofs.Common.{◌≡◌, ◌++◌, drop}
+use Rattle.std.specs.Prelude.{flat_map}
+use Rattle.rawk_arrays.specs.Walks.{texts}
+use Rattle.rawk_debug.specs.Answers.{shown_line}
+use Rattle.rawk_debug.specs.declared.stop.Lvalue.TheVariants.{Element}
+use Rattle.rawk_debug.proofs.text.push_elements.Given as goal
+
+abbrev pub invariant-loop-key : goal.invariant-loop-key
+invariant-loop-key g l =
+    let lines = flat_map (λ key. shown_line (g.M.Stepper.position l.machine).program (Element l.array key) (g.M.Stepper.held l.machine)) in
+    l.out.items ++ lines (texts (drop l.key-index l.keys)) ≡ l.fn.out.items ++ lines (texts l.keys)
