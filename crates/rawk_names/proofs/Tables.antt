@@ -57,7 +57,7 @@ stands key (k ∷ keys) j h = at (stands key keys) (key_eq key k) refl
         behind rest (place_of key keys) refl further
 
 -- its place stays when a key comes behind
-kept : (key more : ArrayKey) (keys : List ArrayKey) (j : ℕ) → place_of key keys ≡ Some j → place_of key (keys ++ more ∷ []) ≡ Some j
+pub kept : (key more : ArrayKey) (keys : List ArrayKey) (j : ℕ) → place_of key keys ≡ Some j → place_of key (keys ++ more ∷ []) ≡ Some j
 kept key more [] j h = absurd cc
 kept key more (k ∷ keys) j h = at (kept key more keys) (key_eq key k) refl
   where
@@ -70,7 +70,7 @@ kept key more (k ∷ keys) j h = at (kept key more keys) (key_eq key k) refl
     at rest false e = let further : later (place_of key keys) ≡ Some j = rw e at h in rw e (behind rest (place_of key keys) refl further)
 
 -- a new key comes last
-added : (key : ArrayKey) (keys : List ArrayKey) → place_of key keys ≡ None → place_of key (keys ++ key ∷ []) ≡ Some (length keys)
+pub added : (key : ArrayKey) (keys : List ArrayKey) → place_of key keys ≡ None → place_of key (keys ++ key ∷ []) ≡ Some (length keys)
 added key [] h = rw (key_eq-refl key) refl
 added key (k ∷ keys) h = at (added key keys) (key_eq key k) refl
   where

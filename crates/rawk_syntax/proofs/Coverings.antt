@@ -367,7 +367,7 @@ place_cover_roll : (m : Sense) (d : Place-F Expr Place Link) → place_cover m (
 unfolding cover_of place_cover covers_link
 place_cover_roll m d = fold-roll-Place Cover Cover Bool (expr_step m) (place_step m) link_step d
 
-name_cover : (m : Sense) (n : word.Name) → place_cover m (spot.Name n) ≡ place_step m (expr.Name n)
+pub name_cover : (m : Sense) (n : word.Name) → place_cover m (spot.Name n) ≡ place_step m (expr.Name n)
 name_cover m n = ap (place_cover m) (sym (rolls-Name n)) ∙ place_cover_roll m (expr.Name n)
 
 field_cover : (m : Sense) (x : Expr) → place_cover m (spot.Field x) ≡ place_step m (expr.Field (cover_of m x))
@@ -387,7 +387,7 @@ always_place m p =
     ap (λ q. (place_cover m q).place) (sym (roll-out-Place p)) ∙ ap (λ (c : Cover). c.place) (place_cover_roll m (out-Place p))
     ∙ all_placed m (map-Place Expr Place Link Cover Cover Bool (cover_of m) (place_cover m) (covers_link m) (out-Place p))
 
-of_cover : (m : Sense) (e : Expr) (p : Place) → e ≡ tree.Of p → cover_of m e ≡ place_cover m p
+pub of_cover : (m : Sense) (e : Expr) (p : Place) → e ≡ tree.Of p → cover_of m e ≡ place_cover m p
 of_cover m e p is = ap (cover_of m) (is ∙ sym (rolls-Of p)) ∙ cover_roll m (expr.Of p)
 
 is_place : (m : Sense) (e : Expr) (p : Place) → e ≡ tree.Of p → (cover_of m e).place ≡ true

@@ -3,4 +3,11 @@ pub mod Coverings
 pub mod Settlements
 pub mod Gaps
 pub mod Layings
+pub mod Meets
+pub mod FineExprs
+pub mod FineStatements
+pub mod Noting
+pub mod InOrder
+pub mod Defining
+pub mod NoneLeft
 pub mod Readings

@@ -1,5 +1,5 @@
 -- Whole texts.
-use Rattle.std.specs.Prelude.{◌≡◌, ◌≢◌, ◌⊎◌, ℕ, ◌+◌, ◌-◌, ◌<◌, ◌≤◌, List, length, None, Some, Result, Ok, Err}
+use Rattle.std.specs.Prelude.{◌≡◌, ◌≢◌, ◌⊎◌, ℕ, ◌+◌, ◌-◌, ◌<◌, ◌≤◌, List, length, Result, Ok, Err}
 use Rattle.rawk_limits.specs.declared.TheConstants.{OPEN_CONSTRUCTS, PROGRAM_BYTES}
 use Rattle.rawk_lexer.specs.Lines.{line_of}
 use Rattle.rawk_parsing.specs.declared.refusal.Refusal.{Refusal}
@@ -16,8 +16,6 @@ use Rattle.rawk_names.specs.declared.names.NameError.TheVariants as misused
 use Rattle.rawk_names.specs.Items as naming
 use Rattle.rawk_names.specs.Named.{Known, IsNamed, IsRefused}
 use Rattle.rawk_tree.specs.declared.tree.Program.{Program}
-use Rattle.rawk_syntax.specs.Meant.{sense}
-use Rattle.rawk_syntax.specs.Covered.{program_gap}
 use Rattle.rawk_syntax.specs.Laid.{IsLaid}
 
 -- ---- programs
@@ -43,12 +41,11 @@ pub record IsProgram (text : List ℕ) (p : Program) : Type 0 where
   pub short : length text ≤ PROGRAM_BYTES
   pub reading : IsReading text p
 
--- The text has these items by plain rules alone, within the limits; their names are in order, and the settled tree has all that is in them.
+-- The text has these items by plain rules alone, within the limits, and their names are in order.
 pub record IsPlain (text : List ℕ) (items : List Item) : Type 0 where
   pub derived : plain.IsPlainText (OPEN_CONSTRUCTS + 1) items text
   pub names : Known
   pub named : IsNamed (naming.program items) names
-  pub covered : program_gap (sense names) items ≡ None
 
 -- the answer is a program of these items, or memory was refused
 abbrev pub IsSettledAs : List ℕ → List Item → Result Program ParseError → Type 0
@@ -74,19 +71,9 @@ pub record IsMisnamed (items : List Item) (e : ParseError) : Type 0 where
   pub misnamed : IsRefused (naming.program items) why
   pub is : e ≡ told_of why
 
--- their names are in order, and this is the first part of them that is left out
-pub record IsLeftOut (items : List Item) (e : ParseError) : Type 0 where
-  pub names : Known
-  pub named : IsNamed (naming.program items) names
-  pub gap : program_gap (sense names) items ≡ Some e
-
--- items are refused by their names, or else for what the settled tree does not have
-abbrev pub AreFlawed : List Item → ParseError → Type 0
-AreFlawed items e = IsMisnamed items e ⊎ IsLeftOut items e
-
--- what the parser as a function gives is refused so
+-- what the parser as a function gives is refused so: by itself, or by the names of its items
 abbrev pub IsFlawOf : Outcome (List Item) → ParseError → Type 0
-IsFlawOf (Ok r) e = AreFlawed r.0 e
+IsFlawOf (Ok r) e = IsMisnamed r.0 e
 IsFlawOf (Err f) e = f ≡ e
 
 abbrev pub IsFlawIn : List ℕ → ParseError → Type 0
@@ -96,7 +83,7 @@ IsFlawIn text e = IsFlawOf (program (OPEN_CONSTRUCTS + 1) text) e
 abbrev pub IsTooLong : List ℕ → ParseError → Type 0
 IsTooLong text e = (PROGRAM_BYTES < length text) × (e ≡ refused.Here kinds.TooDeep (length text - PROGRAM_BYTES))
 
--- why and where a text is refused: for its size, else by the grammar, else by its names, else at the first part that is left out
+-- why and where a text is refused: for its size, else by the grammar, else by its names
 abbrev pub IsFlaw : List ℕ → ParseError → Type 0
 IsFlaw text e = IsTooLong text e ⊎ ((length text ≤ PROGRAM_BYTES) × IsFlawIn text e)
 

@@ -34,7 +34,7 @@ use rawk_value::Arithmetic;
 use rawk_words::{Extent, Logic};
 use std::alloc::Global;
 
-/// The refusal of what the settled tree does not have yet, at a place.
+/// The refusal of what no tree is settled of, at a place.
 pub fn left_out(left: usize) -> ParseError
     ensures { result ≡ Here refused.LeftOut left }
 {

@@ -314,8 +314,8 @@ fn global_words(alloc: Global, names: &Names) -> Result<Vec<Bytes>, AllocError>
     Ok(words)
 }
 
-/// The program of the items of a text, by their names. What the settled tree does not have yet is refused as left out, at the place of
-/// its statement, condition or pattern.
+/// The program of items, by their names. What no tree is settled of is refused as left out, at the place of its statement, condition or
+/// pattern; no text has it where its names are in order.
 pub fn settle(
     alloc: Global,
     text: &[u8],

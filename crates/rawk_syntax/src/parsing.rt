@@ -6,7 +6,7 @@ ghost use Rattle.rawk_grammar.specs.declared.tree.Item as part;
 ghost use Rattle.rawk_names.specs.Items as naming;
 ghost use Rattle.rawk_names.specs.Named.{IsNamed, known};
 ghost use Rattle.rawk_syntax.specs.Texts as spec;
-ghost use Rattle.rawk_syntax.specs.Texts.{AreFlawed, Answers, IsFlawIn, IsPlain, IsProgram, IsRead, IsReading, IsSettled, IsSettledAs, Tells};
+ghost use Rattle.rawk_syntax.specs.Texts.{Answers, IsFlawIn, IsMisnamed, IsPlain, IsProgram, IsRead, IsReading, IsSettled, IsSettledAs, IsText, Tells};
 
 use crate::items::settle;
 use rawk_grammar::program;
@@ -23,15 +23,15 @@ use std::alloc::Global;
 /// It refuses, in this order: a text of more than 1,048,576 bytes (`TooDeep`); a text that the grammar does not give, by the token at
 /// which it stops (`Syntax`, `BadToken`, `Unterminated`, `LeftOut`, `Misplaced`), with a constant that is not whole or does not fit
 /// 64 bits (`BadNumber`), or with more than 200 constructs open at once (`TooDeep`); a regular expression that is none or too large
-/// (`BadEre`), and then a misused name (`NameMisused`), wherever they stand in the program; and what has no settled tree so far
-/// (`LeftOut`), at the line of its statement, condition or pattern. `OutOfMemory` is the refusal of a growth, and its line is 0.
+/// (`BadEre`), and then a misused name (`NameMisused`), wherever they stand in the program. `OutOfMemory` is the refusal of a growth, and
+/// its line is 0.
 /// A token is looked at no more often than constructs may be open, and each name is found by a hash.
 pub fn parse(alloc: Global, text: &[u8]) -> Result<Program, Refusal>
     // A refusal has the kind and the line that the text gives, or memory was refused; where there is a program the text gives none.
     ensures exact { Answers text.now result }
     // The program is settled from items that the grammar gives the text, within the limits, and whose names are in order.
     ensures found { IfOk result (λ p. IsProgram text.now p) }
-    // A text that plain rules give items with names in order and nothing left out, within the limits, is read as those, unless memory is refused.
+    // A text that plain rules give items with names in order, within the limits, is read as those, unless memory is refused.
     ensures plain { (items : List part.Item) → length text.now ≤ limits.PROGRAM_BYTES → IsPlain text.now items → IsRead text.now items result }
 {
     if text.len() > PROGRAM_BYTES {
@@ -73,15 +73,16 @@ fn told_of(refused: NameError) -> ParseError
     }
 }
 
-/// The program of items whose names are in order.
+/// The program of items that the grammar gives a text, and whose names are in order: nothing of them is left out.
 fn settle_named(
     alloc: Global,
     text: &[u8],
     names: Names,
     items: &[Item],
 ) -> Result<Program, ParseError>
-    requires { IsNamed (naming.program items.now) (known names) }
-    ensures exact { Tells (AreFlawed items.now) result }
+    requires derived { IsText text.now items.now }
+    requires named { IsNamed (naming.program items.now) (known names) }
+    ensures exact { Tells (IsMisnamed items.now) result }
     ensures found { IfOk result (λ p. IsSettled text.now items.now p) }
 {
     let settled = settle(alloc, text, &names, items);
@@ -89,9 +90,10 @@ fn settle_named(
     settled
 }
 
-/// The program of items.
+/// The program of items that the grammar gives a text.
 fn settle_items(alloc: Global, text: &[u8], items: &[Item]) -> Result<Program, ParseError>
-    ensures exact { Tells (AreFlawed items.now) result }
+    requires { IsText text.now items.now }
+    ensures exact { Tells (IsMisnamed items.now) result }
     ensures found { IfOk result (λ p. IsSettled text.now items.now p) }
 {
     match resolve(alloc, items) {

@@ -1,6 +1,9 @@
 use Rattle.std.proofs.lemmas.Result.{err_from_is_err_and}
-use Rattle.rawk_syntax.proofs.Readings.{read_exact, read_found, read_plain, refused_exact, refused_plain}
+use Rattle.rawk_syntax.proofs.Readings.{read_derived, read_exact, read_found, read_plain, refused_exact, refused_plain}
 use Rattle.rawk_syntax.proofs.parsing.read.Goals as goal
+
+pub settle_items-settled-requires : goal.settle_items-settled-requires
+settle_items-settled-requires c = read_derived c.args.text.now c.new-tokens.result c.in_ok-items.items c.as_slice.result.now c.new-tokens.ensures c.in_ok-items.ensures.found c.as_slice.ensures
 
 pub returns-clause-exact : goal.returns-clause-exact
 returns-clause-exact c = read_exact c.args.text.now c.new-tokens.result c.in_ok-items.items c.as_slice.result.now c.program.new.tokens c.settle_items-settled.result c.new-tokens.ensures c.in_ok-items.ensures.exact c.as_slice.ensures c.settle_items-settled.ensures.exact
