@@ -10,7 +10,7 @@ use Rattle.std.proofs.lemmas.List.Sums.{sum_by_push, sum_by-cons}
 use Rattle.std.proofs.lemmas.Bool.Decides.{Decides-ltb}
 use Rattle.std.proofs.lemmas.List.{get_or_past, get_or-map, length-append, length-map, append-nil}
 use Rattle.std.proofs.lemmas.Option.{same_Some}
-use Rattle.std.specs.FinMap.{get, get-empty, contains_key, find, from_entries, from_sorted, get-from_entries, get-from_sorted, entries-from_sorted, is_sorted, same_map, len, len-empty, len-insert}
+use Rattle.std.specs.FinMap.{get, get-empty, contains_key, find, from_entries, from_sorted, get-from_entries, get-from_sorted, entries-from_sorted, is_sorted, same_map}
 use Rattle.std.specs.FinMap.Entries.{below_all}
 use Rattle.std.specs.declared.cmp.Ordering.{Ordering}
 use Rattle.std.specs.declared.cmp.Ordering.TheVariants.{Less, Equal, Greater}
@@ -26,7 +26,7 @@ use Rattle.rawk_keys.specs.ArrayKey.{ArrayKey, array_key, IsLastOf}
 use Rattle.rawk_keys.specs.Found.{left}
 use Rattle.rawk_arrays.specs.Place.{same_key, place}
 use Rattle.rawk_arrays.specs.Laid.{AreDistinct, elements_of, slot}
-use Rattle.rawk_arrays.specs.Walks.{IsWalking, IsFinding, IsCounting, IsEach, is_seen, one, times, texts}
+use Rattle.rawk_arrays.specs.Walks.{IsWalking, IsFinding, IsEach, is_seen, one, times, texts}
 use Rattle.rawk_arrays.specs.PlaceLaws.{place_there, place_is, get_at, key_is, key_itself}
 use Rattle.rawk_arrays.proofs.Emptying.{walk_name, walk_in, last_left}
 
@@ -153,33 +153,6 @@ found_all a index slots at keys e le f = λ q.
     let t : IsFinding a index slots None keys = rw e at f in
     t.each q ∙ ap one (seen_past 0 (place a q index) (slot slots (place a q index)) (omega arith) ∙ ap is_some (sym (get_at a q index slots le)))
 
--- ---- how many keys there are
-
-pub counting_begins : (a : ℕ) (index : List ArrayKey) (slots : List (Option Value)) (at : Option ℕ) → length slots ≤ length index → IsLastOf a index (length index) at → IsCounting a index slots at 0
-counting_begins a index slots at le last = record { keys = []; many = refl; finding = finding_begins a index slots at le last }
-
-pub counting_next : (a i : ℕ) (index : List ArrayKey) (slots : List (Option Value)) (here at : Option ℕ) (count more : ℕ) → AreDistinct index → here ≡ Some i → IsWalking a index here → IsCounting a index slots here count →
-    more ≡ count + one (is_some (slot slots i)) → IsLastOf a index i at → IsCounting a index slots at more
-counting_next a i index slots here at count more d e w f is last =
-    let n = walk_name a index i here e w in
-    record {
-      keys = f.keys ++ filled_key (slot slots i) n.0.key;
-      many = is ∙ (ap (λ x. x + one (is_some (slot slots i))) f.many ∙ sym (one_longer (slot slots i) n.0.key f.keys));
-      finding = finding_next a i index slots here at f.keys (f.keys ++ filled_key (slot slots i) n.0.key) d e w f.finding (λ name named_at. ap (λ (x : ArrayKey). f.keys ++ filled_key (slot slots i) x.key) (same_Some n.0 name (sym n.1 ∙ named_at))) last;
-    }
-  where
-    one_longer : (s : Option Value) (key : Bytes) (keys : List Bytes) → length (keys ++ filled_key s key) ≡ length keys + one (is_some s)
-    one_longer s key keys = go (is_some s)
-      where
-        go : (b : Bool) → length (keys ++ cond b (key ∷ []) []) ≡ length keys + one b
-        go true = length-append keys (key ∷ [])
-        go false = length-append {A = Bytes} keys []
-
-pub counting_fits : (a i : ℕ) (index : List ArrayKey) (slots : List (Option Value)) (here : Option ℕ) (count : ℕ) → here ≡ Some i → IsCounting a index slots here count → count + 1 ≤ length index
-counting_fits a i index slots here count e f =
-    let t : IsCounting a index slots (Some i) count = rw e at f in
-    omega (arith, t.many, t.finding.room)
-
 -- ---- lists of an array's keys
 
 abbrev pub value_at : Elements → Bytes → Value
@@ -240,28 +213,12 @@ true_less Less p = refl
 true_less Equal p = absurd p
 true_less Greater p = absurd p
 
-len_go : (m : Elements) (k : Bytes) (ks : List Bytes) → times k (k ∷ ks) ≤ 1 → is_some (get (from_entries {R = slice_cmp nat_cmp} (pairs m ks)) k) ≡ false
-len_go m k ks le =
-    let none : nat_lt 0 (times k ks) ≡ false = not_before 0 (times k ks) (omega (arith, le, times_cons k k ks, ap one (key_itself k))) in
-    ap is_some (get-from_entries nat_list_cmp_total (pairs m ks) k ∙ (find_pairs m k ks ∙ ap (λ b. cond b (Some (value_at m k)) None) none))
-
-len_pairs : (m : Elements) (ks : List Bytes) → ((q : Bytes) → times q ks ≤ 1) → len (from_entries {R = slice_cmp nat_cmp} (pairs m ks)) ≡ length ks
-len_pairs m [] h = len-empty (slice_cmp nat_cmp) Value
-len_pairs m (k ∷ ks) h =
-    let rest : len (from_entries {R = slice_cmp nat_cmp} (pairs m ks)) ≡ length ks = len_pairs m ks (λ q. omega (arith, h q, times_cons q k ks)) in
-    len-insert nat_list_cmp_total (from_entries (pairs m ks)) k (value_at m k)
-    ∙ (ap (λ b. cond b (len (from_entries {R = slice_cmp nat_cmp} (pairs m ks))) (len (from_entries {R = slice_cmp nat_cmp} (pairs m ks)) + 1)) (len_go m k ks (h k)) ∙ (ap (λ n. n + 1) rest ∙ add-one (length ks)))
-
 once : (ks : List Bytes) (m : Elements) → IsEach ks m → (q : Bytes) → times q ks ≤ 1
 once ks m each q = go (contains_key m q) (each q)
   where
     go : (b : Bool) → times q ks ≡ one b → times q ks ≤ 1
     go true e = omega (arith, e)
     go false e = omega (arith, e)
-
--- an array has as many elements as a list that has each of its keys once
-pub len_of_keys : (m : Elements) (ks : List Bytes) → IsEach ks m → len m ≡ length ks
-len_of_keys m ks each = ap len (sym (map_of_keys m ks each)) ∙ len_pairs m ks (once ks m each)
 
 -- ---- keys in byte order
 
@@ -297,9 +254,6 @@ keys_are m ks each up =
     let sorted : T (is_sorted (slice_cmp nat_cmp) (pairs m ks)) = sorted_pairs m ks (once ks m each) up in
     let same : from_sorted (pairs m ks) ≡ m = same_map nat_list_cmp_total exact_bytes (from_sorted (pairs m ks)) m (λ q. get-from_sorted (slice_cmp nat_cmp) (pairs m ks) q sorted ∙ (find_pairs m q ks ∙ found_value m q (times q ks) (each q))) in
     sym (keys_of_pairs m ks) ∙ (ap (λ (es : List (Bytes × Value)). map (λ e. e.0) es) (sym (entries-from_sorted (slice_cmp nat_cmp) (pairs m ks) sorted)) ∙ ap map_keys same)
-
-pub counted_all : (a : ℕ) (index : List ArrayKey) (slots : List (Option Value)) (at : Option ℕ) (count : ℕ) → at ≡ None → length slots ≤ length index → IsCounting a index slots at count → count ≡ len (elements_of a index slots)
-counted_all a index slots at count e le f = f.many ∙ sym (len_of_keys (elements_of a index slots) f.keys (found_all a index slots at f.keys e le f.finding))
 
 times_texts : (q : Bytes) (vs : List (Vec ℕ)) → times q (texts vs) ≡ sum_by (λ (v : Vec ℕ). one (same_key q v.items)) vs
 times_texts q [] = refl

@@ -1,3 +1,4 @@
+pub mod Counting
 pub mod Emptying
 pub mod Finding
 pub mod Packing

@@ -1,5 +1,6 @@
 pub mod Elements
 pub mod Laid
+pub mod Counted
 pub mod Place
 pub mod Walks
 pub mod ArraysBack

@@ -52,9 +52,3 @@ is_seen from p s = if nat_lt p from then false else is_some s
 pub record IsFinding (a : ℕ) (index : List ArrayKey) (slots : List (Option Value)) (at : Option ℕ) (keys : List Bytes) : Type 0 where
   pub each : (q : Bytes) → times q keys ≡ one (is_seen (left at) (place a q index) (slot slots (place a q index)))
   pub room : length keys + left at ≤ length index
-
--- so many keys were found so far
-pub record IsCounting (a : ℕ) (index : List ArrayKey) (slots : List (Option Value)) (at : Option ℕ) (count : ℕ) : Type 0 where
-  pub keys : List Bytes
-  pub many : count ≡ length keys
-  pub finding : IsFinding a index slots at keys

@@ -12,7 +12,8 @@ ghost use Rattle.rawk_arrays.specs.Elements.{array_at, changed_arrays, cleared, 
 ghost use Rattle.rawk_arrays.specs.Laid.{GrownArrays, IsLaid, IsPlaceOf, arrays_of, no_arrays};
 ghost use Rattle.rawk_arrays.specs.ArraysBack.{FitsArrays, arrays_back};
 
-use crate::cells::{ElementSlots, count, element, empty, filled, keys, pack, put, slot_for};
+use crate::cells::{ElementSlots, element, empty, filled, keys, pack, put, set_slot, slot_for};
+use crate::counts::{count, recount_back};
 use rawk_keys::Keys;
 use rawk_slots::{Reversible, SlotGroup, Slots};
 use rawk_value::Value;
@@ -28,8 +29,11 @@ const FEW: usize = 512;
 /// the arrays of an array number that is not in use keep their slots until the number is used again.
 #[derive(Drop)]
 pub struct Arrays {
+    alloc: Global,
     index: Keys,
     cells: ElementSlots,
+    // How many elements each array has, by its number.
+    counts: Vec<usize>,
     live: usize,
     began: usize,
     // How many slots were emptied since the empty ones were last removed, at least.
@@ -38,7 +42,8 @@ pub struct Arrays {
 
 impl Model for Arrays {
     ghost use Rattle.rawk_slots.specs.Journaled.{Journaled};
-    ghost use Rattle.rawk_arrays.specs.Laid.{Laid, AreLaid};
+    ghost use Rattle.rawk_arrays.specs.Laid.{Laid};
+    ghost use Rattle.rawk_arrays.specs.Counted.{AreKept};
 
     ghost Value = { Journaled Laid };
 
@@ -47,7 +52,7 @@ impl Model for Arrays {
       start = record { index = a.index; slots = a.cells.start; live = a.began };
     } };
 
-    ghost invariant = { λ a. AreLaid a.index a.cells };
+    ghost invariant = { λ a. AreKept a.index a.cells a.counts.items };
 }
 
 /// What a step changed in arrays: the slots, and how many arrays there were.
@@ -88,8 +93,10 @@ impl Arrays {
         ensures { result ≡ at_rest no_arrays }
     {
         Arrays {
+            alloc,
             index: Keys::new(alloc, seed),
             cells: Slots::new(alloc),
+            counts: Vec::new(alloc),
             live: 0,
             began: 0,
             emptied: 0,
@@ -120,12 +127,12 @@ impl Arrays {
         self.element(array, key).is_some()
     }
 
-    /// How many elements an array has. It is linear in the slots that the array has.
+    /// How many elements an array has, at once.
     pub fn count(&self, array: usize) -> usize
         ensures { result ≡ len (array_at array (arrays_of self.now.now)) }
     {
         if array < self.live {
-            return count(&self.index, &self.cells, array);
+            return count(&self.counts, array);
         }
         0
     }
@@ -154,7 +161,15 @@ impl Arrays {
         ensures start { GrownArrays self.old.start self.new.start }
     {
         if array < self.live {
-            put(alloc, &mut self.index, &mut self.cells, array, key, value)?;
+            put(
+                alloc,
+                &mut self.index,
+                &mut self.cells,
+                &mut self.counts,
+                array,
+                key,
+                value,
+            )?;
         }
         Ok(())
     }
@@ -189,7 +204,14 @@ impl Arrays {
         if array >= self.live {
             return Ok(None);
         }
-        let place = slot_for(alloc, &mut self.index, &mut self.cells, array, key)?;
+        let place = slot_for(
+            alloc,
+            &mut self.index,
+            &mut self.cells,
+            &mut self.counts,
+            array,
+            key,
+        )?;
         Ok(Some(place))
     }
 
@@ -206,7 +228,13 @@ impl Arrays {
         ensures err { OnErr result (self.new.now ≡ self.old.now) }
         ensures start { self.new.start ≡ self.old.start }
     {
-        self.cells.set(place, Some(value))?;
+        set_slot(
+            &self.index,
+            &mut self.cells,
+            &mut self.counts,
+            place,
+            Some(value),
+        )?;
         Ok(())
     }
 
@@ -241,7 +269,7 @@ impl Arrays {
         ensures start { self.new.start ≡ self.old.start }
     {
         if array < self.live {
-            let walked = empty(&self.index, &mut self.cells, array)?;
+            let walked = empty(&self.index, &mut self.cells, &mut self.counts, array)?;
             self.emptied = self.emptied.saturating_add(walked);
         }
         Ok(())
@@ -255,7 +283,7 @@ impl Arrays {
         let Some(live) = self.live.checked_add(1) else {
             return Err(AllocError);
         };
-        let walked = empty(&self.index, &mut self.cells, self.live)?;
+        let walked = empty(&self.index, &mut self.cells, &mut self.counts, self.live)?;
         self.emptied = self.emptied.saturating_add(walked);
         self.live = live;
         Ok(())
@@ -330,7 +358,13 @@ impl Arrays {
     {
         if self.emptied > FEW && self.emptied / 2 > self.cells.len() / 4 + FEW {
             self.emptied = 0;
-            pack(alloc, &mut self.index, &mut self.cells, self.live);
+            pack(
+                alloc,
+                &mut self.index,
+                &mut self.cells,
+                &mut self.counts,
+                self.live,
+            );
         }
     }
 
@@ -339,7 +373,9 @@ impl Arrays {
         ensures now { self.new ≡ at_rest self.old.start }
         ensures laid { IsLaid self.old.start.index self.old.start.slots }
     {
-        self.cells.undo_step();
+        let mut changed = self.cells.finish(self.alloc);
+        recount_back(&self.index, &self.cells, &mut self.counts, &changed.entries);
+        self.cells.undo(&mut changed);
         self.live = self.began;
     }
 
@@ -350,6 +386,12 @@ impl Arrays {
         ensures newer { arrays_back self.new.now group.new ≡ self.old.now }
         ensures laid { IsLaid self.new.now.index self.new.now.slots }
     {
+        recount_back(
+            &self.index,
+            &self.cells,
+            &mut self.counts,
+            &group.slots.entries,
+        );
         self.cells.undo(&mut group.slots);
         let live = group.live;
         group.live = self.live;

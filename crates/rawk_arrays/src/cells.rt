@@ -2,13 +2,15 @@
 
 ghost use Rattle.std.specs.Prelude.{◌≡◌, ℕ, ◌<◌, ◌≤◌, ◌++◌, ◌∷◌, [], IfOk, OnErr, OnOk, None, Some, if◌then◌else◌, is_some, length, slice_get, slice_set};
 ghost use Rattle.std.specs.Option.{option_copied};
-ghost use Rattle.std.specs.FinMap.{get, len};
+ghost use Rattle.std.specs.FinMap.{get};
 ghost use Rattle.rawk_slots.specs.Journaled.{Longer, at_rest};
 ghost use Rattle.rawk_keys.specs.ArrayKey.{ArrayKey, array_key};
 ghost use Rattle.rawk_arrays.specs.Elements.{map_keys, put};
 ghost use Rattle.rawk_arrays.specs.Laid.{AreDistinct, AreLaid, IsCovered, IsEmptied, IsLaid, IsPacked, IsPut, IsSpread, elements_of, slot};
-ghost use Rattle.rawk_arrays.specs.Walks.{IsEach, IsSlotEmptied, one, texts};
+ghost use Rattle.rawk_arrays.specs.Counted.{AreCounted, IsAddedTo};
+ghost use Rattle.rawk_arrays.specs.Walks.{IsEach, IsSlotEmptied, texts};
 
+use crate::counts::{reach, recount};
 use rawk_keys::Keys;
 use rawk_slots::Slots;
 use rawk_value::Value;
@@ -47,6 +49,7 @@ pub(crate) fn element<'a>(
 fn number_of(alloc: Global, index: &mut Keys, array: usize, key: &[u8]) -> Result<usize, AllocError>
     ensures there { IfOk result (λ i. slice_get index.new i ≡ Some (array_key array key.now)) }
     ensures more { Longer index.old index.new }
+    ensures added { IsAddedTo array index.old index.new }
     ensures distinct { AreDistinct index.old → AreDistinct index.new }
 {
     if let Some(number) = index.find(array, key) {
@@ -73,21 +76,52 @@ pub(crate) fn slot_for(
     alloc: Global,
     index: &mut Keys,
     cells: &mut ElementSlots,
+    counts: &mut Vec<usize>,
     array: usize,
     key: &[u8],
 ) -> Result<usize, AllocError>
-    requires { AreLaid index.old cells.old }
+    requires laid { AreLaid index.old cells.old }
+    requires counted { AreCounted index.old cells.old.now counts.old.items }
     ensures laid { AreLaid index.new cells.new }
+    ensures counted { AreCounted index.new cells.new.now counts.new.items }
     ensures there { IfOk result (λ i. slice_get index.new i ≡ Some (array_key array key.now)) }
     ensures within { IfOk result (λ i. i < length cells.new.now) }
     ensures more { Longer index.old index.new }
     ensures now { IsSpread cells.old.now cells.new.now }
     ensures start { IsSpread cells.old.start cells.new.start }
 {
+    reach(counts, array)?;
     let number = number_of(alloc, index, array, key)?;
     let _count = index.len();
     cover(cells, number + 1)?;
     Ok(number)
+}
+
+/// Fills or empties a slot, and counts what it was and is; a number that is no slot changes nothing. It fails where memory is refused, and then nothing has changed.
+pub(crate) fn set_slot(
+    index: &Keys,
+    cells: &mut ElementSlots,
+    counts: &mut Vec<usize>,
+    number: usize,
+    value: Option<Value>,
+) -> Result<(), AllocError>
+    requires laid { AreLaid index.now cells.old }
+    requires counted { AreCounted index.now cells.old.now counts.old.items }
+    ensures laid { AreLaid index.now cells.new }
+    ensures counted { AreCounted index.now cells.new.now counts.new.items }
+    ensures did { OnOk result (cells.new.now ≡ slice_set cells.old.now number value) }
+    ensures err { OnErr result (cells.new.now ≡ cells.old.now) }
+    ensures start { cells.new.start ≡ cells.old.start }
+{
+    if number >= cells.len() {
+        return Ok(());
+    }
+    let _names = index.len();
+    let was = is_filled(cells, number);
+    let is = value.is_some();
+    cells.write(number, value)?;
+    recount(index, counts, number, was, is);
+    Ok(())
 }
 
 /// Fills or empties the slot of a key. It fails where memory is refused, and then no element has changed.
@@ -95,24 +129,36 @@ pub(crate) fn put(
     alloc: Global,
     index: &mut Keys,
     cells: &mut ElementSlots,
+    counts: &mut Vec<usize>,
     array: usize,
     key: &[u8],
     value: Option<Value>,
 ) -> Result<(), AllocError>
-    requires { AreLaid index.old cells.old }
+    requires laid { AreLaid index.old cells.old }
+    requires counted { AreCounted index.old cells.old.now counts.old.items }
     ensures laid { AreLaid index.new cells.new }
+    ensures counted { AreCounted index.new cells.new.now counts.new.items }
     ensures did { OnOk result (IsPut array key.now value index.old cells.old.now index.new cells.new.now) }
     ensures err { OnErr result (IsSpread cells.old.now cells.new.now) }
     ensures more { Longer index.old index.new }
     ensures start { IsSpread cells.old.start cells.new.start }
 {
-    let number = slot_for(alloc, index, cells, array, key)?;
-    cells.write(number, value)?;
+    let number = slot_for(alloc, index, cells, counts, array, key)?;
+    set_slot(index, cells, counts, number, value)?;
     Ok(())
 }
 
 // Empties a slot. It fails where memory is refused, and then nothing has changed.
-fn empty_slot(cells: &mut ElementSlots, number: usize) -> Result<(), AllocError>
+fn empty_slot(
+    index: &Keys,
+    cells: &mut ElementSlots,
+    counts: &mut Vec<usize>,
+    number: usize,
+) -> Result<(), AllocError>
+    requires laid { AreLaid index.now cells.old }
+    requires counted { AreCounted index.now cells.old.now counts.old.items }
+    ensures laid { AreLaid index.now cells.new }
+    ensures counted { AreCounted index.now cells.new.now counts.new.items }
     ensures did { OnOk result (IsSlotEmptied number cells.old.now cells.new.now) }
     ensures start { cells.new.start ≡ cells.old.start }
     ensures err { OnErr result (cells.new.now ≡ cells.old.now) }
@@ -120,7 +166,7 @@ fn empty_slot(cells: &mut ElementSlots, number: usize) -> Result<(), AllocError>
     if filled(cells, number).is_none() {
         return Ok(());
     }
-    cells.set(number, None)?;
+    set_slot(index, cells, counts, number, None)?;
     Ok(())
 }
 
@@ -129,10 +175,13 @@ fn empty_slot(cells: &mut ElementSlots, number: usize) -> Result<(), AllocError>
 pub(crate) fn empty(
     index: &Keys,
     cells: &mut ElementSlots,
+    counts: &mut Vec<usize>,
     array: usize,
 ) -> Result<usize, AllocError>
-    requires { AreLaid index.now cells.old }
+    requires laid { AreLaid index.now cells.old }
+    requires counted { AreCounted index.now cells.old.now counts.old.items }
     ensures laid { AreLaid index.now cells.new }
+    ensures counted { AreCounted index.now cells.new.now counts.new.items }
     ensures did { OnOk result (IsEmptied array index.now cells.old.now cells.new.now) }
     ensures start { cells.new.start ≡ cells.old.start }
 {
@@ -140,40 +189,18 @@ pub(crate) fn empty(
     let _count = index.len();
     let mut walked = 0usize;
     while let Some(number) = at {
-        empty_slot(cells, number)?;
+        empty_slot(index, cells, counts, number)?;
         walked = walked.saturating_add(1);
         at = index.earlier(number);
     }
     Ok(walked)
 }
 
-// Whether a slot is filled.
-fn is_filled(cells: &ElementSlots, number: usize) -> bool
+/// Whether a slot is filled.
+pub(crate) fn is_filled(cells: &ElementSlots, number: usize) -> bool
     ensures { result ≡ is_some (slot cells.now.now number) }
 {
     filled(cells, number).is_some()
-}
-
-// 1 for a slot that is filled.
-fn filled_count(cells: &ElementSlots, number: usize) -> usize
-    ensures { result ≡ one (is_some (slot cells.now.now number)) }
-{
-    if is_filled(cells, number) { 1 } else { 0 }
-}
-
-/// How many elements an array has. It is linear in the slots that the array has.
-pub(crate) fn count(index: &Keys, cells: &ElementSlots, array: usize) -> usize
-    requires { IsLaid index.now cells.now.now }
-    ensures { result ≡ len (elements_of array index.now cells.now.now) }
-{
-    let mut at = index.latest(array);
-    let _names = index.len();
-    let mut count = 0;
-    while let Some(number) = at {
-        count += filled_count(cells, number);
-        at = index.earlier(number);
-    }
-    count
 }
 
 // The keys of an array's elements, the newest first.
@@ -237,10 +264,13 @@ fn pack_one(
     number: usize,
     packed_names: &mut Keys,
     packed: &mut ElementSlots,
+    packed_counts: &mut Vec<usize>,
 ) -> Result<(), AllocError>
     requires there { number < length index.now }
     requires laid { AreLaid packed_names.old packed.old }
+    requires counted { AreCounted packed_names.old packed.old.now packed_counts.old.items }
     ensures laid { AreLaid packed_names.new packed.new }
+    ensures counted { AreCounted packed_names.new packed.new.now packed_counts.new.items }
     ensures did { OnOk result ((name : ArrayKey) → slice_get index.now number ≡ Some name → IsPacked live name (slot cells.now.now number) packed_names.old packed.old.now packed_names.new packed.new.now) }
 {
     let array = index.array(number);
@@ -254,6 +284,7 @@ fn pack_one(
                 alloc,
                 packed_names,
                 packed,
+                packed_counts,
                 array,
                 index.key(number),
                 Some(copy),
@@ -272,34 +303,64 @@ fn pack_into(
     live: usize,
     packed_names: &mut Keys,
     packed: &mut ElementSlots,
+    packed_counts: &mut Vec<usize>,
 ) -> Result<(), AllocError>
     requires from { IsLaid index.now cells.now.now }
     requires index { packed_names.old ≡ [] }
     requires cells { packed.old ≡ at_rest [] }
+    requires counts { packed_counts.old.items ≡ [] }
     ensures laid { AreLaid packed_names.new packed.new }
+    ensures counted { AreCounted packed_names.new packed.new.now packed_counts.new.items }
     ensures did { OnOk result ((b : ℕ) → b < live → elements_of b packed_names.new packed.new.now ≡ elements_of b index.now cells.now.now) }
 {
     let _names = index.len();
     for number in 0..cells.len() {
-        pack_one(alloc, index, cells, live, number, packed_names, packed)?;
+        pack_one(
+            alloc,
+            index,
+            cells,
+            live,
+            number,
+            packed_names,
+            packed,
+            packed_counts,
+        )?;
     }
     Ok(())
 }
 
 /// Removes the slots that are empty, and those of arrays from `live` on, where memory for it is there.
-pub(crate) fn pack(alloc: Global, index: &mut Keys, cells: &mut ElementSlots, live: usize)
+pub(crate) fn pack(
+    alloc: Global,
+    index: &mut Keys,
+    cells: &mut ElementSlots,
+    counts: &mut Vec<usize>,
+    live: usize,
+)
     requires laid { AreLaid index.old cells.old }
+    requires counted { AreCounted index.old cells.old.now counts.old.items }
     requires rest { cells.old.start ≡ cells.old.now }
     ensures laid { AreLaid index.new cells.new }
+    ensures counted { AreCounted index.new cells.new.now counts.new.items }
     ensures rest { cells.new.start ≡ cells.new.now }
     ensures same { (b : ℕ) → b < live → elements_of b index.new cells.new.now ≡ elements_of b index.old cells.old.now }
 {
     let mut packed_names = Keys::new_like(alloc, index);
     let mut packed = Slots::new(alloc);
-    let done = pack_into(alloc, index, cells, live, &mut packed_names, &mut packed);
+    let mut packed_counts = Vec::new(alloc);
+    let done = pack_into(
+        alloc,
+        index,
+        cells,
+        live,
+        &mut packed_names,
+        &mut packed,
+        &mut packed_counts,
+    );
     if done.is_ok() {
         packed.forget();
         *index = packed_names;
         *cells = packed;
+        *counts = packed_counts;
     }
 }

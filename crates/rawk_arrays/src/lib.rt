@@ -3,5 +3,6 @@
 
 pub mod arrays;
 mod cells;
+mod counts;
 
 pub use arrays::{Arrays, ArraysChange, ArraysGroup};

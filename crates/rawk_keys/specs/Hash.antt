@@ -7,6 +7,6 @@ use Rattle.rawk_keys.specs.ArrayKey.{Bytes}
 abbrev pub mixed : ℕ → ℕ → ℕ
 mixed hash byte = bit_xor (hash * 1099511628211 % 2 ^ 64) byte
 
--- of an array's key, from a basis on: first its array, then its bytes
+-- of an array's key, from a basis on: first its array, then its bytes; of that the low 32 bits
 abbrev pub hash_of : ℕ → ℕ → Bytes → ℕ
-hash_of basis array key = fold mixed (mixed basis array) key
+hash_of basis array key = fold mixed (mixed basis array) key % 2 ^ 32

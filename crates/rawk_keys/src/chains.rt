@@ -1,17 +1,17 @@
 //! For each item of a list, the nearest earlier one that has its label.
 
-ghost use Rattle.std.specs.Prelude.{◌≡◌, ◌<◌, ◌≤◌, ◌-◌, ℕ, ◌++◌, ◌∷◌, [], IfOk, OnErr, OnOk, bit_and, length, replicate, slice_index, take};
+ghost use Rattle.std.specs.Prelude.{◌≡◌, ◌<◌, ◌≤◌, ◌-◌, ◌^◌, ℕ, ◌++◌, ◌∷◌, [], IfOk, OnErr, OnOk, bit_and, length, replicate, slice_index, take};
 ghost use Rattle.rawk_keys.specs.Nearest.{IsNearest};
 ghost use Rattle.rawk_keys.specs.Linked.{IsLinked, IsPast, labels, earliers};
 
 use std::alloc::{AllocError, Global};
 use std::marker::Model;
 
-/// A label, and where the chain goes on: one above the number of an earlier link, or 0 at the chain's end.
+/// A label, and where the chain goes on: one above the number of an earlier link, or 0 at the chain's end. Both are below 2^32, so that a link takes 8 bytes.
 #[derive(Clone, Copy)]
 pub struct Link {
-    pub label: usize,
-    pub earlier: usize,
+    pub label: u32,
+    pub earlier: u32,
 }
 
 /// A list of labels, in which the newest item with a label is found without looking at them all.
@@ -20,7 +20,7 @@ pub struct Link {
 #[derive(Drop)]
 pub struct Chains {
     links: Vec<Link>,
-    heads: Vec<usize>,
+    heads: Vec<u32>,
 }
 
 impl Model for Chains {
@@ -58,7 +58,7 @@ impl Chains {
         requires { item < length self.now }
         ensures { result ≡ slice_index self.now item }
     {
-        self.links[item].label
+        self.links[item].label as usize
     }
 
     /// The newest item that has the label.
@@ -81,7 +81,7 @@ impl Chains {
         self.heads.len()
     }
 
-    /// Adds an item. It fails where memory is refused, and then nothing has changed.
+    /// Adds an item. It fails where memory is refused, and where 32 bits do not hold the label or how many items there are; then nothing has changed.
     pub fn push(&mut self, alloc: Global, label: usize) -> Result<(), AllocError>
         ensures did { OnOk result (self.new ≡ self.old ++ label ∷ []) }
         ensures err { OnErr result (self.new ≡ self.old) }
@@ -115,7 +115,7 @@ fn bucket(label: usize, count: usize) -> usize
 }
 
 /// The nearest item with the label, from a place of its chain on. `heads` is read by the clauses alone.
-fn nearest(links: &[Link], heads: &[usize], from: usize, label: usize) -> Option<usize>
+fn nearest(links: &[Link], heads: &[u32], from: usize, label: usize) -> Option<usize>
     requires linked { IsLinked (length heads.now) (labels links.now) (earliers links.now) heads.now (length links.now) }
     requires within { from ≤ length links.now }
     ensures { (n : ℕ) → IsPast (length heads.now) (labels links.now) n label from → IsNearest (labels links.now) n label result }
@@ -123,16 +123,16 @@ fn nearest(links: &[Link], heads: &[usize], from: usize, label: usize) -> Option
     let mut at = from;
     while at > 0 {
         let link = links[at - 1];
-        if link.label == label {
+        if link.label as usize == label {
             return Some(at - 1);
         }
-        at = link.earlier;
+        at = link.earlier as usize;
     }
     None
 }
 
 /// The newest item with the label.
-fn latest_link(links: &[Link], heads: &[usize], label: usize) -> Option<usize>
+fn latest_link(links: &[Link], heads: &[u32], label: usize) -> Option<usize>
     requires { IsLinked (length heads.now) (labels links.now) (earliers links.now) heads.now (length links.now) }
     ensures { IsNearest (labels links.now) (length links.now) label result }
 {
@@ -140,36 +140,52 @@ fn latest_link(links: &[Link], heads: &[usize], label: usize) -> Option<usize>
     if count == 0 {
         return None;
     }
-    nearest(links, heads, heads[bucket(label, count)], label)
+    nearest(links, heads, heads[bucket(label, count)] as usize, label)
 }
 
 /// The nearest earlier item with the label of this one.
-fn earlier_link(links: &[Link], heads: &[usize], item: usize) -> Option<usize>
+fn earlier_link(links: &[Link], heads: &[u32], item: usize) -> Option<usize>
     requires linked { IsLinked (length heads.now) (labels links.now) (earliers links.now) heads.now (length links.now) }
     requires within { item < length links.now }
     ensures { IsNearest (labels links.now) item (slice_index (labels links.now) item) result }
 {
     let link = links[item];
-    nearest(links, heads, link.earlier, link.label)
+    nearest(links, heads, link.earlier as usize, link.label as usize)
+}
+
+/// The same number, where 32 bits hold it.
+pub(crate) fn short(number: usize) -> Result<u32, AllocError>
+    ensures { IfOk result (λ n. n ≡ number) }
+{
+    if number <= u32::MAX as usize {
+        return Ok(number as u32);
+    }
+    Err(AllocError)
 }
 
 /// Adds a link at the head of its chain.
-fn push_link(links: &mut Vec<Link>, heads: &mut Vec<usize>, label: usize) -> Result<(), AllocError>
+fn push_link(links: &mut Vec<Link>, heads: &mut Vec<u32>, label: usize) -> Result<(), AllocError>
     requires room { 0 < length heads.old.items }
     requires linked { IsLinked (length heads.old.items) (labels links.old.items) (earliers links.old.items) heads.old.items (length links.old.items) }
     ensures did { OnOk result (labels links.new.items ≡ labels links.old.items ++ label ∷ []) }
     ensures err { OnErr result (labels links.new.items ≡ labels links.old.items) }
     ensures linked { IsLinked (length heads.new.items) (labels links.new.items) (earliers links.new.items) heads.new.items (length links.new.items) }
 {
+    let own = short(label)?;
+    let many = links.len();
+    let next = short(many + 1)?;
     let at = bucket(label, heads.len());
     let earlier = heads[at];
-    links.push(Link { label, earlier })?;
-    heads[at] = links.len();
+    links.push(Link {
+        label: own,
+        earlier,
+    })?;
+    heads[at] = next;
     Ok(())
 }
 
 /// Takes the newest link off its chain.
-fn drop_link(links: &mut Vec<Link>, heads: &mut Vec<usize>)
+fn drop_link(links: &mut Vec<Link>, heads: &mut Vec<u32>)
     requires linked { IsLinked (length heads.old.items) (labels links.old.items) (earliers links.old.items) heads.old.items (length links.old.items) }
     requires some { 0 < length links.old.items }
     ensures did { labels links.new.items ≡ take (length (labels links.old.items) - 1) (labels links.old.items) }
@@ -180,7 +196,7 @@ fn drop_link(links: &mut Vec<Link>, heads: &mut Vec<usize>)
     let link = links[last];
     links.truncate(last);
     if count > 0 {
-        heads[bucket(link.label, count)] = link.earlier;
+        heads[bucket(link.label as usize, count)] = link.earlier;
     }
 }
 
@@ -188,7 +204,7 @@ fn drop_link(links: &mut Vec<Link>, heads: &mut Vec<usize>)
 fn push_label(
     alloc: Global,
     links: &mut Vec<Link>,
-    heads: &mut Vec<usize>,
+    heads: &mut Vec<u32>,
     label: usize,
 ) -> Result<(), AllocError>
     requires { IsLinked (length heads.old.items) (labels links.old.items) (earliers links.old.items) heads.old.items (length links.old.items) }
@@ -207,7 +223,7 @@ fn push_label(
 fn spread_links(
     alloc: Global,
     links: &mut Vec<Link>,
-    heads: &mut Vec<usize>,
+    heads: &mut Vec<u32>,
     count: usize,
 ) -> Result<(), AllocError>
     requires { IsLinked (length heads.old.items) (labels links.old.items) (earliers links.old.items) heads.old.items (length links.old.items) }
@@ -215,13 +231,14 @@ fn spread_links(
     ensures some { OnOk result (0 < length heads.new.items) }
     ensures linked { IsLinked (length heads.new.items) (labels links.new.items) (earliers links.new.items) heads.new.items (length links.new.items) }
 {
+    let _many = short(links.len())?;
     *heads = blank_heads(alloc, count)?;
     relink(links.as_mut_slice(), heads.as_mut_slice());
     Ok(())
 }
 
 /// So many heads of empty chains, or more: a power of 2.
-fn blank_heads(alloc: Global, count: usize) -> Result<Vec<usize>, AllocError>
+fn blank_heads(alloc: Global, count: usize) -> Result<Vec<u32>, AllocError>
     ensures some { IfOk result (λ heads. 0 < length heads.items) }
     ensures blank { IfOk result (λ heads. heads.items ≡ replicate (length heads.items) 0) }
 {
@@ -235,7 +252,8 @@ fn blank_heads(alloc: Global, count: usize) -> Result<Vec<usize>, AllocError>
 }
 
 /// Puts each link into its chain, over heads of empty chains.
-fn relink(links: &mut [Link], heads: &mut [usize])
+fn relink(links: &mut [Link], heads: &mut [u32])
+    requires few { length links.old < 2 ^ 32 }
     requires some { 0 < length heads.old }
     requires blank { heads.old ≡ replicate (length heads.old) 0 }
     ensures labels { labels links.new ≡ labels links.old }
@@ -244,11 +262,11 @@ fn relink(links: &mut [Link], heads: &mut [usize])
     let count = heads.len();
     for i in 0..links.len() {
         let label = links[i].label;
-        let at = bucket(label, count);
+        let at = bucket(label as usize, count);
         links[i] = Link {
             label,
             earlier: heads[at],
         };
-        heads[at] = i + 1;
+        heads[at] = i as u32 + 1;
     }
 }

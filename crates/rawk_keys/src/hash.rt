@@ -18,7 +18,7 @@ pub(crate) fn seeded_basis(seed: u64) -> usize
     mix(14695981039346656037, seed as usize)
 }
 
-/// The hash of an array's key.
+/// The hash of an array's key, in 32 bits.
 pub(crate) fn hash(basis: usize, array: usize, key: &[u8]) -> usize
     ensures { result ≡ hash_of basis array key.now }
 {
@@ -26,5 +26,5 @@ pub(crate) fn hash(basis: usize, array: usize, key: &[u8]) -> usize
     for byte in key {
         hash = mix(hash, *byte as usize);
     }
-    hash
+    hash % 4294967296
 }

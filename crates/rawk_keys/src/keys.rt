@@ -1,21 +1,21 @@
 //! A list of keys of arrays, in which one is found by its bytes.
 
-ghost use Rattle.std.specs.Prelude.{◌≡◌, ◌<◌, ◌≤◌, ◌++◌, ◌∷◌, [], IsTrue, ◌↔◌, MatchOption, OnErr, OnOk, Some, length, slice_get, slice_range};
+ghost use Rattle.std.specs.Prelude.{◌≡◌, ◌<◌, ◌≤◌, ◌++◌, ◌∷◌, [], IfOk, IsTrue, ◌↔◌, MatchOption, OnErr, OnOk, Some, length, slice_get, slice_range};
 ghost use Rattle.std.proofs.Common.{get_or};
 ghost use Rattle.rawk_keys.specs.declared.keys.KeyRange.{KeyRange};
 ghost use Rattle.rawk_keys.specs.ArrayKey.{IsAbsent, IsLastOf, ArrayKey, array_key};
 ghost use Rattle.rawk_keys.specs.KeysLaid.{AreWithin, AreLaid, keys_of};
 
-use crate::chains::Chains;
+use crate::chains::{Chains, short};
 use crate::hash::{hash, seeded_basis};
 use std::alloc::{AllocError, Global};
 use std::marker::Model;
 
-/// Where a key stands in the text of all keys: from `start` up to `end`.
+/// Where a key stands in the text of all keys: from `start` up to `end`, each below 2^32.
 #[derive(Clone, Copy)]
 pub struct KeyRange {
-    pub start: usize,
-    pub end: usize,
+    pub start: u32,
+    pub end: u32,
 }
 
 /// Keys of arrays, each with its array's number, in the order in which they were added.
@@ -112,7 +112,8 @@ impl Keys {
         earlier_of(&self.text, &self.spans, &self.by_array, number)
     }
 
-    /// Adds an entry. It fails where memory is refused, and then nothing has changed.
+    /// Adds an entry. It fails where memory is refused, and where 32 bits do not hold its array, how many entries there are, or how many bytes all keys have;
+    /// then nothing has changed.
     pub fn add(&mut self, alloc: Global, array: usize, key: &[u8]) -> Result<(), AllocError>
         ensures did { OnOk result (self.new ≡ self.old ++ array_key array key.now ∷ []) }
         ensures err { OnErr result (self.new ≡ self.old) }
@@ -143,6 +144,15 @@ fn none_from(alloc: Global, basis: usize) -> Keys
     }
 }
 
+/// A range, where 32 bits hold its ends.
+fn range_of(start: usize, end: usize) -> Result<KeyRange, AllocError>
+    ensures { IfOk result (λ range. range ≡ record { start = start; end = end }) }
+{
+    let start = short(start)?;
+    let end = short(end)?;
+    Ok(KeyRange { start, end })
+}
+
 /// Adds an entry. Where a label is refused, the key's bytes stand in the text for no entry.
 fn add_key(
     alloc: Global,
@@ -163,8 +173,9 @@ fn add_key(
     spans.reserve(1)?;
     text.extend_from_slice(key)?;
     let end = text.len();
+    let span = range_of(start, end)?;
     add_labels(alloc, by_hash, by_array, hash(basis, array, key), array)?;
-    spans.push(KeyRange { start, end })?;
+    spans.push(span)?;
     Ok(())
 }
 
@@ -214,7 +225,7 @@ fn key_at<'a>(text: &'a [u8], spans: &[KeyRange], number: usize) -> &'a [u8]
     ensures { (d : KeyRange) → let s = get_or spans.now number d in result.now ≡ slice_range text.now s.start s.end }
 {
     let span = spans[number];
-    part(text, span.start, span.end)
+    part(text, span.start as usize, span.end as usize)
 }
 
 fn part(text: &[u8], start: usize, end: usize) -> &[u8]

@@ -217,7 +217,7 @@ impl Store {
         }
     }
 
-    /// How many elements an array has, 0 where it is not there. It is linear in the slots that the array has.
+    /// How many elements an array has, 0 where it is not there, at once.
     pub fn element_count(&self, array: Array) -> usize
         ensures { result ≡ count_in (array_in array (frames_of self.now.frames.now)) (arrays_of self.now.arrays.now) }
     {

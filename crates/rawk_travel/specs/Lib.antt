@@ -1,4 +1,5 @@
 pub mod Moving
+pub mod Spots
 pub mod Reading
 pub mod Borrowed
 pub mod Travel

@@ -17,5 +17,6 @@ pub mod reach;
 mod reading;
 mod replace;
 mod split;
+pub mod spot;
 mod transfer;
 pub mod travel;

@@ -18,8 +18,10 @@ loop-at-preserved c =
     record {
       walking = walks_to c.args.array index i c.earlier-at.result (omega (arith, within)) last;
       emptying = emptying_next c.args.array index c.args.cells.now.now c.loop-at.cells.now c.empty_slot.new.cells.now i c.loop-at.at c.earlier-at.result c.in-Some.is inv.walking inv.emptying c.in_ok-empty_slot.ensures.did last;
+      laid = c.empty_slot.ensures.laid;
+      counted = c.empty_slot.ensures.counted;
       start = c.empty_slot.ensures.start ∙ inv.start;
     }
 
 pub returns-clause-did : goal.returns-clause-did
-returns-clause-did c = emptied c.args.array c.args.index.now c.args.cells.now.now c.loop-at.cells.now c.loop-at.at (not_some c.loop-at.at c.in_default.not-Some) c.requires.array_key c.loop-at.invariant.emptying
+returns-clause-did c = emptied c.args.array c.args.index.now c.args.cells.now.now c.loop-at.cells.now c.loop-at.at (not_some c.loop-at.at c.in_default.not-Some) c.requires.laid.array_key c.loop-at.invariant.emptying

@@ -1,5 +1,7 @@
 use Rattle.std.proofs.Common.{◌≡◌}
 use Rattle.rawk_keys.specs.Found.{left}
+use Rattle.rawk_arrays.specs.Laid.{AreLaid}
+use Rattle.rawk_arrays.specs.Counted.{AreCounted}
 use Rattle.rawk_arrays.specs.Walks.{IsWalking, IsEmptying}
 use Rattle.rawk_arrays.proofs.cells.empty.Given as goal
 
@@ -7,6 +9,8 @@ abbrev pub invariant-loop-at : goal.invariant-loop-at
 invariant-loop-at l = record {
   walking : IsWalking l.array l.index l.at;
   emptying : IsEmptying l.array l.index l.fn.cells.now l.cells.now l.at;
+  laid : AreLaid l.index l.cells;
+  counted : AreCounted l.index l.cells.now l.counts.items;
   start : l.cells.start ≡ l.fn.cells.start;
 }
 

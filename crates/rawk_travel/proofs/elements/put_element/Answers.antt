@@ -1,8 +1,10 @@
-use Rattle.std.proofs.Common.{refl}
+use Rattle.std.proofs.Common.{◌∙◌, ap, subst, sym}
 use Rattle.rawk_operators.specs.Borrowed.{borrowed_value}
-use Rattle.rawk_store.specs.declared.target.Target.TheVariants as target
-use Rattle.rawk_travel.specs.Moving.{moving}
-use Rattle.rawk_travel.proofs.Subscripts.{element_faults, element_put}
+use Rattle.rawk_code.specs.declared.code.Op.TheVariants as does
+use Rattle.rawk_code.specs.declared.code.Instr.TheVariants as instr
+use Rattle.rawk_travel.specs.declared.transfer.Transfer.TheVariants as transfer
+use Rattle.rawk_travel.specs.Moving.{Done, Moving, moving}
+use Rattle.rawk_travel.proofs.Subscripts.{element_faults, element_put, subscript_in}
 use Rattle.rawk_travel.proofs.elements.put_element.Goals as goal
 
 pub returns-in-Err-clause-did : goal.returns-in-Err-clause-did
@@ -10,7 +12,8 @@ returns-in-Err-clause-did c = element_faults c.args.array c.args.from.now (movin
 
 pub returns-in_ok-put-in-Ok-clause-did : goal.returns-in_ok-put-in-Ok-clause-did
 returns-in_ok-put-in-Ok-clause-did c =
-    let m = moving c.args.store.now in
-    let place = target.Element c.args.array c.in-Ok.key in
-    element_put c.args.array c.args.from.now m (moving c.touch.new.store) (moving c.drop_taken.new.store) (moving c.put.new.store) c.in_ok-subscript.subscript c.in-Ok.key place (borrowed_value c.target_borrowed.result) c.in_ok-value-in-Ok.value
-    c.in_ok-subscript.ensures c.in-Ok.is refl c.target_borrowed.ensures c.in_ok-value-in-Ok.ensures c.in_ok-touch-in-Ok.ensures.did c.drop_taken.ensures.did c.in_ok-put-in-Ok.ensures.did
+    let m = moving c.spot_of.new.store in
+    let before = c.in_ok-subscript.ensures ∙ ap (λ (y : Moving). subscript_in c.args.from.now y) (sym c.spot_of.ensures.same) in
+    subst (λ (y : Moving). Done (instr.Do (does.ElementAt c.args.array c.args.from.now)) y transfer.Next (moving c.put.new.store)) c.spot_of.ensures.same
+    (element_put c.args.array c.args.from.now m (moving c.touch_spot.new.store) (moving c.drop_taken.new.store) (moving c.put.new.store) c.in_ok-subscript.subscript c.in-Ok.key c.in_ok-spot-in-Ok.spot.place (borrowed_value c.spot_borrowed.result) c.in_ok-value-in-Ok.value
+    before c.in-Ok.is c.in_ok-spot-in-Ok.ensures.place c.spot_borrowed.ensures c.in_ok-value-in-Ok.ensures c.in_ok-touch_spot-in-Ok.ensures.did c.drop_taken.ensures.did c.in_ok-put-in-Ok.ensures.did)

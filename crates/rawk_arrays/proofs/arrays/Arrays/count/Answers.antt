@@ -1,4 +1,4 @@
-use Rattle.std.proofs.Common.{◌∙◌, ap, sym}
+use Rattle.std.proofs.Common.{◌∙◌, List, ℕ, ap, get_or, sym}
 use Rattle.std.specs.FinMap.{len, len-empty}
 use Rattle.std.specs.Ordering.{nat_cmp}
 use Rattle.std.specs.Cmp.Lexicographic.{slice_cmp}
@@ -12,7 +12,7 @@ pub returns-then-array-self : goal.returns-then-array-self
 returns-then-array-self c =
     let s = c.self.inside in
     let l : Laid = record { index = s.index; slots = s.cells.now; live = s.live } in
-    c.count.ensures ∙ (ap (λ (e : Elements). len e) (sym (array_there l c.args.array c.if-array-self.true)) ∙ ap (λ w. len (array_at c.args.array (arrays_of w.now))) c.self.view_is)
+    c.count.ensures ∙ (ap (λ (xs : List ℕ). get_or xs c.args.array 0) c.deref.ensures.value ∙ (c.self.invariant.counted.counted c.args.array ∙ (ap (λ (e : Elements). len e) (sym (array_there l c.args.array c.if-array-self.true)) ∙ ap (λ w. len (array_at c.args.array (arrays_of w.now))) c.self.view_is)))
 
 pub returns : goal.returns
 returns c =

@@ -14,11 +14,11 @@ returns-in_err-place-clause-same c =
     let s = c.self.inside in
     let l : Laid = record { index = s.index; slots = s.cells.now; live = s.live } in
     let m : Laid = record { index = c.slot_for.new.index; slots = c.slot_for.new.cells.now; live = s.live } in
-    spread_arrays l m refl c.self.invariant.array_key c.slot_for.ensures.more c.slot_for.ensures.now ∙ ap (λ w. arrays_of w.now) c.self.view_is
+    spread_arrays l m refl c.self.invariant.laid.array_key c.slot_for.ensures.more c.slot_for.ensures.now ∙ ap (λ w. arrays_of w.now) c.self.view_is
 
 pub returns-clause-same : goal.returns-clause-same
 returns-clause-same c =
     let s = c.self.inside in
     let l : Laid = record { index = s.index; slots = s.cells.now; live = s.live } in
     let m : Laid = record { index = c.slot_for.new.index; slots = c.slot_for.new.cells.now; live = s.live } in
-    spread_arrays l m refl c.self.invariant.array_key c.slot_for.ensures.more c.slot_for.ensures.now ∙ ap (λ w. arrays_of w.now) c.self.view_is
+    spread_arrays l m refl c.self.invariant.laid.array_key c.slot_for.ensures.more c.slot_for.ensures.now ∙ ap (λ w. arrays_of w.now) c.self.view_is

@@ -14,7 +14,7 @@ returns-in_err-put-clause-err c =
     let l : Laid = record { index = s.index; slots = s.cells.now; live = s.live } in
     let m : Laid = record { index = c.put.new.index; slots = c.put.new.cells.now; live = s.live } in
     on_err c.from_residual.result (arrays_of m ≡ arrays_of c.args.self.now.now)
-    (spread_arrays l m refl c.self.invariant.array_key c.put.ensures.more c.in_err-put.ensures.err ∙ ap (λ w. arrays_of w.now) c.self.view_is)
+    (spread_arrays l m refl c.self.invariant.laid.array_key c.put.ensures.more c.in_err-put.ensures.err ∙ ap (λ w. arrays_of w.now) c.self.view_is)
 
 pub returns-in_ok-put-clause-did : goal.returns-in_ok-put-clause-did
 returns-in_ok-put-clause-did c =

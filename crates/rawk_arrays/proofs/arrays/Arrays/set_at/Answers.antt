@@ -8,7 +8,7 @@ pub returns-clause-did : goal.returns-clause-did
 returns-clause-did c = λ a k h.
     let s = c.self.inside in
     let l : Laid = record { index = s.index; slots = s.cells.now; live = s.live } in
-    let m : Laid = record { index = s.index; slots = c.set.new.self.now; live = s.live } in
+    let m : Laid = record { index = s.index; slots = c.set_slot.new.cells.now; live = s.live } in
     let here : IsPlaceOf a k c.args.place l = rw (ap (λ w. w.now) c.self.view_is) h in
-    let laid : IsLaid l.index l.slots = record { distinct = c.self.invariant.distinct; array_key = c.self.invariant.array_key } in
-    place_set a k c.args.place (Some c.args.value) l m here laid refl refl c.in_ok-set.ensures.did ∙ ap (λ w. with_element a k c.args.value (arrays_of w.now)) c.self.view_is
+    let laid : IsLaid l.index l.slots = record { distinct = c.self.invariant.laid.distinct; array_key = c.self.invariant.laid.array_key } in
+    place_set a k c.args.place (Some c.args.value) l m here laid refl refl c.in_ok-set_slot.ensures.did ∙ ap (λ w. with_element a k c.args.value (arrays_of w.now)) c.self.view_is

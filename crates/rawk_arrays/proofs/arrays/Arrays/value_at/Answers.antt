@@ -9,5 +9,5 @@ returns c = λ a k h.
     let s = c.self.inside in
     let l : Laid = record { index = s.index; slots = s.cells.now; live = s.live } in
     let here : IsPlaceOf a k c.args.place l = rw (ap (λ w. w.now) c.self.view_is) h in
-    let laid : IsLaid l.index l.slots = record { distinct = c.self.invariant.distinct; array_key = c.self.invariant.array_key } in
+    let laid : IsLaid l.index l.slots = record { distinct = c.self.invariant.laid.distinct; array_key = c.self.invariant.laid.array_key } in
     c.filled.ensures ∙ (sym (place_value a k c.args.place l here laid) ∙ ap (λ w. element_at a k (arrays_of w.now)) c.self.view_is)
