@@ -4,11 +4,10 @@ use Rattle.rawk_tree.specs.declared.tree.Program.{Program}
 use Rattle.rawk_tape.specs.Records.{Input}
 use Rattle.rawk_history.specs.Keeping.{keeps_any}
 use Rattle.rawk_code.specs.Correct.{CodeOf}
-use Rattle.rawk_machine.specs.Standing as machine
 use Rattle.rawk_machine.specs.Standing.{Standing, MayCome, Stood}
 use Rattle.rawk_debug.specs.Positions.{Position, Snapshot}
-use Rattle.rawk_debug.specs.Watching.{Observed}
 use Rattle.rawk_debug.specs.Works.{Work}
+use Rattle.rawk_store.specs.Observed.{Observed}
 
 -- a machine and its program
 pub record Staged (S : Type 0) : Type 0 where
@@ -30,9 +29,9 @@ abbrev pub work_of : {S : Type 0} → Standing S → Work S
 work_of m = record { executed = m.executed; read = m.tape.bytes; source = m.tape.source }
 
 -- what was seen before the last step; nothing where there was none
-abbrev pub seen_or : Option machine.Seen → Observed
-seen_or None = record { globals = []; whole = []; fields = [] }
-seen_or (Some s) = record { globals = s.globals; whole = s.whole; fields = s.fields }
+abbrev pub seen_or : Option Observed → Observed
+seen_or None = record { globals = []; arrays = []; whole = []; fields = [] }
+seen_or (Some s) = s
 
 -- the machine runs the program, keeps steps, and has stood where its history says
 pub record IsStage {S : Type 0} (may_give : S → Input → Type 0) (p : Program) (m : Standing S) : Type 0 where

@@ -1,12 +1,13 @@
 //! A machine with its program.
 
-ghost use Rattle.std.specs.Prelude.{◌≡◌, option_copied, option_map, unwrap_or};
+ghost use Rattle.std.specs.Prelude.{◌≡◌, IsTrue, is_some, not, option_copied, option_map, unwrap_or};
 ghost use Rattle.rawk_value.specs.declared.value.Value.TheVariants.{Uninitialized};
 ghost use Rattle.rawk_record.specs.FieldRefs.{ref_value};
-ghost use Rattle.rawk_debug.specs.Watching.{same_value};
-ghost use Rattle.rawk.specs.Staged.{IsStage};
+ghost use Rattle.rawk_debug.specs.Watching.{same_held, same_value, scalar_at};
+ghost use Rattle.rawk_store.specs.Observed.{seen};
+ghost use Rattle.rawk.specs.Staged.{IsStage, seen_or};
 
-use rawk_debug::{Call, Stepper, Watched};
+use rawk_debug::{Call, Scalar, Stepper, Watched};
 use rawk_frames::Local;
 use rawk_history::Keeper;
 use rawk_machine::Machine;
@@ -52,6 +53,31 @@ impl<R: Source + Drop, K: Keeper> Stage<R, K> {
         ensures { result ≡ record { program = program; machine = machine } }
     {
         Stage { program, machine }
+    }
+
+    /// Whether a scalar's value differs between the points before and after the last step.
+    fn scalar_changed(&self, place: Scalar) -> bool
+        requires { IsTrue (is_some self.now.machine.before) }
+        ensures { result ≡ not (same_value (scalar_at place (seen_or self.now.machine.before)) (scalar_at place (seen self.now.machine.state))) }
+    {
+        match place {
+            Scalar::Global(number) => {
+                !same_global(
+                    self.machine.earlier_global(number),
+                    self.machine.global(number),
+                )
+            }
+            Scalar::FieldCount => self.machine.earlier_field_count() != self.machine.field_count(),
+            Scalar::Field(number) => {
+                if number == 0 {
+                    return self.machine.earlier_text() != self.machine.text();
+                }
+                !same_field(
+                    self.machine.earlier_field(number),
+                    self.machine.field(number),
+                )
+            }
+        }
     }
 }
 
@@ -153,22 +179,13 @@ impl<R: Source + Drop, K: Keeper> Stepper for Stage<R, K> {
         self.machine.keys_named(alloc, array)
     }
 
-    fn changed(&self, place: Watched) -> bool {
+    fn changed(&self, place: &Watched) -> bool {
         match place {
-            Watched::Global(number) => {
-                !same_global(
-                    self.machine.earlier_global(number),
-                    self.machine.global(number),
-                )
-            }
-            Watched::FieldCount => self.machine.earlier_field_count() != self.machine.field_count(),
-            Watched::Field(number) => {
-                if number == 0 {
-                    return self.machine.earlier_text() != self.machine.text();
-                }
-                !same_field(
-                    self.machine.earlier_field(number),
-                    self.machine.field(number),
+            Watched::Scalar(place) => self.scalar_changed(*place),
+            Watched::Element(array, key) => {
+                !same_held(
+                    self.machine.earlier_element(*array, key.as_slice()),
+                    self.machine.element(*array, key.as_slice()),
                 )
             }
         }
@@ -217,6 +234,17 @@ fn same_value(left: &Value, right: &Value) -> bool
         (Value::Number(m), Value::Number(n)) => *m == *n,
         (Value::String(s), Value::String(t)) => s.as_slice() == t.as_slice(),
         (Value::Input(s), Value::Input(t)) => s.as_slice() == t.as_slice(),
+        _ => false,
+    }
+}
+
+/// Whether an element is not there twice, or has the same value twice.
+fn same_held(left: Option<&Value>, right: Option<&Value>) -> bool
+    ensures { result ≡ same_held (option_copied left.entry) (option_copied right.entry) }
+{
+    match (left, right) {
+        (Some(left), Some(right)) => same_value(left, right),
+        (None, None) => true,
         _ => false,
     }
 }

@@ -7,3 +7,5 @@ pub mod ArraysBack
 pub mod PlaceLaws
 pub mod ListLaws
 pub mod ArraysLaws
+pub mod Slotted
+pub mod SlotLaws

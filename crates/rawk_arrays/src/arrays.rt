@@ -1,6 +1,6 @@
 //! Arrays by number, and what stood in them when the step began.
 
-ghost use Rattle.std.specs.Prelude.{◌≡◌, ◌≤◌, ℕ, ◌++◌, ◌∷◌, [], IfOk, MatchOption, OnErr, OnOk, Some, length, replicate, take};
+ghost use Rattle.std.specs.Prelude.{◌≡◌, ◌≤◌, ℕ, ◌++◌, ◌∷◌, [], IfOk, MatchOption, OnErr, OnOk, Some, length, replicate, slice_get, take};
 ghost use Rattle.std.specs.FinMap.{len};
 ghost use Rattle.rawk_arrays.specs.Walks.{texts};
 ghost use Rattle.std.specs.Bool.{OnTrue};
@@ -11,6 +11,7 @@ ghost use Rattle.rawk_slots.specs.Back.{back};
 ghost use Rattle.rawk_arrays.specs.Elements.{array_at, changed_arrays, cleared, element_at, is_element, keys_at, no_elements, touched, with_element, with_put, without_element};
 ghost use Rattle.rawk_arrays.specs.Laid.{GrownArrays, IsLaid, IsPlaceOf, arrays_of, no_arrays};
 ghost use Rattle.rawk_arrays.specs.ArraysBack.{FitsArrays, arrays_back};
+ghost use Rattle.rawk_arrays.specs.Slotted.{IsSlotOf};
 
 use crate::cells::{ElementSlots, element, empty, filled, keys, pack, put, set_slot, slot_for};
 use crate::counts::{count, recount_back};
@@ -118,6 +119,28 @@ impl Arrays {
             return element(&self.index, &self.cells, array, key);
         }
         None
+    }
+
+    /// The number of the slot of an element, which it keeps; `None` where the key has no slot, and so no element. It makes none.
+    pub fn slot_number(&self, array: usize, key: &[u8]) -> Option<usize>
+        ensures { IsSlotOf array key.now self.now.now result }
+    {
+        match self.index.find(array, key) {
+            Some(number) => {
+                if number < self.cells.len() {
+                    return Some(number);
+                }
+                None
+            }
+            None => None,
+        }
+    }
+
+    /// A slot, filled or empty; `None` past the last. What stood there at an earlier time is told by the groups that lead back there.
+    pub fn slot(&self, number: usize) -> Option<&Option<Value>>
+        ensures { option_copied result ≡ slice_get self.now.now.slots number }
+    {
+        self.cells.value(number)
     }
 
     /// Whether an element is there.
@@ -384,6 +407,7 @@ impl Arrays {
         requires { FitsArrays group.old self.old.now }
         ensures now { self.new ≡ at_rest (arrays_back self.old.now group.old) }
         ensures newer { arrays_back self.new.now group.new ≡ self.old.now }
+        ensures fits { FitsArrays group.new self.new.now }
         ensures laid { IsLaid self.new.now.index self.new.now.slots }
     {
         recount_back(

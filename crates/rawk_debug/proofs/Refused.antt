@@ -7,7 +7,7 @@ use Rattle.rawk_commands.specs.declared.command.C.{C}
 use Rattle.rawk_commands.specs.declared.command.C.TheVariants.{OutOfMemory}
 use Rattle.rawk_commands.specs.Reading.{names_something, takes_memory}
 use Rattle.rawk_commands.specs.Refusals.{refusal_line}
-use Rattle.rawk_debug.specs.Watching.{Observed}
+use Rattle.rawk_store.specs.Observed.{Observed}
 use Rattle.rawk_debug.specs.Moves.{Stand}
 use Rattle.rawk_debug.specs.Transcript.{Follows, is_quit, quits}
 
@@ -17,7 +17,7 @@ not_quit Quit h = absurd (cc)
 not_quit other h = refl
 
 nothing_seen : Observed
-nothing_seen = record { globals = []; whole = []; fields = [] }
+nothing_seen = record { globals = []; arrays = []; whole = []; fields = [] }
 
 no_memory : (input : Input) (read : Result (Option Command) C) (reason : C) (old : Stand) → reason ≡ OutOfMemory → takes_memory read ≡ true → (is_quit read ≡ false) × Follows input read old (refusal_line reason) old
 no_memory input (Err e) reason old out takes = absurd (cc)

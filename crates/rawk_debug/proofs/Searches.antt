@@ -10,7 +10,7 @@ use Rattle.rawk_commands.specs.declared.command.Way.TheVariants.{Forward, Back}
 use Rattle.rawk_commands.specs.declared.command.Goal.{Goal}
 use Rattle.rawk_debug.specs.declared.stop.Entry.{Entry}
 use Rattle.rawk_debug.specs.Positions.{Position, Snapshot, Stands, held_or, trace_under, trace_of, at, here, upto, raised, gone_to, back_at}
-use Rattle.rawk_debug.specs.Watching.{Observed, seen}
+use Rattle.rawk_store.specs.Observed.{Observed, seen}
 use Rattle.rawk_debug.specs.Moves.{Stand, sought, wanted, depth_of, from_below, from_above, Halts, Returns, is_found}
 
 pub none_is : {X : Type 0} (o : Option X) → is_some o ≡ false → o ≡ None

@@ -4,9 +4,9 @@ use Rattle.std.specs.Prelude.{slice_index_or}
 use Rattle.std.proofs.Math.Seq.{drop-append_seam}
 use Rattle.rawk_value.specs.Values.{Bytes}
 use Rattle.rawk_debug.specs.declared.answer.Answer.{Answer}
-use Rattle.rawk_debug.specs.declared.answer.Answer.TheVariants.{Went, Halted, Returned, Stayed, Shown, Listed, TakenBack, Made, Deleted, Traced, Left}
+use Rattle.rawk_debug.specs.declared.answer.Answer.TheVariants.{Went, Halted, Returned, Stayed, Shown, Listed, TakenBack, Made, BreakDeleted, WatchDeleted, Traced, Left}
 use Rattle.rawk_debug.specs.Positions.{Snapshot}
-use Rattle.rawk_debug.specs.Watching.{Observed}
+use Rattle.rawk_store.specs.Observed.{Observed}
 use Rattle.rawk_debug.specs.Moves.{Stand}
 use Rattle.rawk_debug.specs.Answers.{as_lines, behind_shown, line_end, shown_of, text_of}
 
@@ -44,7 +44,8 @@ whole_answer s h came Stayed = refl
 whole_answer s h came (Shown place) = refl
 whole_answer s h came (Listed a) = refl
 whole_answer s h came TakenBack = refl
-whole_answer s h came (Made e) = refl
-whole_answer s h came (Deleted e) = refl
+whole_answer s h came Made = refl
+whole_answer s h came (BreakDeleted n) = refl
+whole_answer s h came (WatchDeleted n) = refl
 whole_answer s h came Traced = refl
 whole_answer s h came Left = refl

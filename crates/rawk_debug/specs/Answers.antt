@@ -1,5 +1,5 @@
 -- What a session's commands are answered, as text. 10 is a newline.
-use Rattle.std.specs.Prelude.{ℕ, ◌+◌, ◌-◌, List, [], ◌∷◌, ◌++◌, length, drop, flat_map, nat_eq, if◌then◌else◌, slice_index_or, Option, Some, None, codes}
+use Rattle.std.specs.Prelude.{ℕ, ◌+◌, ◌-◌, List, [], ◌∷◌, ◌++◌, length, drop, flat_map, nat_eq, if◌then◌else◌, slice_get, slice_index_or, Option, Some, None, codes}
 use Rattle.rawk_value.specs.Values.{Bytes, decimal}
 use Rattle.rawk_value.specs.declared.value.Value.{Value}
 use Rattle.rawk_value.specs.declared.fault.Fault.{Fault}
@@ -17,35 +17,43 @@ use Rattle.rawk_commands.specs.declared.command.Place.TheVariants as place
 use Rattle.rawk_commands.specs.declared.command.C.TheVariants.{OutOfMemory}
 use Rattle.rawk_commands.specs.Refusals.{refusal_line}
 use Rattle.rawk_commands.specs.Texts.{shown_element, shown_held, shown_place}
+use Rattle.rawk_debug.specs.declared.stop.Scalar.{Scalar}
+use Rattle.rawk_debug.specs.declared.stop.Scalar.TheVariants.{Global, FieldCount, Field}
 use Rattle.rawk_debug.specs.declared.stop.Watched.{Watched}
-use Rattle.rawk_debug.specs.declared.stop.Watched.TheVariants.{Global, FieldCount, Field}
+use Rattle.rawk_debug.specs.declared.stop.Watched.TheVariants as watched
 use Rattle.rawk_debug.specs.declared.stop.Lvalue.{Lvalue}
 use Rattle.rawk_debug.specs.declared.stop.Lvalue.TheVariants.{Local, Shared, Element}
 use Rattle.rawk_debug.specs.declared.stop.Stop.{Stop}
 use Rattle.rawk_debug.specs.declared.stop.Stop.TheVariants.{Break, Watch}
 use Rattle.rawk_debug.specs.declared.stop.Entry.{Entry}
 use Rattle.rawk_debug.specs.declared.answer.Answer.{Answer}
-use Rattle.rawk_debug.specs.declared.answer.Answer.TheVariants.{Went, Halted, Returned, Stayed, Shown, Listed, TakenBack, Made, Deleted, Traced, Left}
+use Rattle.rawk_debug.specs.declared.answer.Answer.TheVariants.{Went, Halted, Returned, Stayed, Shown, Listed, TakenBack, Made, BreakDeleted, WatchDeleted, Traced, Left}
 use Rattle.rawk_debug.specs.Positions.{Position, Snapshot}
-use Rattle.rawk_debug.specs.Watching.{Observed, seen, value_at}
+use Rattle.rawk_store.specs.Observed.{Observed, seen}
+use Rattle.rawk_debug.specs.Watching.{scalar_at}
 use Rattle.rawk_debug.specs.Moves.{Stand, hits}
 use Rattle.rawk_debug.specs.Activations.{name_of, function_at, local_names}
 use Rattle.rawk_debug.specs.Commands.{names_of}
 
--- a place, as it is shown
+-- a scalar, as it is shown
+abbrev pub scalar_text : List Bytes → Scalar → Bytes
+scalar_text names (Global number) = global_name names number
+scalar_text names FieldCount = field_count_name
+scalar_text names (Field number) = shown_place (place.Field number)
+
+-- a place that is watched, as it is shown
 abbrev pub place_text : List Bytes → Watched → Bytes
-place_text names (Global number) = global_name names number
-place_text names FieldCount = field_count_name
-place_text names (Field number) = shown_place (place.Field number)
+place_text names (watched.Scalar place) = scalar_text names place
+place_text names (watched.Element array key) = shown_element (slice_index_or names array []) key
 
 -- a breakpoint or a watch, by its kind and number
 abbrev pub entry_text : Entry → Bytes
-entry_text e = elim e.stop [ Break site ↦ codes "Breakpoint " ++ decimal e.number | Watch watched ↦ codes "Watchpoint " ++ decimal e.number ]
+entry_text e = elim e.stop [ Break site ↦ codes "Breakpoint " ++ decimal e.number | Watch place ↦ codes "Watchpoint " ++ decimal e.number ]
 
 -- what is added to it: of a watch, its place
 abbrev pub watch_text : List Bytes → Stop → Bytes
 watch_text names (Break site) = []
-watch_text names (Watch watched) = codes ": " ++ place_text names watched
+watch_text names (Watch place) = codes ": " ++ place_text names place
 
 -- the line of a breakpoint or a watch that stops
 abbrev pub stop_line : List Bytes → Entry → Bytes
@@ -58,14 +66,18 @@ stop_lines names came h stops = flat_map (λ e. if hits came h e.stop then stop_
 -- what is added to a breakpoint or a watch that is made: a breakpoint's line, a watch's place
 abbrev pub spot_text : List ℕ → List Bytes → Stop → Bytes
 spot_text lines names (Break site) = codes " at line " ++ decimal (line_at lines (Some site))
-spot_text lines names (Watch watched) = codes ": " ++ place_text names watched
+spot_text lines names (Watch place) = codes ": " ++ place_text names place
 
 abbrev pub made_line : List ℕ → List Bytes → Entry → Bytes
 made_line lines names e = entry_text e ++ spot_text lines names e.stop ++ 10 ∷ []
 
-abbrev pub deleted_line : Entry → Bytes
-deleted_line e =
-    elim e.stop [ Break site ↦ codes "Deleted breakpoint " ++ decimal e.number ++ 10 ∷ [] | Watch watched ↦ codes "Deleted watchpoint " ++ decimal e.number ++ 10 ∷ [] ]
+-- the line of the last one that was made
+abbrev pub newest_line : List ℕ → List Bytes → Option Entry → Bytes
+newest_line lines names None = []
+newest_line lines names (Some e) = made_line lines names e
+
+abbrev pub last_of : List Entry → Option Entry
+last_of stops = slice_get stops (length stops - 1)
 
 -- the line of a fault, where there is one
 abbrev pub at_line : ℕ → Bytes
@@ -115,13 +127,13 @@ array_name locals names (array.Local number) = slice_index_or locals number []
 -- a place where these are the locals
 abbrev pub lvalue_text : List Bytes → List Bytes → Lvalue → Bytes
 lvalue_text locals names (Local number) = slice_index_or locals number []
-lvalue_text locals names (Shared place) = place_text names place
+lvalue_text locals names (Shared place) = scalar_text names place
 lvalue_text locals names (Element a key) = shown_element (array_name locals names a) key
 
 -- what it holds: an element that is not there holds nothing
 abbrev pub held_at : Lvalue → State → Option Value
 held_at (Local number) s = Some (local_value number s)
-held_at (Shared place) s = Some (value_at place (seen s))
+held_at (Shared place) s = Some (scalar_at place (seen s))
 held_at (Element a key) s = element_in (array_in a s.frames) key s.arrays
 
 -- a place and what it holds
@@ -162,8 +174,9 @@ text_of s h came Stayed = place_line s.machine h
 text_of s h came (Shown place) = shown_line s.machine.program place h
 text_of s h came (Listed a) = array_text s.machine.program a h
 text_of s h came TakenBack = codes "set taken back\n"
-text_of s h came (Made e) = made_line s.machine.program.lines.items (names_of s) e
-text_of s h came (Deleted e) = deleted_line e
+text_of s h came Made = newest_line s.machine.program.lines.items (names_of s) (last_of s.stops)
+text_of s h came (BreakDeleted n) = codes "Deleted breakpoint " ++ decimal n ++ 10 ∷ []
+text_of s h came (WatchDeleted n) = codes "Deleted watchpoint " ++ decimal n ++ 10 ∷ []
 text_of s h came Traced = backtrace s.machine.program h
 text_of s h came Left = []
 

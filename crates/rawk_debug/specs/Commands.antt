@@ -1,6 +1,6 @@
 -- Each command of a session: when it is refused, and what it does.
 use Rattle.std.specs.Prelude.{◌≡◌, ℕ, ◌+◌, Bool, true, false, not, ◌&&◌, List, [], ◌∷◌, ◌++◌, length, filter, nat_le, nat_eq, if◌then◌else◌, Option, Some, None, is_some, is_none, Result, Ok, Err}
-use Rattle.std.specs.List.{find}
+use Rattle.std.specs.List.{list_any}
 use Rattle.std.specs.Bool.{MatchBool}
 use Rattle.rawk_tape.specs.Records.{Input}
 use Rattle.rawk_value.specs.Values.{Bytes}
@@ -22,9 +22,9 @@ use Rattle.rawk_debug.specs.declared.stop.Stop.{Stop}
 use Rattle.rawk_debug.specs.declared.stop.Stop.TheVariants as stop
 use Rattle.rawk_debug.specs.declared.stop.Entry.{Entry}
 use Rattle.rawk_debug.specs.declared.answer.Answer.{Answer}
-use Rattle.rawk_debug.specs.declared.answer.Answer.TheVariants.{Went, Halted, Returned, Stayed, Shown, Listed, TakenBack, Made, Deleted, Traced, Left}
+use Rattle.rawk_debug.specs.declared.answer.Answer.TheVariants.{Went, Halted, Returned, Stayed, Shown, Listed, TakenBack, Made, BreakDeleted, WatchDeleted, Traced, Left}
 use Rattle.rawk_debug.specs.Positions.{Snapshot, here, back_at, with_set, has_set_at, IsTakenBack}
-use Rattle.rawk_debug.specs.Watching.{Observed}
+use Rattle.rawk_store.specs.Observed.{Observed}
 use Rattle.rawk_debug.specs.Activations.{local_kinds, local_names}
 use Rattle.rawk_debug.specs.Naming.{place_of, listed_of, lvalue_of, site_of, target_of, constant_value, is_refused}
 use Rattle.rawk_debug.specs.Moves.{Stand, Goes, Halts, Returns, is_found, from_below, from_above, depth_of}
@@ -47,8 +47,9 @@ is_kind breaks (stop.Watch place) = not breaks
 abbrev pub is_entry : Bool → ℕ → Entry → Bool
 is_entry breaks n e = nat_eq e.number n && is_kind breaks e.stop
 
-abbrev pub entry_of : Bool → ℕ → List Entry → Option Entry
-entry_of breaks n = find (is_entry breaks n)
+-- whether there is one of this number
+abbrev pub has_entry : Bool → ℕ → List Entry → Bool
+has_entry breaks n stops = list_any (is_entry breaks n) stops
 
 -- the reason of a refused place
 abbrev pub reason_of : {A : Type 0} → Result A C → Option C
@@ -79,8 +80,8 @@ listed_at s h place = listed_of (local_names s.machine.program h.state.frames) (
 abbrev pub refusal : Command → Stand → Snapshot → Option C
 refusal (Break spot) s h = if nat_le most s.made then Some BadArgument else if is_none (site_of s.machine.program spot) then Some NoSuchPlace else None
 refusal (Watch place) s h = if nat_le most s.made then Some BadArgument else reason_of (place_of s.machine.program place)
-refusal (Delete n) s h = if is_none (entry_of true n s.stops) then Some NoSuchNumber else None
-refusal (Unwatch n) s h = if is_none (entry_of false n s.stops) then Some NoSuchNumber else None
+refusal (Delete n) s h = if has_entry true n s.stops then None else Some NoSuchNumber
+refusal (Unwatch n) s h = if has_entry false n s.stops then None else Some NoSuchNumber
 refusal (Move Forward goal) s h = if is_some h.over then Some ProgramEnded else if leaves_none goal h then Some NotInFunction else None
 refusal (Move Back goal) s h = if leaves_none goal h then Some NotInFunction else None
 refusal Run s h = None
@@ -114,12 +115,16 @@ rewound s = record s { machine = back_at s.machine.oldest s.machine }
 abbrev pub Makes : Stop → Stand → Answer → Stand → Type 0
 Makes stop old answer new =
     let entry : Entry = record { number = old.made + 1; stop = stop } in
-    (answer ≡ Made entry) × (new ≡ record old { stops = old.stops ++ entry ∷ []; made = old.made + 1 })
+    (answer ≡ Made) × (new ≡ record old { stops = old.stops ++ entry ∷ []; made = old.made + 1 })
+
+abbrev pub deleted : Bool → ℕ → Answer
+deleted true n = BreakDeleted n
+deleted false n = WatchDeleted n
 
 -- without the breakpoint, or the watch, of this number
 abbrev pub Removes : Bool → ℕ → Stand → Answer → Stand → Type 0
 Removes breaks n old answer new =
-    (e : Entry) × (entry_of breaks n old.stops ≡ Some e) × (answer ≡ Deleted e) × (new ≡ record old { stops = filter (λ e. not (is_entry breaks n e)) old.stops })
+    (has_entry breaks n old.stops ≡ true) × (answer ≡ deleted breaks n) × (new ≡ record old { stops = filter (λ e. not (is_entry breaks n e)) old.stops })
 
 -- an array is shown with its elements, and any other place with its value
 abbrev pub Shows : Option Array → Result Lvalue C → Answer → Type 0

@@ -19,6 +19,8 @@ use Rattle.rawk_commands.specs.declared.command.Constant.{Constant}
 use Rattle.rawk_commands.specs.declared.command.Constant.TheVariants as constant
 use Rattle.rawk_commands.specs.declared.command.C.{C}
 use Rattle.rawk_commands.specs.declared.command.C.TheVariants.{BadArgument, NoSuchVariable}
+use Rattle.rawk_debug.specs.declared.stop.Scalar.{Scalar}
+use Rattle.rawk_debug.specs.declared.stop.Scalar.TheVariants as scalar
 use Rattle.rawk_debug.specs.declared.stop.Watched.{Watched}
 use Rattle.rawk_debug.specs.declared.stop.Watched.TheVariants as watched
 use Rattle.rawk_debug.specs.declared.stop.Lvalue.{Lvalue}
@@ -29,8 +31,8 @@ use Rattle.rawk_words.specs.declared.array.Array.TheVariants as array
 use Rattle.rawk_code.specs.Actions.{fault_of}
 
 -- what the name of a scalar is: NF, a special variable, or a global of the program
-abbrev pub scalar_named : List Bytes → Bytes → Option Watched
-scalar_named names name = if is_field_count name then Some watched.FieldCount else option_map watched.Global (global_number names name)
+abbrev pub scalar_named : List Bytes → Bytes → Option Scalar
+scalar_named names name = if is_field_count name then Some scalar.FieldCount else option_map scalar.Global (global_number names name)
 
 -- the value, or else why there is none
 abbrev pub or_refused : {A : Type 0} → C → Option A → Result A C
@@ -38,7 +40,7 @@ or_refused reason None = Err reason
 or_refused reason (Some place) = Ok place
 
 -- the place that a name of a program is, or why it is none: the name of an array is no place
-abbrev pub named : Program → Bytes → Result Watched C
+abbrev pub named : Program → Bytes → Result Scalar C
 named p name = if names_array p.names.items p.kinds.items name then Err BadArgument else or_refused NoSuchVariable (scalar_named p.names.items name)
 
 -- why a name with a subscript is refused, by what the name is without one
@@ -46,14 +48,28 @@ abbrev pub subscript_refusal : {A : Type 0} → Result A C → C
 subscript_refusal (Ok place) = BadArgument
 subscript_refusal (Err reason) = reason
 
--- a place that can be watched, or why it is refused: a name that is none, an array, or a subscript on a scalar
+-- the number of the array that a name of a program is, if it is one
+abbrev pub array_number : Program → Bytes → Option ℕ
+array_number p name = if names_array p.names.items p.kinds.items name then position (bytes_eq name) p.names.items else None
+
+-- a scalar, to be watched
+abbrev pub scalar_watched : Result Scalar C → Result Watched C
+scalar_watched (Ok place) = Ok (watched.Scalar place)
+scalar_watched (Err reason) = Err reason
+
+-- the element at a key of the array of a number, to be watched, or why there is none
+abbrev pub element_watched : Option ℕ → Bytes → C → Result Watched C
+element_watched (Some array) key reason = Ok (watched.Element array key)
+element_watched None key reason = Err reason
+
+-- a place that can be watched, or why it is refused: a name that is none, an array without a subscript, or a subscript on a scalar
 abbrev pub place_of : Program → Place → Result Watched C
-place_of p (Name name) = named p name
-place_of p (Element name key) = Err (subscript_refusal (named p name))
-place_of p (Field number) = Ok (watched.Field number)
+place_of p (Name name) = scalar_watched (named p name)
+place_of p (Element name key) = element_watched (array_number p name) key (subscript_refusal (named p name))
+place_of p (Field number) = Ok (watched.Scalar (scalar.Field number))
 
 -- the place that a name is where these are what the locals are: one of them, or else what it is everywhere; one that is an array is no place
-abbrev pub local_or : List Kind → Option ℕ → Result Watched C → Result Lvalue C
+abbrev pub local_or : List Kind → Option ℕ → Result Scalar C → Result Lvalue C
 local_or kinds (Some number) elsewhere = if is_array (slice_get kinds number) then Err BadArgument else Ok (Local number)
 local_or kinds None (Ok place) = Ok (Shared place)
 local_or kinds None (Err reason) = Err reason
@@ -63,7 +79,7 @@ named_here locals kinds p name = local_or kinds (position (bytes_eq name) locals
 
 -- the array that a name of a program is, if it is one
 abbrev pub array_named : Program → Bytes → Option Array
-array_named p name = if names_array p.names.items p.kinds.items name then option_map array.Global (position (bytes_eq name) p.names.items) else None
+array_named p name = option_map array.Global (array_number p name)
 
 -- the array that a name is where these are what the locals are: one of them, or else what it is everywhere
 abbrev pub local_array_or : List Kind → Option ℕ → Option Array → Option Array
@@ -88,7 +104,7 @@ listed_of locals kinds p (Field number) = None
 abbrev pub lvalue_of : List Bytes → List Kind → Program → Place → Result Lvalue C
 lvalue_of locals kinds p (Name name) = named_here locals kinds p name
 lvalue_of locals kinds p (Element name key) = element_of (array_here locals kinds p name) key (subscript_refusal (named_here locals kinds p name))
-lvalue_of locals kinds p (Field number) = Ok (Shared (watched.Field number))
+lvalue_of locals kinds p (Field number) = Ok (Shared (scalar.Field number))
 
 -- the site of a breakpoint: the first one on a line, or the entry of a function
 abbrev pub site_of : Program → Spot → Option ℕ
@@ -96,10 +112,10 @@ site_of p (Line line) = position (λ at. nat_eq at line) p.lines.items
 site_of p (Function name) = entry_of p.functions.items name
 
 -- what is assigned
-abbrev pub shared_target : Watched → Target
-shared_target (watched.Global number) = target.Global number
-shared_target watched.FieldCount = target.FieldCount
-shared_target (watched.Field number) = target.Field number
+abbrev pub shared_target : Scalar → Target
+shared_target (scalar.Global number) = target.Global number
+shared_target scalar.FieldCount = target.FieldCount
+shared_target (scalar.Field number) = target.Field number
 
 abbrev pub target_of : Lvalue → Target
 target_of (Local number) = target.Local number

@@ -8,9 +8,9 @@ ghost use Rattle.rawk_debug.specs.Answers.{behind_shown, shown_of, stop_lines, t
 use crate::search::hits_here;
 use crate::session::Session;
 use crate::stepper::Stepper;
-use crate::stop::{Entry, Lvalue};
+use crate::stop::Lvalue;
 use crate::text::{
-    output_from, push_array, push_backtrace, push_deleted, push_line_end, push_made,
+    output_from, push_array, push_backtrace, push_deleted, push_line_end, push_newest,
     push_place_line, push_shown_line, push_stop_line,
 };
 use rawk_commands::{C, push_text};
@@ -34,10 +34,12 @@ pub enum Answer {
     Listed(Array),
     /// The last set of this point stands no more.
     TakenBack,
-    /// A breakpoint or a watch was made.
-    Made(Entry),
-    /// A breakpoint or a watch was removed.
-    Deleted(Entry),
+    /// A breakpoint or a watch was made, the last one.
+    Made,
+    /// The breakpoint of this number was removed.
+    BreakDeleted(u64),
+    /// The watch of this number was removed.
+    WatchDeleted(u64),
     /// The activations are told.
     Traced,
     /// The session is to end.
@@ -52,8 +54,8 @@ fn push_stop_lines<M: Stepper>(out: &mut Vec<u8>, session: &Session<M>) -> Resul
 {
     let program = session.machine.program();
     for entry in &session.stops {
-        if hits_here(&session.machine, entry.stop) {
-            push_stop_line(out, &program.names, *entry)?;
+        if hits_here(&session.machine, &entry.stop) {
+            push_stop_line(out, &program.names, entry)?;
         }
     }
     Ok(())
@@ -104,8 +106,9 @@ fn push_behind<M: Stepper>(
         Answer::Shown(place) => push_shown_line(out, &session.machine, place),
         Answer::Listed(array) => push_array(alloc, out, &session.machine, *array),
         Answer::TakenBack => push_text(out, b"set taken back\n"),
-        Answer::Made(entry) => push_made(out, session.machine.program(), *entry),
-        Answer::Deleted(entry) => push_deleted(out, *entry),
+        Answer::Made => push_newest(out, session.machine.program(), &session.stops),
+        Answer::BreakDeleted(number) => push_deleted(out, b"Deleted breakpoint ", *number),
+        Answer::WatchDeleted(number) => push_deleted(out, b"Deleted watchpoint ", *number),
         Answer::Traced => push_backtrace(out, &session.machine),
         Answer::Left => Ok(()),
     }

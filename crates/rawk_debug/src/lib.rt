@@ -14,5 +14,5 @@ pub mod transcript;
 pub use answer::Answer;
 pub use session::Session;
 pub use stepper::{Call, Stepper};
-pub use stop::{Entry, Lvalue, Stop, Watched};
+pub use stop::{Entry, Lvalue, Scalar, Stop, Watched};
 pub use transcript::{Reply, carry_out};

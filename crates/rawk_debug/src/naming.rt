@@ -4,10 +4,10 @@ ghost use Rattle.std.specs.Prelude.{◌≡◌, if◌then◌else◌, position, sl
 ghost use Rattle.std.specs.Str.{bytes_eq};
 ghost use Rattle.rawk_tree.specs.Kinds.{is_array};
 ghost use Rattle.rawk_debug.specs.Activations.{local_kinds, local_names};
-ghost use Rattle.rawk_debug.specs.Naming.{array_here, array_named, listed_of, scalar_named, subscript_refusal, named, named_here, place_of, lvalue_of, site_of, shared_target, target_of, constant_value};
+ghost use Rattle.rawk_debug.specs.Naming.{array_here, array_named, array_number, listed_of, scalar_named, subscript_refusal, named, named_here, place_of, lvalue_of, site_of, shared_target, target_of, constant_value};
 
 use crate::stepper::Stepper;
-use crate::stop::{Lvalue, Watched};
+use crate::stop::{Lvalue, Scalar, Watched};
 use rawk_commands::{C, Constant, Place, Spot};
 use rawk_special::{global_number, is_field_count};
 use rawk_store::Target;
@@ -17,20 +17,20 @@ use rawk_words::Array;
 use std::alloc::AllocError;
 
 /// What the name of a scalar is everywhere.
-fn scalar_named(names: &[Bytes], name: &[u8]) -> Option<Watched>
+fn scalar_named(names: &[Bytes], name: &[u8]) -> Option<Scalar>
     ensures { result ≡ scalar_named names.now name.now }
 {
     if is_field_count(name) {
-        return Some(Watched::FieldCount);
+        return Some(Scalar::FieldCount);
     }
     match global_number(names, name) {
-        Some(number) => Some(Watched::Global(number)),
+        Some(number) => Some(Scalar::Global(number)),
         None => None,
     }
 }
 
 /// The place that a name is everywhere, or why it is none: the name of an array is no place.
-fn named(program: &Program, name: &[u8]) -> Result<Watched, C>
+fn named(program: &Program, name: &[u8]) -> Result<Scalar, C>
     ensures { result ≡ named program.now name.now }
 {
     if program.is_array(name) {
@@ -73,14 +73,21 @@ fn named_here(locals: &[Bytes], kinds: &[Kind], program: &Program, name: &[u8]) 
     }
 }
 
-/// The array that a name is everywhere, if it is one.
-fn array_named(program: &Program, name: &[u8]) -> Option<Array>
-    ensures { result ≡ array_named program.now name.now }
+/// The number of the array that a name is everywhere, if it is one.
+fn array_number(program: &Program, name: &[u8]) -> Option<usize>
+    ensures { result ≡ array_number program.now name.now }
 {
     if !program.is_array(name) {
         return None;
     }
-    match place_among(&program.names, name) {
+    place_among(&program.names, name)
+}
+
+/// The array that a name is everywhere, if it is one.
+fn array_named(program: &Program, name: &[u8]) -> Option<Array>
+    ensures { result ≡ array_named program.now name.now }
+{
+    match array_number(program, name) {
         Some(number) => Some(Array::Global(number)),
         None => None,
     }
@@ -124,7 +131,7 @@ pub(crate) fn listed_of(
 }
 
 /// Why a name with a subscript that is no array is refused.
-fn subscript_refusal(named: Result<Lvalue, C>) -> C
+fn subscript_refusal<T: Drop>(named: Result<T, C>) -> C
     ensures { result ≡ subscript_refusal named }
 {
     match named {
@@ -174,21 +181,24 @@ pub(crate) fn lvalue_of(
             Some(array) => Ok(Lvalue::Element(array, key)),
             None => Err(subscript_refusal(named_here(locals, kinds, program, name.as_slice()))),
         },
-        Place::Field(number) => Ok(Lvalue::Shared(Watched::Field(number))),
+        Place::Field(number) => Ok(Lvalue::Shared(Scalar::Field(number))),
     }
 }
 
 /// A place that can be watched, or why it is refused.
-pub(crate) fn place_of(program: &Program, place: &Place) -> Result<Watched, C>
-    ensures { result ≡ place_of program.now place.now }
+pub(crate) fn place_of(program: &Program, place: Place) -> Result<Watched, C>
+    ensures { result ≡ place_of program.now place }
 {
     match place {
-        Place::Name(name) => named(program, name.as_slice()),
-        Place::Element(name, _) => match named(program, name.as_slice()) {
-            Ok(_) => Err(C::BadArgument),
+        Place::Name(name) => match named(program, name.as_slice()) {
+            Ok(place) => Ok(Watched::Scalar(place)),
             Err(reason) => Err(reason),
         },
-        Place::Field(number) => Ok(Watched::Field(*number)),
+        Place::Element(name, key) => match array_number(program, name.as_slice()) {
+            Some(array) => Ok(Watched::Element(array, key)),
+            None => Err(subscript_refusal(named(program, name.as_slice()))),
+        },
+        Place::Field(number) => Ok(Watched::Scalar(Scalar::Field(number))),
     }
 }
 
@@ -203,13 +213,13 @@ pub(crate) fn site_of(program: &Program, spot: &Spot) -> Option<usize>
 }
 
 /// What is assigned of what all activations share.
-fn shared_target(place: Watched) -> Target
+fn shared_target(place: Scalar) -> Target
     ensures { result ≡ shared_target place }
 {
     match place {
-        Watched::Global(number) => Target::Global(number),
-        Watched::FieldCount => Target::FieldCount,
-        Watched::Field(number) => Target::Field(number),
+        Scalar::Global(number) => Target::Global(number),
+        Scalar::FieldCount => Target::FieldCount,
+        Scalar::Field(number) => Target::Field(number),
     }
 }
 

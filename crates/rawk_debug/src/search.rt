@@ -16,13 +16,13 @@ use rawk_compiler::laws;
 use std::alloc::{AllocError, Global};
 
 /// Whether a breakpoint or a watch stops where the machine stands.
-pub(crate) fn hits_here<M: Stepper>(machine: &M, stop: Stop) -> bool
+pub(crate) fn hits_here<M: Stepper>(machine: &M, stop: &Stop) -> bool
     requires { IsTrue (M.fresh machine.now) }
-    ensures { result ≡ hits (M.before machine.now) (M.held machine.now) stop }
+    ensures { result ≡ hits (M.before machine.now) (M.held machine.now) stop.now }
 {
     match stop {
         Stop::Break(site) => match machine.site() {
-            Some(stands) => stands == site && !machine.is_over(),
+            Some(stands) => stands == *site && !machine.is_over(),
             None => false,
         },
         Stop::Watch(place) => machine.changed(place),
@@ -36,7 +36,7 @@ impl<M: Stepper> Session<M> {
     {
         self.stops
             .iter()
-            .any(|entry| hits_here(&self.machine, entry.stop))
+            .any(|entry| hits_here(&self.machine, &entry.stop))
     }
 
     /// Whether a move that began at this depth ends here.

@@ -1,9 +1,9 @@
 //! A debugger's session.
 
-ghost use Rattle.std.specs.Prelude.{◌≡◌, ◌≢◌, ◌<◌, [], false, not, filter, Err, None, IfOk, IfErr};
+ghost use Rattle.std.specs.Prelude.{◌≡◌, ◌≢◌, ◌<◌, [], false, not, filter, Err, IfOk, IfErr};
 ghost use Rattle.rawk_tape.specs.Records.{Input};
 ghost use Rattle.rawk_commands.specs.declared.command.C.TheVariants.{OutOfMemory, NoSuchNumber};
-ghost use Rattle.rawk_debug.specs.Commands.{Makes, Removes, Executes, IsReady, goes_forward, needs_memory, entry_of, is_entry, is_kind, listed_at, lvalue_at, most};
+ghost use Rattle.rawk_debug.specs.Commands.{Makes, Removes, Executes, IsReady, deleted, goes_forward, needs_memory, has_entry, is_entry, is_kind, listed_at, lvalue_at, most};
 ghost use Rattle.rawk_debug.specs.Sessions.{stand, machine_of};
 ghost use Rattle.rawk_debug.specs.Works.{Draws};
 
@@ -29,8 +29,8 @@ pub struct Session<M> {
 }
 
 /// Whether it is a breakpoint, or else whether it is a watch.
-fn is_kind(breaks: bool, stop: Stop) -> bool
-    ensures { result ≡ is_kind breaks stop }
+fn is_kind(breaks: bool, stop: &Stop) -> bool
+    ensures { result ≡ is_kind breaks stop.now }
 {
     match stop {
         Stop::Break(_) => breaks,
@@ -39,26 +39,34 @@ fn is_kind(breaks: bool, stop: Stop) -> bool
 }
 
 /// Whether it is the breakpoint, or the watch, of this number.
-fn is_entry(breaks: bool, number: u64, entry: Entry) -> bool
-    ensures { result ≡ is_entry breaks number entry }
+fn is_entry(breaks: bool, number: u64, entry: &Entry) -> bool
+    ensures { result ≡ is_entry breaks number entry.now }
 {
-    entry.number == number && is_kind(breaks, entry.stop)
+    entry.number == number && is_kind(breaks, &entry.stop)
 }
 
-/// The breakpoint, or the watch, of a number.
-fn entry_of(breaks: bool, number: u64, stops: &[Entry]) -> Option<Entry>
-    ensures { result ≡ entry_of breaks number stops.now }
+/// Whether there is a breakpoint, or a watch, of a number.
+fn has_entry(breaks: bool, number: u64, stops: &[Entry]) -> bool
+    ensures { result ≡ has_entry breaks number stops.now }
 {
-    stops
-        .iter()
-        .copied()
-        .find(|entry| is_entry(breaks, number, *entry))
+    stops.iter().any(|entry| is_entry(breaks, number, entry))
+}
+
+/// What is told of a breakpoint, or a watch, that was removed.
+fn deleted(breaks: bool, number: u64) -> Answer
+    ensures { result ≡ deleted breaks number }
+{
+    if breaks {
+        Answer::BreakDeleted(number)
+    } else {
+        Answer::WatchDeleted(number)
+    }
 }
 
 fn remove(breaks: bool, number: u64, stops: &mut Vec<Entry>)
     ensures { stops.new.items ≡ filter (λ e. not (is_entry breaks number e)) stops.old.items }
 {
-    stops.retain(|entry| !is_entry(breaks, number, *entry));
+    stops.retain(|entry| !is_entry(breaks, number, entry));
 }
 
 impl<M: Stepper> Session<M> {
@@ -107,7 +115,7 @@ impl<M: Stepper> Session<M> {
         match self.stops.push(entry) {
             Ok(()) => {
                 self.made += 1;
-                Ok(Answer::Made(entry))
+                Ok(Answer::Made)
             }
             Err(_) => Err(C::OutOfMemory),
         }
@@ -143,7 +151,7 @@ impl<M: Stepper> Session<M> {
         if self.made >= MOST {
             return Err(C::BadArgument);
         }
-        match place_of(self.machine.program(), &place) {
+        match place_of(self.machine.program(), place) {
             Ok(watched) => self.make(Stop::Watch(watched)),
             Err(reason) => Err(reason),
         }
@@ -152,17 +160,15 @@ impl<M: Stepper> Session<M> {
     /// `delete`, or else `unwatch`.
     fn delete(&mut self, breaks: bool, number: u64) -> Result<Answer, C>
         ensures removes { IfOk result (λ answer. Removes breaks number (stand M.position self.old) answer (stand M.position self.new)) }
-        ensures err { IfErr result (λ reason. (reason ≡ NoSuchNumber) × (entry_of breaks number self.old.stops.items ≡ None) × (stand M.position self.new ≡ stand M.position self.old)) }
+        ensures err { IfErr result (λ reason. (reason ≡ NoSuchNumber) × (has_entry breaks number self.old.stops.items ≡ false) × (stand M.position self.new ≡ stand M.position self.old)) }
         ensures machine { self.new.machine ≡ self.old.machine }
         ensures ready { IfOk result (λ answer. IsReady (M.fresh self.new.machine) answer) }
     {
-        match entry_of(breaks, number, &self.stops) {
-            None => Err(C::NoSuchNumber),
-            Some(entry) => {
-                remove(breaks, number, &mut self.stops);
-                Ok(Answer::Deleted(entry))
-            }
+        if !has_entry(breaks, number, &self.stops) {
+            return Err(C::NoSuchNumber);
         }
+        remove(breaks, number, &mut self.stops);
+        Ok(deleted(breaks, number))
     }
 
     /// An array that can be shown with its elements here, if the place is one.

@@ -10,7 +10,8 @@ ghost use Rattle.rawk_arrays.specs.Walks.{texts};
 ghost use Rattle.rawk_store.specs.State.{array_in, assigned, count_in, element_in, keys_in};
 ghost use Rattle.rawk_code.specs.Actions.{fault_of};
 ghost use Rattle.rawk_debug.specs.Positions.{Position, Snapshot, IsPosition, Stands, IsTakenBack, gone_to, back_at, with_set, has_set_at};
-ghost use Rattle.rawk_debug.specs.Watching.{Observed, seen, differs};
+ghost use Rattle.rawk_store.specs.Observed.{Observed, seen};
+ghost use Rattle.rawk_debug.specs.Watching.{differs};
 ghost use Rattle.rawk_debug.specs.Activations.{call_of};
 ghost use Rattle.rawk_debug.specs.Works.{Work, Draws, read_failed};
 
@@ -133,10 +134,11 @@ pub trait Stepper: Drop {
     fn array_keys(&self, alloc: Global, array: Array) -> Result<Vec<Vec<u8>>, AllocError>
         ensures { IfOk result (λ keys. texts keys.items ≡ keys_in (array_in array (held self.now).state.frames) (held self.now).state.arrays) };
 
-    /// Whether a place's value differs between the points before and after the last step. It takes no memory.
-    fn changed(&self, place: Watched) -> bool
+    /// Whether what a place holds differs between the points before and after the last step: the value, in kind or content, or whether an element is there.
+    /// It takes no memory.
+    fn changed(&self, place: &Watched) -> bool
         requires { IsTrue (fresh self.now) }
-        ensures { result ≡ differs place (before self.now) (seen (held self.now).state) };
+        ensures { result ≡ differs place.now (before self.now) (seen (held self.now).state) };
 
     /// Goes to the next point or to the ending. It fails where memory is refused, and then stands as before. A source that is over is asked for nothing.
     fn advance(&mut self, alloc: Global) -> Result<(), AllocError>

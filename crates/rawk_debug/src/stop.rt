@@ -3,9 +3,9 @@
 use rawk_value::Bytes;
 use rawk_words::Array;
 
-/// What can be watched.
+/// A scalar that all activations share.
 #[derive(Clone, Copy)]
-pub enum Watched {
+pub enum Scalar {
     /// A global, by its number: the special variables come first.
     Global(usize),
     /// NF.
@@ -14,19 +14,28 @@ pub enum Watched {
     Field(usize),
 }
 
+/// What can be watched.
+#[derive(Drop)]
+pub enum Watched {
+    /// A scalar that all activations share.
+    Scalar(Scalar),
+    /// An element of an array of the program, by the array's number from 0 and its key.
+    Element(usize, Bytes),
+}
+
 /// What can be shown and set.
 #[derive(Drop)]
 pub enum Lvalue {
     /// A local of the innermost activation, by its number from 0.
     Local(usize),
-    /// What all activations share.
-    Shared(Watched),
+    /// A scalar that all activations share.
+    Shared(Scalar),
     /// An element of an array, by its key.
     Element(Array, Bytes),
 }
 
 /// What stops a search.
-#[derive(Clone, Copy)]
+#[derive(Drop)]
 pub enum Stop {
     /// A breakpoint at a site.
     Break(usize),
@@ -35,7 +44,7 @@ pub enum Stop {
 }
 
 /// A breakpoint or a watch, with its number.
-#[derive(Clone, Copy)]
+#[derive(Drop)]
 pub struct Entry {
     pub number: u64,
     pub stop: Stop,

@@ -1,17 +1,19 @@
 //! The texts that answers are made of. Each call adds to a text; where memory is refused, it may have added a beginning.
 
-ghost use Rattle.std.specs.Prelude.{◌≡◌, ◌++◌, [], drop, OnOk, slice_index_or};
+ghost use Rattle.std.specs.Prelude.{◌≡◌, ◌++◌, ◌∷◌, [], drop, OnOk, slice_index_or};
+ghost use Rattle.rawk_value.specs.Values.{decimal};
 ghost use Rattle.rawk_tree.specs.Sites.{line_at};
 ghost use Rattle.rawk_arrays.specs.Walks.{texts};
 ghost use Rattle.rawk_commands.specs.Texts.{shown_held, shown_value};
 ghost use Rattle.rawk_store.specs.State.{local_value};
 ghost use Rattle.rawk_debug.specs.Activations.{function_at, name_of};
-ghost use Rattle.rawk_debug.specs.Watching.{seen, value_at};
-ghost use Rattle.rawk_debug.specs.Answers.{place_text, entry_text, watch_text, stop_line, spot_text, made_line, deleted_line, at_line, fault_place, site_text, where_text, place_line, line_end, array_line, array_name, array_text, element_lines, lvalue_text, held_at, shown_line, frame_line, backtrace};
+ghost use Rattle.rawk_store.specs.Observed.{seen};
+ghost use Rattle.rawk_debug.specs.Watching.{scalar_at};
+ghost use Rattle.rawk_debug.specs.Answers.{scalar_text, place_text, entry_text, watch_text, stop_line, spot_text, made_line, newest_line, last_of, at_line, fault_place, site_text, where_text, place_line, line_end, array_line, array_name, array_text, element_lines, lvalue_text, held_at, shown_line, frame_line, backtrace};
 
 use crate::naming::local_names;
 use crate::stepper::Stepper;
-use crate::stop::{Entry, Lvalue, Stop, Watched};
+use crate::stop::{Entry, Lvalue, Scalar, Stop, Watched};
 use rawk_commands::{push_element, push_held, push_number, push_shown, push_text, push_value};
 use rawk_frames::Local;
 use rawk_record::FieldRef;
@@ -22,25 +24,35 @@ use rawk_value::{Bytes, Fault};
 use rawk_words::Array;
 use std::alloc::{AllocError, Global};
 
-/// Adds a place.
-fn push_place(out: &mut Vec<u8>, names: &[Bytes], place: Watched) -> Result<(), AllocError>
-    ensures { OnOk result (out.new.items ≡ out.old.items ++ place_text names.now place) }
+/// Adds a scalar.
+fn push_scalar(out: &mut Vec<u8>, names: &[Bytes], place: Scalar) -> Result<(), AllocError>
+    ensures { OnOk result (out.new.items ≡ out.old.items ++ scalar_text names.now place) }
 {
     match place {
-        Watched::Global(number) => push_text(out, global_name(names, number)),
-        Watched::FieldCount => push_text(out, FIELD_COUNT),
-        Watched::Field(number) => {
+        Scalar::Global(number) => push_text(out, global_name(names, number)),
+        Scalar::FieldCount => push_text(out, FIELD_COUNT),
+        Scalar::Field(number) => {
             push_text(out, b"$")?;
             push_number(out, number as u64)
         }
     }
 }
 
-/// Adds a breakpoint's or a watch's kind and number.
-fn push_entry(out: &mut Vec<u8>, entry: Entry) -> Result<(), AllocError>
-    ensures { OnOk result (out.new.items ≡ out.old.items ++ entry_text entry) }
+/// Adds a place that is watched.
+fn push_place(out: &mut Vec<u8>, names: &[Bytes], place: &Watched) -> Result<(), AllocError>
+    ensures { OnOk result (out.new.items ≡ out.old.items ++ place_text names.now place.now) }
 {
-    match entry.stop {
+    match place {
+        Watched::Scalar(place) => push_scalar(out, names, *place),
+        Watched::Element(array, key) => push_element(out, name_at(names, *array), key.as_slice()),
+    }
+}
+
+/// Adds a breakpoint's or a watch's kind and number.
+fn push_entry(out: &mut Vec<u8>, entry: &Entry) -> Result<(), AllocError>
+    ensures { OnOk result (out.new.items ≡ out.old.items ++ entry_text entry.now) }
+{
+    match &entry.stop {
         Stop::Break(_) => {
             push_text(out, b"Breakpoint ")?;
             push_number(out, entry.number)
@@ -53,8 +65,8 @@ fn push_entry(out: &mut Vec<u8>, entry: Entry) -> Result<(), AllocError>
 }
 
 /// Adds a watch's place, behind a colon.
-fn push_watch(out: &mut Vec<u8>, names: &[Bytes], stop: Stop) -> Result<(), AllocError>
-    ensures { OnOk result (out.new.items ≡ out.old.items ++ watch_text names.now stop) }
+fn push_watch(out: &mut Vec<u8>, names: &[Bytes], stop: &Stop) -> Result<(), AllocError>
+    ensures { OnOk result (out.new.items ≡ out.old.items ++ watch_text names.now stop.now) }
 {
     match stop {
         Stop::Break(_) => Ok(()),
@@ -69,23 +81,23 @@ fn push_watch(out: &mut Vec<u8>, names: &[Bytes], stop: Stop) -> Result<(), Allo
 pub(crate) fn push_stop_line(
     out: &mut Vec<u8>,
     names: &[Bytes],
-    entry: Entry,
+    entry: &Entry,
 ) -> Result<(), AllocError>
-    ensures { OnOk result (out.new.items ≡ out.old.items ++ stop_line names.now entry) }
+    ensures { OnOk result (out.new.items ≡ out.old.items ++ stop_line names.now entry.now) }
 {
     push_entry(out, entry)?;
-    push_watch(out, names, entry.stop)?;
+    push_watch(out, names, &entry.stop)?;
     push_text(out, b"\n")
 }
 
 /// Adds a breakpoint's line, or a watch's place behind a colon.
-fn push_spot(out: &mut Vec<u8>, program: &Program, stop: Stop) -> Result<(), AllocError>
-    ensures { OnOk result (out.new.items ≡ out.old.items ++ spot_text program.now.lines.items program.now.names.items stop) }
+fn push_spot(out: &mut Vec<u8>, program: &Program, stop: &Stop) -> Result<(), AllocError>
+    ensures { OnOk result (out.new.items ≡ out.old.items ++ spot_text program.now.lines.items program.now.names.items stop.now) }
 {
     match stop {
         Stop::Break(site) => {
             push_text(out, b" at line ")?;
-            push_number(out, program.line_of_site(Some(site)))
+            push_number(out, program.line_of_site(Some(*site)))
         }
         Stop::Watch(place) => {
             push_text(out, b": ")?;
@@ -95,27 +107,34 @@ fn push_spot(out: &mut Vec<u8>, program: &Program, stop: Stop) -> Result<(), All
 }
 
 /// Adds the line of a breakpoint or a watch that was made.
-pub(crate) fn push_made(
-    out: &mut Vec<u8>,
-    program: &Program,
-    entry: Entry,
-) -> Result<(), AllocError>
-    ensures { OnOk result (out.new.items ≡ out.old.items ++ made_line program.now.lines.items program.now.names.items entry) }
+fn push_made(out: &mut Vec<u8>, program: &Program, entry: &Entry) -> Result<(), AllocError>
+    ensures { OnOk result (out.new.items ≡ out.old.items ++ made_line program.now.lines.items program.now.names.items entry.now) }
 {
     push_entry(out, entry)?;
-    push_spot(out, program, entry.stop)?;
+    push_spot(out, program, &entry.stop)?;
     push_text(out, b"\n")
 }
 
-/// Adds the line of a breakpoint or a watch that was removed.
-pub(crate) fn push_deleted(out: &mut Vec<u8>, entry: Entry) -> Result<(), AllocError>
-    ensures { OnOk result (out.new.items ≡ out.old.items ++ deleted_line entry) }
+/// Adds the line of the last one that was made, if there is one.
+pub(crate) fn push_newest(
+    out: &mut Vec<u8>,
+    program: &Program,
+    stops: &[Entry],
+) -> Result<(), AllocError>
+    ensures { OnOk result (out.new.items ≡ out.old.items ++ newest_line program.now.lines.items program.now.names.items (last_of stops.now)) }
 {
-    match entry.stop {
-        Stop::Break(_) => push_text(out, b"Deleted breakpoint ")?,
-        Stop::Watch(_) => push_text(out, b"Deleted watchpoint ")?,
+    match stops.last() {
+        Some(entry) => push_made(out, program, entry),
+        None => Ok(()),
     }
-    push_number(out, entry.number)?;
+}
+
+/// Adds the line of a breakpoint or a watch that was removed: what it was, and its number.
+pub(crate) fn push_deleted(out: &mut Vec<u8>, what: &[u8], number: u64) -> Result<(), AllocError>
+    ensures { OnOk result (out.new.items ≡ out.old.items ++ (what.now ++ decimal number ++ 10 ∷ [])) }
+{
+    push_text(out, what)?;
+    push_number(out, number)?;
     push_text(out, b"\n")
 }
 
@@ -257,7 +276,7 @@ pub(crate) fn push_line_end(out: &mut Vec<u8>, text: &[u8]) -> Result<(), AllocE
 
 /// Adds a global's value.
 fn push_global<M: Stepper>(out: &mut Vec<u8>, machine: &M, number: usize) -> Result<(), AllocError>
-    ensures { OnOk result (out.new.items ≡ out.old.items ++ shown_value (value_at (Watched.Global number) (seen (M.held machine.now).state))) }
+    ensures { OnOk result (out.new.items ≡ out.old.items ++ shown_value (scalar_at (Scalar.Global number) (seen (M.held machine.now).state))) }
 {
     match machine.global(number) {
         Some(value) => push_value(out, value),
@@ -267,7 +286,7 @@ fn push_global<M: Stepper>(out: &mut Vec<u8>, machine: &M, number: usize) -> Res
 
 /// Adds a field's value.
 fn push_field<M: Stepper>(out: &mut Vec<u8>, machine: &M, number: usize) -> Result<(), AllocError>
-    ensures { OnOk result (out.new.items ≡ out.old.items ++ shown_value (value_at (Watched.Field number) (seen (M.held machine.now).state))) }
+    ensures { OnOk result (out.new.items ≡ out.old.items ++ shown_value (scalar_at (Scalar.Field number) (seen (M.held machine.now).state))) }
 {
     if number == 0 {
         return push_shown(out, machine.text());
@@ -279,18 +298,18 @@ fn push_field<M: Stepper>(out: &mut Vec<u8>, machine: &M, number: usize) -> Resu
     }
 }
 
-/// Adds a place's value.
-fn push_value_at<M: Stepper>(
+/// Adds a scalar's value.
+fn push_scalar_value<M: Stepper>(
     out: &mut Vec<u8>,
     machine: &M,
-    place: Watched,
+    place: Scalar,
 ) -> Result<(), AllocError>
-    ensures { OnOk result (out.new.items ≡ out.old.items ++ shown_value (value_at place (seen (M.held machine.now).state))) }
+    ensures { OnOk result (out.new.items ≡ out.old.items ++ shown_value (scalar_at place (seen (M.held machine.now).state))) }
 {
     match place {
-        Watched::Global(number) => push_global(out, machine, number),
-        Watched::FieldCount => push_number(out, machine.field_count() as u64),
-        Watched::Field(number) => push_field(out, machine, number),
+        Scalar::Global(number) => push_global(out, machine, number),
+        Scalar::FieldCount => push_number(out, machine.field_count() as u64),
+        Scalar::Field(number) => push_field(out, machine, number),
     }
 }
 
@@ -325,7 +344,7 @@ fn push_lvalue(
 {
     match place {
         Lvalue::Local(number) => push_text(out, name_at(locals, *number)),
-        Lvalue::Shared(place) => push_place(out, names, *place),
+        Lvalue::Shared(place) => push_scalar(out, names, *place),
         Lvalue::Element(array, key) => {
             push_element(out, array_name(locals, names, *array), key.as_slice())
         }
@@ -353,7 +372,7 @@ fn push_held_at<M: Stepper>(
 {
     match place {
         Lvalue::Local(number) => push_local(out, machine, *number),
-        Lvalue::Shared(place) => push_value_at(out, machine, *place),
+        Lvalue::Shared(place) => push_scalar_value(out, machine, *place),
         Lvalue::Element(array, key) => push_held(out, machine.element(*array, key.as_slice())),
     }
 }

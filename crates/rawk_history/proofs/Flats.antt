@@ -19,7 +19,7 @@ use Rattle.rawk_history.specs.Saving.{saved_in_groups, saved_by, saved_by_all, s
 use Rattle.rawk_history.specs.Flat.{first_if, rest_if, items_of, step_by, step_of, kept_of, newest_slow, registers_by, slow_of, AreMarked, EndsBehind, IsFull}
 use Rattle.rawk_store.specs.Layout.{Layout}
 use Rattle.rawk_history.specs.Keeping.{IsPutBack, KeepsStep}
-use Rattle.rawk_store.specs.GroupBack.{FitsIn, put_back}
+use Rattle.rawk_store.specs.GroupBack.{ArraysFit, FitsIn, arrays_in, put_back}
 use Rattle.rawk_slots.specs.Back.{back}
 use Rattle.rawk_record.specs.Shown.{record_back}
 use Rattle.rawk_store.specs.declared.registers.Registers.{Registers}
@@ -144,14 +144,14 @@ is_added start now list longer others fo current fr output out registers regs ta
 
 -- the newest step, and those before it
 pub put_back_is : (marks marks2 : List Mark) (m : Mark) (slows slows2 : List Slow) (slow : Slow) (globals globals2 : List (Saved Value)) (live : ℕ) (others others2 : List Others) (records records2 : List Shown) (sets sets2 : List (Vec Group)) (took : Option Others) (earlier : Option Shown) (group_sets : Option (Vec Group))
-    (item : Kept) (rest : List Kept) (old new : Layout) (cut : List (Saved Value)) (stood ready newer_sets : List Group) (newer : Option Shown) →
+    (item : Kept) (rest : List Kept) (old new : Layout) (cut : List (Saved Value)) (stood ready newer_sets : List Group) (newer_others : Option Others) (newer : Option Shown) →
     marks ≡ marks2 ++ m ∷ [] → cut ≡ take live globals → took ≡ first_if m.has_others (reverse others) → earlier ≡ first_if m.has_record (reverse records) → group_sets ≡ first_if m.has_sets (reverse sets) → slow ≡ newest_slow (reverse slows) → reverse slows2 ≡ rest_if m.has_state (reverse slows) →
     reverse others2 ≡ rest_if m.has_others (reverse others) → reverse records2 ≡ rest_if m.has_record (reverse records) → reverse sets2 ≡ rest_if m.has_sets (reverse sets) →
-    take m.globals globals2 ≡ take m.globals cut → new ≡ put_back old (step_of m slow cut took earlier) → back new.globals (drop m.globals globals2) ≡ old.globals → record_back new.current newer ≡ old.current →
+    take m.globals globals2 ≡ take m.globals cut → new ≡ put_back old (step_of m slow cut took earlier) → back new.globals (drop m.globals globals2) ≡ old.globals → arrays_in new.arrays newer_others ≡ old.arrays → ArraysFit newer_others new.arrays → record_back new.current newer ≡ old.current →
     ready ≡ items_of group_sets → newer_sets ≡ stood →
     kept_of (reverse marks) (reverse slows) (take live globals) (reverse others) (reverse records) (reverse sets) ≡ item ∷ rest →
-    IsPutBack item rest old new stood ready (kept_of (reverse marks2) (reverse slows2) (take m.globals globals2) (reverse others2) (reverse records2) (reverse sets2)) (Some (record { globals = drop m.globals globals2; current = newer; sets = newer_sets }))
-put_back_is marks marks2 m slows slows2 slow globals globals2 live others others2 records records2 sets sets2 took earlier group_sets item rest old new cut stood ready newer_sets newer marked is o r s w w2 o2 r2 s2 same now globals_forth current_forth readied stood_is e =
+    IsPutBack item rest old new stood ready (kept_of (reverse marks2) (reverse slows2) (take m.globals globals2) (reverse others2) (reverse records2) (reverse sets2)) (Some (record { globals = drop m.globals globals2; others = newer_others; current = newer; sets = newer_sets }))
+put_back_is marks marks2 m slows slows2 slow globals globals2 live others others2 records records2 sets sets2 took earlier group_sets item rest old new cut stood ready newer_sets newer_others newer marked is o r s w w2 o2 r2 s2 same now globals_forth arrays_forth fits_forth current_forth readied stood_is e =
     let mine : Kept = record { step = step_of m (newest_slow (reverse slows)) (take live globals) (first_if m.has_others (reverse others)) (first_if m.has_record (reverse records)); sets = items_of (first_if m.has_sets (reverse sets)) } in
     let older : List Kept = kept_of (reverse marks2) (rest_if m.has_state (reverse slows)) (take m.globals (take live globals)) (rest_if m.has_others (reverse others)) (rest_if m.has_record (reverse records)) (rest_if m.has_sets (reverse sets)) in
     let whole : mine ∷ older ≡ item ∷ rest =
@@ -162,7 +162,7 @@ put_back_is marks marks2 m slows slows2 slow globals globals2 live others others
       now = now ∙ ap (λ (g : Group). put_back old g) (step ∙ ap (λ (k : Kept). k.step) first);
       sets = readied ∙ (ap items_of s ∙ ap (λ (k : Kept). k.sets) first);
       left = rw (same, is, w2, o2, r2, s2) (same_rest mine item older rest whole);
-      forth = record { forth = record { globals = drop m.globals globals2; current = newer; sets = newer_sets }; is = refl; globals = globals_forth; current = current_forth; sets = stood_is };
+      forth = record { forth = record { globals = drop m.globals globals2; others = newer_others; current = newer; sets = newer_sets }; is = refl; globals = globals_forth; arrays = arrays_forth; fits = fits_forth; current = current_forth; sets = stood_is };
     }
 
 -- the newest step fits
@@ -180,11 +180,12 @@ fits_newest marks marks2 m slows slow globals live others records sets took earl
 
 -- the newest step, lent
 pub newest_is : (marks : List Mark) (m : Mark) (slows : List Slow) (globals : List (Saved Value)) (others : List Others) (records : List Shown) (sets : List (Vec Group)) → (ms : List Mark) → reverse marks ≡ m ∷ ms →
-    (item : Kept) × (rest : List Kept) × (kept_of (reverse marks) slows globals others records sets ≡ item ∷ rest) × (item.step.globals ≡ drop m.globals globals) × (item.step.current ≡ first_if m.has_record records)
+    (item : Kept) × (rest : List Kept) × (kept_of (reverse marks) slows globals others records sets ≡ item ∷ rest) × (item.step.globals ≡ drop m.globals globals) × (item.step.current ≡ first_if m.has_record records) × (item.step.others ≡ first_if m.has_others others)
 newest_is marks m slows globals others records sets ms is = (
   record { step = step_of m (newest_slow slows) globals (first_if m.has_others others) (first_if m.has_record records); sets = items_of (first_if m.has_sets sets) },
   kept_of ms (rest_if m.has_state slows) (take m.globals globals) (rest_if m.has_others others) (rest_if m.has_record records) (rest_if m.has_sets sets),
   ap (λ (xs : List Mark). kept_of xs slows globals others records sets) is,
+  refl,
   refl,
   refl,
 )

@@ -5,7 +5,7 @@ use Rattle.rawk_record.specs.Shown.{record_back}
 use Rattle.rawk_store.specs.Layout.{Layout}
 use Rattle.rawk_store.specs.Groups.{Group}
 use Rattle.rawk_history.specs.Steps.{Kept, Forth}
-use Rattle.rawk_store.specs.GroupBack.{FitsIn, put_back}
+use Rattle.rawk_store.specs.GroupBack.{ArraysFit, FitsIn, arrays_in, put_back}
 
 -- the first part of a list
 pub record IsFront {T : Type 0} (xs ys : List T) : Type 0 where
@@ -35,6 +35,8 @@ pub record LeadsForth (back_there now : Layout) (groups : List Group) (ahead : O
   pub forth : Forth
   pub is : ahead ≡ Some forth
   pub globals : back back_there.globals forth.globals ≡ now.globals
+  pub arrays : arrays_in back_there.arrays forth.others ≡ now.arrays
+  pub fits : ArraysFit forth.others back_there.arrays
   pub current : record_back back_there.current forth.current ≡ now.current
   pub sets : forth.sets ≡ groups
 
@@ -52,4 +54,4 @@ pub record Keeping : Type 0 where
 
 -- what leads forward over a step that was put back
 abbrev pub forth_of : Kept → Forth
-forth_of item = record { globals = item.step.globals; current = item.step.current; sets = item.sets }
+forth_of item = record { globals = item.step.globals; others = item.step.others; current = item.step.current; sets = item.sets }

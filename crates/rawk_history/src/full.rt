@@ -7,7 +7,7 @@ ghost use Rattle.std.specs.Vec.{vec_capacity};
 ghost use Rattle.rawk_slots.specs.Back.{AreDistinctFrom, back};
 ghost use Rattle.rawk_record.specs.Shown.{record_back};
 ghost use Rattle.rawk_history.specs.Flat.{EndsBehind, first_if, items_of, newest_slow, registers_by, rest_if, slow_of, step_by};
-ghost use Rattle.rawk_store.specs.GroupBack.{FitsIn, put_back};
+ghost use Rattle.rawk_store.specs.GroupBack.{ArraysFit, FitsIn, arrays_in, put_back};
 ghost use Rattle.rawk_store.specs.Layout.{IsSound};
 ghost use Rattle.rawk_store.specs.Stores.{now_of, start_of};
 ghost use Rattle.rawk_history.specs.Saving.{Counts, saved_in_sets};
@@ -62,6 +62,7 @@ pub struct Full {
     sets: Vec<Vec<Group>>,
     // What leads forward beside globals, where a step was put back.
     is_back: bool,
+    newer_others: Option<Others>,
     newer_record: Option<Record>,
     newer_sets: Vec<Group>,
 }
@@ -76,7 +77,7 @@ impl Model for Full {
 
     ghost view = { λ f. record {
       kept = kept_of (reverse f.marks.items) (reverse f.slows.items) (take f.live f.globals.items) (reverse f.others.items) (reverse f.records.items) (reverse f.sets.items);
-      forth = if f.is_back then Some (record { globals = drop f.live f.globals.items; current = f.newer_record; sets = f.newer_sets.items }) else None;
+      forth = if f.is_back then Some (record { globals = drop f.live f.globals.items; others = f.newer_others; current = f.newer_record; sets = f.newer_sets.items }) else None;
     } };
 
     ghost invariant = { λ f. IsFull f.marks.items f.globals.items f.live f.others.items f.records.items f.sets.items };
@@ -96,6 +97,7 @@ impl Full {
             records: Vec::new(alloc),
             sets: Vec::new(alloc),
             is_back: false,
+            newer_others: None,
             newer_record: None,
             newer_sets: Vec::new(alloc),
         }
@@ -319,7 +321,7 @@ fn finish_behind(
     })
 }
 
-/// Puts back a step whose old globals stand in a list from a number on, and leaves the newer ones there and the newer record in `newer`.
+/// Puts back a step whose old globals stand in a list from a number on, and leaves the newer ones there, and what else is newer in `newer_others` and `newer_record`.
 fn undo_behind(
     store: &mut Store,
     globals: &mut Vec<Saved<Value>>,
@@ -328,7 +330,8 @@ fn undo_behind(
     registers: Registers,
     others: Option<Others>,
     current: Option<Record>,
-    newer: &mut Option<Record>,
+    newer_others: &mut Option<Others>,
+    newer_record: &mut Option<Record>,
 )
     requires within { began ≤ length globals.old.items }
     requires distinct { AreDistinctFrom began globals.old.items }
@@ -338,7 +341,9 @@ fn undo_behind(
     ensures sound { IsSound (now_of store.new) }
     ensures earlier { take began globals.new.items ≡ take began globals.old.items }
     ensures globals { back store.new.globals.now (drop began globals.new.items) ≡ store.old.globals.now }
-    ensures current { record_back store.new.current.now newer.new ≡ store.old.current.now }
+    ensures arrays { arrays_in store.new.arrays.now newer_others.new ≡ store.old.arrays.now }
+    ensures fits { ArraysFit newer_others.new store.new.arrays.now }
+    ensures current { record_back store.new.current.now newer_record.new ≡ store.old.current.now }
 {
     let mut others = others;
     let mut current = current;
@@ -351,8 +356,9 @@ fn undo_behind(
         &mut others,
         &mut current,
     );
+    mem::swap(newer_others, &mut others);
+    mem::swap(newer_record, &mut current);
     drop(others);
-    mem::swap(newer, &mut current);
     drop(current);
 }
 
@@ -374,6 +380,8 @@ fn undo_parts(
     ensures sound { IsSound (now_of store.new) }
     ensures earlier { take began globals.new.items ≡ take began globals.old.items }
     ensures globals { back store.new.globals.now (drop began globals.new.items) ≡ store.old.globals.now }
+    ensures arrays { arrays_in store.new.arrays.now others.new ≡ store.old.arrays.now }
+    ensures fits { ArraysFit others.new store.new.arrays.now }
     ensures current { record_back store.new.current.now current.new ≡ store.old.current.now }
 {
     store.undo_others(others);
@@ -447,6 +455,7 @@ impl Keeper for Full {
             Some(mark) => Some(StepRef {
                 globals: &self.globals[mark.globals..self.live],
                 current: newest_if(&self.records, mark.has_record),
+                others: newest_if(&self.others, mark.has_others),
             }),
             None => None,
         }
@@ -466,6 +475,7 @@ impl Keeper for Full {
                 registers_by(&mark, &slow),
                 take_if(&mut self.others, mark.has_others),
                 take_if(&mut self.records, mark.has_record),
+                &mut self.newer_others,
                 &mut self.newer_record,
             );
             exchange(
@@ -486,6 +496,7 @@ impl Keeper for Full {
         Some(StepRef {
             globals: &self.globals[self.live..],
             current: self.newer_record.as_ref(),
+            others: self.newer_others.as_ref(),
         })
     }
 

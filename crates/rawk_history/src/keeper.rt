@@ -10,15 +10,16 @@ ghost use Rattle.rawk_store.specs.Layout.{IsSound};
 ghost use Rattle.rawk_history.specs.Saving.{Counts, saved_by_all};
 ghost use Rattle.rawk_store.specs.Stores.{now_of, start_of};
 
-use rawk_store::{Group, Record, Saved, Store};
+use rawk_store::{Group, Others, Record, Saved, Store};
 use rawk_value::Value;
 use std::alloc::{AllocError, Global};
 
-/// What a step changed in the globals and in the record, lent: their old values, or the newer ones after the step was put back.
+/// What a step changed, but for output and registers, lent: the old values, or the newer ones after the step was put back.
 #[derive(Clone, Copy)]
 pub struct StepRef<'a> {
     pub globals: &'a [Saved<Value>],
     pub current: Option<&'a Record>,
+    pub others: Option<&'a Others>,
 }
 
 /// Keeps what steps changed, and puts the newest back.
@@ -62,7 +63,7 @@ pub trait Keeper: Drop {
 
     /// The newest step that it keeps, if it keeps one. It takes no memory.
     fn newest(&self) -> Option<StepRef<'_>>
-        ensures { MatchOption result (kept self.now ≡ []) (λ lent. (item : Kept) × (rest : List Kept) × (kept self.now ≡ item ∷ rest) × (lent.globals.now ≡ item.step.globals) × (option_copied lent.current ≡ item.step.current)) };
+        ensures { MatchOption result (kept self.now ≡ []) (λ lent. (item : Kept) × (rest : List Kept) × (kept self.now ≡ item ∷ rest) × (lent.globals.now ≡ item.step.globals) × (option_copied lent.current ≡ item.step.current) × (option_copied lent.others ≡ item.step.others)) };
 
     /// Puts back the newest step that it keeps. The groups of the step's sets come in the place of these, which lead forward from there. Where it keeps none, the step
     /// in progress ends. It takes no memory and always succeeds.
@@ -75,7 +76,7 @@ pub trait Keeper: Drop {
 
     /// What leads forward over the step that was put back last, but for the groups of sets, if no step was kept since. It takes no memory.
     fn ahead(&self) -> Option<StepRef<'_>>
-        ensures { MatchOption result (forth self.now ≡ None) (λ lent. (f : Forth) × (forth self.now ≡ Some f) × (lent.globals.now ≡ f.globals) × (option_copied lent.current ≡ f.current)) };
+        ensures { MatchOption result (forth self.now ≡ None) (λ lent. (f : Forth) × (forth self.now ≡ Some f) × (lent.globals.now ≡ f.globals) × (option_copied lent.current ≡ f.current) × (option_copied lent.others ≡ f.others)) };
 
     /// The groups of sets that lead forward behind the step that was put back last, the oldest first.
     fn ahead_sets(&self) -> &[Group]

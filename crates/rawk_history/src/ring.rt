@@ -4,7 +4,7 @@ ghost use Rattle.std.specs.Prelude.{◌≡◌, ◌≤◌, ◌<◌, IfOk, None, S
 ghost use Rattle.std.specs.Option.{option_copied};
 ghost use Rattle.rawk_slots.specs.Back.{back};
 ghost use Rattle.rawk_record.specs.Shown.{record_back};
-ghost use Rattle.rawk_store.specs.GroupBack.{FitsIn, put_back};
+ghost use Rattle.rawk_store.specs.GroupBack.{ArraysFit, FitsIn, arrays_in, put_back};
 ghost use Rattle.rawk_store.specs.Layout.{IsSound};
 ghost use Rattle.rawk_history.specs.Saving.{Counts, saved_by, saved_by_all};
 ghost use Rattle.rawk_store.specs.Stores.{now_of, start_of};
@@ -33,14 +33,16 @@ impl Model for Item {
 }
 
 impl Item {
-    /// Its old globals and its record.
+    /// Its old values.
     fn lent(&self) -> StepRef<'_>
         ensures globals { result.globals.now ≡ self.now.step.globals }
         ensures current { option_copied result.current ≡ self.now.step.current }
+        ensures others { option_copied result.others ≡ self.now.step.others }
     {
         StepRef {
             globals: self.step.globals(),
             current: self.step.record(),
+            others: self.step.others(),
         }
     }
 
@@ -51,6 +53,8 @@ impl Item {
         ensures rest { start_of store.new ≡ now_of store.new }
         ensures sound { IsSound (now_of store.new) }
         ensures globals { back store.new.globals.now self.new.step.globals ≡ store.old.globals.now }
+        ensures arrays { arrays_in store.new.arrays.now self.new.step.others ≡ store.old.arrays.now }
+        ensures fits { ArraysFit self.new.step.others store.new.arrays.now }
         ensures current { record_back store.new.current.now self.new.step.current ≡ store.old.current.now }
         ensures ready { sets.new.items ≡ self.old.sets }
         ensures stood { self.new.sets ≡ sets.old.items }

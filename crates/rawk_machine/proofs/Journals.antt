@@ -9,7 +9,8 @@ use Rattle.rawk_store.specs.Growth.{Grown-then_same}
 use Rattle.rawk_store.specs.Saving.{saved_in}
 use Rattle.rawk_store.specs.GroupBack.{put_back}
 use Rattle.rawk_code.specs.Actions.{SetAt}
-use Rattle.rawk_machine.specs.Standing.{Past, seen}
+use Rattle.rawk_store.specs.Observed.{seen}
+use Rattle.rawk_machine.specs.Standing.{Past}
 use Rattle.rawk_machine.specs.Kept.{moment_in, newest_first, unsets, pasts, seen_first, IsPlaced, FitHere, Chain, Few, back_in, below}
 use Rattle.rawk_machine.specs.Closing.{Closes, FitAll}
 use Rattle.rawk_machine.proofs.SetLists.{ends_next}

@@ -11,31 +11,36 @@ use Rattle.rawk_frames.specs.LaidKeys.{LaidKeys, keys_of}
 use Rattle.rawk_store.specs.declared.registers.Registers.{Registers}
 use Rattle.rawk_store.specs.Stacked.{Stacked, live_values}
 use Rattle.rawk_store.specs.State.{State, Target, assigned}
+use Rattle.rawk_store.specs.Observed.{Observed}
+use Rattle.rawk_arrays.specs.Laid.{Laid, arrays_of}
 use Rattle.rawk_store.specs.Layout.{Layout, Grown, IsSound, state}
 use Rattle.rawk_store.specs.Saving.{saved_in}
-use Rattle.rawk_store.specs.GroupBack.{put_back}
+use Rattle.rawk_store.specs.GroupBack.{arrays_in, put_back}
 use Rattle.rawk_code.specs.Listing.{Listing}
 use Rattle.rawk_code.specs.Actions.{SetAt, or_same}
 use Rattle.rawk_code.specs.Trace.{FirstValue}
 use Rattle.rawk_machine.specs.Last.{Last}
 use Rattle.rawk_machine.specs.Last as last
-use Rattle.rawk_machine.specs.Standing.{Standing, Moment, Earlier, Past, Seen, gone_back, taken_back, set_made}
-use Rattle.rawk_machine.specs.Kept.{moment_in, but_last, below, newest_first, back_in, before_of, unsets, pasts, globals_forth, record_forth, Chain}
+use Rattle.rawk_machine.specs.Standing.{Standing, Moment, Earlier, Past, gone_back, taken_back, set_made}
+use Rattle.rawk_machine.specs.Kept.{moment_in, but_last, below, newest_first, back_in, before_of, unsets, pasts, arrays_forth, globals_forth, record_forth, Chain, LastFits}
 use Rattle.rawk_machine.specs.Arrival.{site_for}
 use Rattle.rawk_machine.specs.Written.{IsWritten}
 use Rattle.rawk_machine.specs.Stood.{standing_of}
+use Rattle.rawk_machine.proofs.Forths.{before-grown}
 use Rattle.rawk_machine.proofs.Chains.{fit_here, moment-grown, unsets-grown, pasts-grown, pasts_unset, pasts_set, unsets_set}
 
 pub gone_is : {S : Type 0} (code : Listing) (settings : List FirstValue) (steps : ℕ) (sets : List SetAt) (point : ℕ) (tape : TapeState S) (l : Layout) (executed : ℕ) (here : List Group) (item : Kept) (newer : Forth) (items : List Kept) (limit : Option ℕ) (before : Last) →
-    globals_forth (back (back_in l here item).globals newer.globals) newer.sets ≡ l.globals → record_forth (record_back (back_in l here item).current newer.current) newer.sets ≡ l.current →
+    globals_forth (back (back_in l here item).globals newer.globals) newer.sets ≡ l.globals → arrays_forth (arrays_in (back_in l here item).arrays newer.others) newer.sets ≡ l.arrays → record_forth (record_back (back_in l here item).current newer.current) newer.sets ≡ l.current →
     standing_of code settings steps (below point sets) (point - 1) (record tape { consumed = (back_in l here item).registers.consumed }) (back_in l here item) executed (newest_first item) items limit (last.Back newer)
     ≡ gone_back (pasts l sets point here (item ∷ items)) (standing_of code settings steps sets point tape l executed here (item ∷ items) limit before)
-gone_is {S} code settings steps sets point tape l executed here item newer items limit before globals current =
+gone_is {S} code settings steps sets point tape l executed here item newer items limit before globals arrays current =
     let m = back_in l here item in
     let old : Standing S = standing_of code settings steps sets point tape l executed here (item ∷ items) limit before in
-    let with = λ (s : Seen). record (gone_back (pasts l sets point here (item ∷ items)) old) { before = Some s } in
-    let whole = λ (xs : List Value) (c : Shown). let s : Seen = record { globals = xs; whole = c.text; fields = c.fields } in with s in
-    ap (λ (xs : List Value). whole xs (record_forth (record_back m.current newer.current) newer.sets)) globals ∙ ap (whole l.globals) current
+    let with = λ (s : Observed). record (gone_back (pasts l sets point here (item ∷ items)) old) { before = Some s } in
+    let whole = λ (xs : List Value) (a : Laid) (c : Shown). let s : Observed = record { globals = xs; arrays = arrays_of a; whole = c.text; fields = c.fields } in with s in
+    ap (λ (xs : List Value). whole xs (arrays_forth (arrays_in m.arrays newer.others) newer.sets) (record_forth (record_back m.current newer.current) newer.sets)) globals
+    ∙ ap (λ (a : Laid). whole l.globals a (record_forth (record_back m.current newer.current) newer.sets)) arrays
+    ∙ ap (whole l.globals l.arrays) current
 
 pub taken_is : {S : Type 0} (code : Listing) (settings : List FirstValue) (steps : ℕ) (sets : List SetAt) (point size : ℕ) (tape : TapeState S) (l : Layout) (executed : ℕ) (g : Group) (here : List Group) (items : List Kept) (limit : Option ℕ) (before : Last) → Chain l point size sets (g ∷ here) items →
     standing_of code settings steps (but_last sets) point (record tape { consumed = (put_back l g).registers.consumed }) (put_back l g) executed here items limit last.Nothing
@@ -90,10 +95,10 @@ set_is {S} code settings steps sets point size tape l n executed g here items li
 
 -- where only slots were added that no program sees, the machine stands the same
 pub stands_grown : {S : Type 0} (code : Listing) (settings : List FirstValue) (steps : ℕ) (sets : List SetAt) (point size : ℕ) (tape : TapeState S) (l m : Layout) (executed : ℕ) (here : List Group) (items : List Kept) (limit : Option ℕ) (last : Last) →
-    Grown l m → IsSound l → Chain l point size sets here items → standing_of code settings steps sets point tape m executed here items limit last ≡ standing_of code settings steps sets point tape l executed here items limit last
-stands_grown {S} code settings steps sets point size tape l m executed here items limit last grew sound chain =
+    Grown l m → IsSound l → LastFits last l.arrays → Chain l point size sets here items → standing_of code settings steps sets point tape m executed here items limit last ≡ standing_of code settings steps sets point tape l executed here items limit last
+stands_grown {S} code settings steps sets point size tape l m executed here items limit last grew sound fits chain =
     let past : pasts m sets point here items ≡ pasts l sets point here items = pasts-grown l m point size sets here items grew sound chain in
-    let with = λ (x : Moment) (us : List Earlier) (ps : List Past) (before : Option Seen).
+    let with = λ (x : Moment) (us : List Earlier) (ps : List Past) (before : Option Observed).
     let s : Standing S = record {
       code = code;
       settings = settings;
@@ -117,8 +122,9 @@ stands_grown {S} code settings steps sets point size tape l m executed here item
     } in s in
     let us = unsets m sets here in
     let ps = pasts m sets point here items in
-    ap (λ (xs : List Value). with (moment_in m) us ps (before_of last xs m.current ps)) grew.globals
-    ∙ ap (λ (x : Shown). with (moment_in m) us ps (before_of last l.globals x ps)) grew.current
-    ∙ ap (λ (x : Moment). with x us ps (before_of last l.globals l.current ps)) (moment-grown l m grew sound)
-    ∙ ap (λ (us : List Earlier). with (moment_in l) us ps (before_of last l.globals l.current ps)) (unsets-grown l m point size sets here grew sound (fit_here l point size sets here items chain))
-    ∙ ap (λ (ps : List Past). with (moment_in l) (unsets l sets here) ps (before_of last l.globals l.current ps)) past
+    ap (λ (xs : List Value). with (moment_in m) us ps (before_of last xs m.arrays m.current ps)) grew.globals
+    ∙ ap (λ (x : Shown). with (moment_in m) us ps (before_of last l.globals m.arrays x ps)) grew.current
+    ∙ ap (with (moment_in m) us ps) (before-grown last l.globals l.arrays m.arrays l.current ps grew.arrays sound.arrays fits)
+    ∙ ap (λ (x : Moment). with x us ps (before_of last l.globals l.arrays l.current ps)) (moment-grown l m grew sound)
+    ∙ ap (λ (us : List Earlier). with (moment_in l) us ps (before_of last l.globals l.arrays l.current ps)) (unsets-grown l m point size sets here grew sound (fit_here l point size sets here items chain))
+    ∙ ap (λ (ps : List Past). with (moment_in l) (unsets l sets here) ps (before_of last l.globals l.arrays l.current ps)) past

@@ -7,5 +7,7 @@ pub mod Journals
 pub mod Gives
 pub mod Undos
 pub mod Leads
+pub mod Forths
 pub mod Befores
+pub mod EarlierElements
 pub mod Askings

@@ -3,11 +3,12 @@ use Rattle.std.proofs.Common.{◌≡◌, ℕ, ◌+◌, ◌-◌, ◌<◌, ◌≤�
 use Rattle.std.proofs.lemmas.List.{get_or-take, take_more, drop_more, drop-set, take-take, reverse-append}
 use Rattle.rawk_value.specs.declared.value.Value.{Value}
 use Rattle.rawk_record.specs.Shown.{Shown, record_back}
+use Rattle.rawk_arrays.specs.Laid.{Laid}
 use Rattle.rawk_store.specs.Groups.{Group}
 use Rattle.rawk_store.specs.Back.{back}
 use Rattle.rawk_store.specs.Layout.{Layout}
-use Rattle.rawk_store.specs.GroupBack.{FitsIn, put_back}
-use Rattle.rawk_machine.specs.Kept.{all_back, globals_forth, record_forth}
+use Rattle.rawk_store.specs.GroupBack.{ArraysFit, FitsIn, arrays_in, put_back}
+use Rattle.rawk_machine.specs.Kept.{AllArraysFit, all_back, arrays_forth, globals_forth, record_forth}
 use Rattle.rawk_machine.specs.Closing.{FitAll}
 
 all_back_append : (l : Layout) (gs : List Group) (g : Group) → all_back l (gs ++ g ∷ []) ≡ put_back (all_back l gs) g
@@ -38,6 +39,13 @@ cut_set gs i y pos le = let n : i - 1 + 1 ≡ i = omega arith in drop-set gs (i 
 
 pub globals_one : (now old : List Value) (gs : List Group) (i : ℕ) (y : Group) → 0 < i → i ≤ length gs → back now y.globals ≡ old → globals_forth now (drop (i - 1) (set gs (i - 1) y)) ≡ globals_forth old (drop i gs)
 globals_one now old gs i y pos le e = ap (globals_forth now) (cut_set gs i y pos le) ∙ ap (λ (xs : List Value). globals_forth xs (drop i gs)) e
+
+pub arrays_one : (now old : Laid) (gs : List Group) (i : ℕ) (y : Group) → 0 < i → i ≤ length gs → arrays_in now y.others ≡ old → arrays_forth now (drop (i - 1) (set gs (i - 1) y)) ≡ arrays_forth old (drop i gs)
+arrays_one now old gs i y pos le e = ap (arrays_forth now) (cut_set gs i y pos le) ∙ ap (λ (a : Laid). arrays_forth a (drop i gs)) e
+
+pub fits_one : (now old : Laid) (gs : List Group) (i : ℕ) (y : Group) → 0 < i → i ≤ length gs → arrays_in now y.others ≡ old → ArraysFit y.others now → AllArraysFit old (drop i gs) → AllArraysFit now (drop (i - 1) (set gs (i - 1) y))
+fits_one now old gs i y pos le e fit all =
+    subst (AllArraysFit now) (sym (cut_set gs i y pos le)) (fit, subst (λ (a : Laid). AllArraysFit a (drop i gs)) (sym e) all)
 
 pub record_one : (now old : Shown) (gs : List Group) (i : ℕ) (y : Group) → 0 < i → i ≤ length gs → record_back now y.current ≡ old → record_forth now (drop (i - 1) (set gs (i - 1) y)) ≡ record_forth old (drop i gs)
 record_one now old gs i y pos le e = ap (record_forth now) (cut_set gs i y pos le) ∙ ap (λ (s : Shown). record_forth s (drop i gs)) e

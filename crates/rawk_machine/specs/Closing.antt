@@ -5,9 +5,9 @@ use Rattle.rawk_record.specs.Shown.{record_back}
 use Rattle.rawk_store.specs.Groups.{Group}
 use Rattle.rawk_history.specs.Steps.{Kept, Forth}
 use Rattle.rawk_store.specs.Layout.{Layout}
-use Rattle.rawk_store.specs.GroupBack.{FitsIn, put_back}
+use Rattle.rawk_store.specs.GroupBack.{ArraysFit, FitsIn, arrays_in, put_back}
 use Rattle.rawk_history.specs.Keeping.{KeepsStep}
-use Rattle.rawk_machine.specs.Kept.{back_in, globals_forth, record_forth}
+use Rattle.rawk_machine.specs.Kept.{AllArraysFit, arrays_forth, back_in, globals_forth, record_forth}
 
 -- the step is kept where any is, and else nothing is
 abbrev pub Closes : Bool → Layout → Layout → List Kept → List Kept → List Group → Option ℕ → Type 0
@@ -27,4 +27,7 @@ pub record HasGoneBack (item : Kept) (rest : List Kept) (old new : Layout) (stoo
   pub forth : Forth
   pub is : ahead ≡ Some forth
   pub globals : globals_forth (back new.globals forth.globals) forth.sets ≡ old.globals
+  pub arrays : arrays_forth (arrays_in new.arrays forth.others) forth.sets ≡ old.arrays
+  pub fits : ArraysFit forth.others new.arrays
+  pub sets_fit : AllArraysFit (arrays_in new.arrays forth.others) forth.sets
   pub current : record_forth (record_back new.current forth.current) forth.sets ≡ old.current

@@ -2,18 +2,20 @@
 use Rattle.std.specs.Prelude.{◌≡◌, ℕ, ◌-◌, ◌<◌, ◌≤◌, nat_lt, List, [], ◌∷◌, ◌++◌, length, take, filter, reverse, Option, None, Some}
 use Rattle.rawk_value.specs.declared.value.Value.{Value}
 use Rattle.rawk_record.specs.Shown.{Shown, record_back}
+use Rattle.rawk_arrays.specs.Laid.{Laid, arrays_of}
+use Rattle.rawk_store.specs.Observed.{Observed, seen}
 use Rattle.rawk_store.specs.Groups.{Group}
 use Rattle.rawk_history.specs.Steps.{Kept, Forth}
 use Rattle.rawk_store.specs.Layout.{Layout, state, operands, keys}
 use Rattle.rawk_store.specs.Back.{back}
 use Rattle.rawk_store.specs.Saving.{saved_in}
-use Rattle.rawk_store.specs.GroupBack.{FitsIn, put_back}
+use Rattle.rawk_store.specs.GroupBack.{ArraysFit, FitsIn, arrays_in, put_back}
 use Rattle.rawk_frames.specs.LaidFrames.{returns_of}
 use Rattle.rawk_machine.specs.Arrival.{site_for}
 use Rattle.rawk_code.specs.Actions.{SetAt}
 use Rattle.rawk_machine.specs.Last.{Last}
 use Rattle.rawk_machine.specs.Last as last
-use Rattle.rawk_machine.specs.Standing.{Moment, Earlier, Past, Seen, seen}
+use Rattle.rawk_machine.specs.Standing.{Moment, Earlier, Past}
 
 -- a moment, as it lies in the parts
 abbrev pub moment_in : Layout → Moment
@@ -65,7 +67,7 @@ pasts l sets point here (item ∷ items) =
     ∷ pasts (back_in l here item) (below point sets) (point - 1) (newest_first item) items
 
 -- what was seen at the newest of the earlier points
-abbrev pub seen_first : List Past → Option Seen
+abbrev pub seen_first : List Past → Option Observed
 seen_first [] = None
 seen_first (p ∷ ps) = Some (seen p.last.moment.state)
 
@@ -74,22 +76,38 @@ abbrev pub globals_forth : List Value → List Group → List Value
 globals_forth xs [] = xs
 globals_forth xs (g ∷ gs) = globals_forth (back xs g.globals) gs
 
+abbrev pub arrays_forth : Laid → List Group → Laid
+arrays_forth l [] = l
+arrays_forth l (g ∷ gs) = arrays_forth (arrays_in l g.others) gs
+
 abbrev pub record_forth : Shown → List Group → Shown
 record_forth s [] = s
 record_forth s (g ∷ gs) = record_forth (record_back s g.current) gs
 
-abbrev pub seen_forth : List Value → Shown → Forth → Seen
-seen_forth globals current forth = record {
+abbrev pub seen_forth : List Value → Laid → Shown → Forth → Observed
+seen_forth globals arrays current forth = record {
   globals = globals_forth (back globals forth.globals) forth.sets;
+  arrays = arrays_of (arrays_forth (arrays_in arrays forth.others) forth.sets);
   whole = (record_forth (record_back current forth.current) forth.sets).text;
   fields = (record_forth (record_back current forth.current) forth.sets).fields;
 }
 
 -- what was seen before the last move
-abbrev pub before_of : Last → List Value → Shown → List Past → Option Seen
-before_of last.Nothing globals current history = None
-before_of last.On globals current history = seen_first history
-before_of (last.Back forth) globals current history = Some (seen_forth globals current forth)
+abbrev pub before_of : Last → List Value → Laid → Shown → List Past → Option Observed
+before_of last.Nothing globals arrays current history = None
+before_of last.On globals arrays current history = seen_first history
+before_of (last.Back forth) globals arrays current history = Some (seen_forth globals arrays current forth)
+
+-- each place that the groups lead forward to is one of the arrays
+abbrev pub AllArraysFit : Laid → List Group → Type 0
+AllArraysFit l [] = Unit {0}
+AllArraysFit l (g ∷ gs) = ArraysFit g.others l × AllArraysFit (arrays_in l g.others) gs
+
+-- so is each of a step that was put back
+abbrev pub LastFits : Last → Laid → Type 0
+LastFits last.Nothing l = Unit {0}
+LastFits last.On l = Unit {0}
+LastFits (last.Back forth) l = ArraysFit forth.others l × AllArraysFit (arrays_in l forth.others) forth.sets
 
 -- at the point of this number; so many bytes of the input are kept
 pub record IsPlaced (l : Layout) (point size : ℕ) : Type 0 where

@@ -11,7 +11,7 @@ ghost use Rattle.rawk_travel.specs.Asking.{Asks, Draws};
 ghost use Rattle.rawk_travel.specs.Moving.{moving};
 ghost use Rattle.rawk_machine.specs.Arrival.{Arrives, ends_quietly, EndsByRead, HasReach, IsSettled};
 ghost use Rattle.rawk_machine.specs.Closing.{Closes, FitAll};
-ghost use Rattle.rawk_machine.specs.Kept.{all_back, globals_forth, record_forth};
+ghost use Rattle.rawk_machine.specs.Kept.{all_back, AllArraysFit, arrays_forth, globals_forth, record_forth};
 
 use crate::arrival::step;
 use rawk_code::Code;
@@ -130,6 +130,8 @@ pub fn undo_all(store: &mut Store, groups: &mut Vec<Group>)
     ensures now { now_of store.new ≡ all_back (now_of store.old) (reverse groups.old.items) }
     ensures rest { start_of store.new ≡ now_of store.new }
     ensures globals { globals_forth store.new.globals.now groups.new.items ≡ store.old.globals.now }
+    ensures arrays { arrays_forth store.new.arrays.now groups.new.items ≡ store.old.arrays.now }
+    ensures fits { AllArraysFit store.new.arrays.now groups.new.items }
     ensures record { record_forth store.new.current.now groups.new.items ≡ store.old.current.now }
 {
     let mut i = groups.len();

@@ -217,3 +217,13 @@ none_next {T} es i p e is ne before k f lt h = elim (cases_eq k i) [
 -- what a step changed, behind a list
 pub added_by : {T : Type 0} (items : List T) (marks : List ℕ) (saved list longer : List (Saved T)) → IsJournal items marks saved → longer ≡ list ++ saved → HasAdded items (back items saved) list longer
 added_by items marks saved list longer h is = record { entries = saved; is = is; back = refl; below = h.below; distinct = distinct_places items marks saved h }
+
+-- old values at the same places are below the same number
+pub AreBelow-places : {T : Type 0} (n : ℕ) (es ds : List (Saved T)) → places ds ≡ places es → AreBelow n es → AreBelow n ds
+AreBelow-places n es [] same h = tt
+AreBelow-places n [] (d ∷ ds) same h = absurd (cc same)
+AreBelow-places n (e ∷ es) (d ∷ ds) same h = (rw (ap (λ (ps : List ℕ). head_or 0 ps) same) h.0, AreBelow-places n es ds (ap (drop 1) same) h.1)
+  where
+    head_or : ℕ → List ℕ → ℕ
+    head_or d [] = d
+    head_or d (x ∷ xs) = x

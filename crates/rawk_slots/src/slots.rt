@@ -206,6 +206,7 @@ impl<T: Drop> Slots<T> {
         requires { AreBelow (length self.old.now) group.old.entries.items }
         ensures now { self.new ≡ at_rest (back self.old.now group.old.entries.items) }
         ensures newer { back self.new.now group.new.entries.items ≡ self.old.now }
+        ensures below { AreBelow (length self.new.now) group.new.entries.items }
     {
         self.saved.clear();
         swap_back(&mut self.items, &mut group.entries, 0);

@@ -50,6 +50,11 @@ put_back l group = record {
   registers = group.registers;
 }
 
+-- each place that was saved of arrays is one of theirs
+abbrev pub ArraysFit : Option Others → Laid → Type 0
+ArraysFit None l = Unit {0}
+ArraysFit (Some o) l = FitsArrays o.arrays l
+
 -- each place of these parts is one of the layout
 pub record OthersFit (o : Others) (l : Layout) : Type 0 where
   pub arrays : FitsArrays o.arrays l.arrays

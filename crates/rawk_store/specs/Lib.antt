@@ -5,6 +5,7 @@ pub use Rattle.rawk_slots.specs.Stacked
 pub use Rattle.rawk_slots.specs.StackBack
 pub use Rattle.rawk_slots.specs.StackLaws
 pub mod State
+pub mod Observed
 pub mod Assigned
 pub mod Records
 pub mod Layout

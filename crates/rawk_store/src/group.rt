@@ -38,6 +38,13 @@ impl Group {
         &self.globals.entries
     }
 
+    /// What was changed of the parts that few steps change, if anything was.
+    pub fn others(&self) -> Option<&Others>
+        ensures { option_copied result ≡ self.now.others }
+    {
+        self.others.as_ref()
+    }
+
     /// The record before, if the step has made it another one.
     pub fn record(&self) -> Option<&Record>
         ensures { option_copied result ≡ self.now.current }

@@ -6,7 +6,7 @@ ghost use Rattle.rawk_record.specs.Shown.{record_back};
 ghost use Rattle.rawk_slots.specs.Back.{back};
 ghost use Rattle.rawk_store.specs.Layout.{IsSound, state};
 ghost use Rattle.rawk_store.specs.Stores.{IsNarrowStep, IsNew, IsPlainStep, now_of, others_rested, start_of};
-ghost use Rattle.rawk_store.specs.GroupBack.{FitsIn, FitsOthers, OthersLead, arrays_in, others_put, put_back};
+ghost use Rattle.rawk_store.specs.GroupBack.{ArraysFit, FitsIn, FitsOthers, OthersLead, arrays_in, others_put, put_back};
 
 use crate::current::Current;
 use crate::group::Group;
@@ -205,6 +205,7 @@ impl Store {
         ensures start { start_of self.new ≡ others_rested (now_of self.new) (start_of self.old) }
         ensures sound { IsSound (now_of self.new) }
         ensures newer { arrays_in self.new.arrays.now others.new ≡ self.old.arrays.now }
+        ensures newer_fits { ArraysFit others.new self.new.arrays.now }
     {
         match others {
             None => {
@@ -232,6 +233,7 @@ impl Store {
         ensures sound { IsSound (now_of self.new) }
         ensures newer_globals { back self.new.globals.now group.new.globals ≡ self.old.globals.now }
         ensures newer_arrays { arrays_in self.new.arrays.now group.new.others ≡ self.old.arrays.now }
+        ensures newer_fits { ArraysFit group.new.others self.new.arrays.now }
         ensures newer_record { record_back self.new.current.now group.new.current ≡ self.old.current.now }
     {
         self.undo_others(&mut group.others);

@@ -1,12 +1,13 @@
 use Rattle.std.proofs.Common.{◌≡◌, ◌∙◌, ap, sym, subst, List}
 use Rattle.rawk_value.specs.declared.value.Value.{Value}
 use Rattle.rawk_record.specs.Shown.{Shown}
+use Rattle.rawk_arrays.specs.Laid.{Laid}
 use Rattle.rawk_store.specs.Groups.{Group}
 use Rattle.rawk_history.specs.Steps.{Kept}
-use Rattle.rawk_store.specs.GroupBack.{FitsIn, put_back}
+use Rattle.rawk_store.specs.GroupBack.{FitsIn, arrays_in, put_back}
 use Rattle.rawk_store.specs.Layout.{Layout}
 use Rattle.rawk_store.specs.Stores.{now_of}
-use Rattle.rawk_machine.specs.Kept.{globals_forth, record_forth}
+use Rattle.rawk_machine.specs.Kept.{AllArraysFit, arrays_forth, globals_forth, record_forth}
 use Rattle.rawk_machine.proofs.back.go_back.Goals as goal
 
 pub put_back-requires : goal.put_back-requires
@@ -26,5 +27,8 @@ returns-clause-back g c = λ item items is.
       forth = f;
       is = p.forth.is;
       globals = ap (λ (xs : List Value). globals_forth xs f.sets) p.forth.globals ∙ (ap (λ (gs : List Group). globals_forth c.undo_all.new.store.globals.now gs) p.forth.sets ∙ c.undo_all.ensures.globals);
+      arrays = ap (λ (a : Laid). arrays_forth a f.sets) p.forth.arrays ∙ (ap (λ (gs : List Group). arrays_forth c.undo_all.new.store.arrays.now gs) p.forth.sets ∙ c.undo_all.ensures.arrays);
+      fits = p.forth.fits;
+      sets_fit = subst (λ (a : Laid). AllArraysFit a f.sets) (sym p.forth.arrays) (subst (λ (gs : List Group). AllArraysFit c.undo_all.new.store.arrays.now gs) (sym p.forth.sets) c.undo_all.ensures.fits);
       current = ap (λ (s : Shown). record_forth s f.sets) p.forth.current ∙ (ap (λ (gs : List Group). record_forth c.undo_all.new.store.current.now gs) p.forth.sets ∙ c.undo_all.ensures.record);
     }

@@ -3,7 +3,7 @@ use Rattle.std.proofs.lemmas.List.{length-set, take-set}
 use Rattle.rawk_store.specs.Layout.{Layout}
 use Rattle.rawk_store.specs.Stores.{now_of}
 use Rattle.rawk_machine.specs.Closing.{FitAll}
-use Rattle.rawk_machine.proofs.Undos.{same_at, left_fits, done_one, globals_one, record_one, take_less}
+use Rattle.rawk_machine.proofs.Undos.{same_at, left_fits, done_one, arrays_one, fits_one, globals_one, record_one, take_less}
 use Rattle.rawk_machine.proofs.journal.undo_all.Goals as goal
 
 pub undo-requires : goal.undo-requires
@@ -35,5 +35,7 @@ loop-i-preserved c =
       rest = c.undo.ensures.rest;
       fits = subst (λ (m : Layout). FitAll m (reverse (take (i - 1) fn))) (sym c.undo.ensures.now) fits.1;
       globals = globals_one c.undo.new.self.globals.now c.loop-i.store.globals.now gs i y pos within c.undo.ensures.newer_globals ∙ v.globals;
+      arrays = arrays_one c.undo.new.self.arrays.now c.loop-i.store.arrays.now gs i y pos within c.undo.ensures.newer_arrays ∙ v.arrays;
+      arrays_fit = fits_one c.undo.new.self.arrays.now c.loop-i.store.arrays.now gs i y pos within c.undo.ensures.newer_arrays c.undo.ensures.newer_fits v.arrays_fit;
       record_is = record_one c.undo.new.self.current.now c.loop-i.store.current.now gs i y pos within c.undo.ensures.newer_record ∙ v.record_is;
     }

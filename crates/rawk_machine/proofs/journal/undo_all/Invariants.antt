@@ -1,7 +1,7 @@
 use Rattle.std.proofs.Common.{◌≡◌, ◌≤◌, length, take, drop, reverse}
 use Rattle.rawk_store.specs.Stores.{now_of, start_of}
 use Rattle.rawk_machine.specs.Closing.{FitAll}
-use Rattle.rawk_machine.specs.Kept.{all_back, globals_forth, record_forth}
+use Rattle.rawk_machine.specs.Kept.{AllArraysFit, all_back, arrays_forth, globals_forth, record_forth}
 use Rattle.rawk_machine.proofs.journal.undo_all.Given as goal
 
 abbrev pub invariant-loop-i : goal.invariant-loop-i
@@ -13,6 +13,8 @@ invariant-loop-i l = record {
   rest : start_of l.store ≡ now_of l.store;
   fits : FitAll (now_of l.store) (reverse (take l.i l.fn.groups.items));
   globals : globals_forth l.store.globals.now (drop l.i l.groups.items) ≡ l.fn.store.globals.now;
+  arrays : arrays_forth l.store.arrays.now (drop l.i l.groups.items) ≡ l.fn.store.arrays.now;
+  arrays_fit : AllArraysFit l.store.arrays.now (drop l.i l.groups.items);
   record_is : record_forth l.store.current.now (drop l.i l.groups.items) ≡ l.fn.store.current.now;
 }
 

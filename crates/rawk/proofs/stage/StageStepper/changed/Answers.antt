@@ -1,38 +1,23 @@
-use Rattle.std.proofs.Common.{◌≡◌, ◌-◌, ◌∙◌, ap, sym, subst, Bool, false, IsTrue, if◌then◌else◌}
-use Rattle.std.specs.Prelude.{not, is_some, slice_index_or, unwrap_or, option_copied, option_map, ◌==◌}
-use Rattle.rawk_record.specs.FieldRefs.{ref_value}
-use Rattle.std.proofs.lemmas.Bool.{ne_eqb}
+use Rattle.std.proofs.Common.{◌≡◌, ◌∙◌, ap, sym, subst, IsTrue, Option}
+use Rattle.std.specs.Prelude.{not, is_some, option_copied}
+use Rattle.rawk_value.specs.Values.{Bytes}
 use Rattle.rawk_value.specs.declared.value.Value.{Value}
-use Rattle.rawk_value.specs.declared.value.Value.TheVariants.{Uninitialized, Input}
-use Rattle.rawk_debug.specs.declared.stop.Watched.TheVariants.{Global, Field}
-use Rattle.rawk_debug.specs.Watching.{seen, same_value, differs}
+use Rattle.rawk_debug.specs.declared.stop.Watched.TheVariants.{Element}
+use Rattle.rawk_store.specs.Observed.{seen}
+use Rattle.rawk_debug.specs.Watching.{same_held, differs, value_at}
 use Rattle.rawk.specs.Staged.{Staged, seen_or}
-use Rattle.rawk.proofs.Stages.{some_of, or_at}
+use Rattle.rawk.proofs.Stages.{some_of}
 use Rattle.rawk.proofs.stage.StageStepper.changed.Goals as goal
 
-pub returns-in-Global : goal.returns-in-Global
-returns-in-Global g c =
+pub returns-in-Element : goal.returns-in-Element
+returns-in-Element g c =
     let m = c.self.inside.machine in
-    let n = c.in-Global.number in
+    let a = c.in-Element.array in
+    let key = c.in-Element.key in
     let some = some_of m.before (subst (λ (s : Staged g.row.R.Denot). IsTrue (is_some s.machine.before)) (sym c.self.view_is) c.requires) in
-    let left = or_at some.0.globals n (option_copied c.earlier_global.result) (c.earlier_global.ensures some.0 some.1) in
-    let right = or_at m.state.globals n (option_copied c.global.result) c.global.ensures in
-    ap not (c.same_global.ensures ∙ ap (λ (v : Value). same_value v (unwrap_or (option_copied c.global.result) Uninitialized)) left ∙ ap (same_value (slice_index_or some.0.globals n Uninitialized)) right)
-    ∙ ap (λ o. differs (Global n) (seen_or o) (seen m.state)) (sym some.1)
-    ∙ ap (λ (s : Staged g.row.R.Denot). differs (Global n) (seen_or s.machine.before) (seen s.machine.state)) c.self.view_is
-    ∙ ap (λ w. differs w (seen_or c.args.self.now.machine.before) (seen c.args.self.now.machine.state)) (sym c.in-Global.is)
-
-pub returns-else-number-eq0 : goal.returns-else-number-eq0
-returns-else-number-eq0 g c =
-    let m = c.self.inside.machine in
-    let n = c.in-Field.number in
-    let some = some_of m.before (subst (λ (s : Staged g.row.R.Denot). IsTrue (is_some s.machine.before)) (sym c.self.view_is) c.requires) in
-    let left = or_at some.0.fields (n - 1) (option_map ref_value c.earlier_field.result) (c.earlier_field.ensures some.0 some.1) in
-    let right = or_at m.state.fields (n - 1) (option_map ref_value c.field.result) c.field.ensures in
-    let other : (n == 0) ≡ false = ne_eqb n 0 c.if-number-eq0.false in
-    let pick = λ (b : Bool). not (same_value (if b then Input some.0.whole else slice_index_or some.0.fields (n - 1) Uninitialized) (if b then Input m.state.whole else slice_index_or m.state.fields (n - 1) Uninitialized)) in
-    ap not (c.same_field.ensures ∙ ap (λ (v : Value). same_value v (unwrap_or (option_map ref_value c.field.result) Uninitialized)) left ∙ ap (same_value (slice_index_or some.0.fields (n - 1) Uninitialized)) right)
-    ∙ ap pick (sym other)
-    ∙ ap (λ o. differs (Field n) (seen_or o) (seen m.state)) (sym some.1)
-    ∙ ap (λ (s : Staged g.row.R.Denot). differs (Field n) (seen_or s.machine.before) (seen s.machine.state)) c.self.view_is
-    ∙ ap (λ w. differs w (seen_or c.args.self.now.machine.before) (seen c.args.self.now.machine.state)) (sym c.in-Field.is)
+    let left : option_copied c.earlier_element.result ≡ value_at (Element a key) some.0 = c.earlier_element.ensures some.0 some.1 ∙ ap (λ (k : Bytes). value_at (Element a k) some.0) c.as_slice.ensures in
+    let right : option_copied c.element.result ≡ value_at (Element a key) (seen m.state) = c.element.ensures ∙ ap (λ (k : Bytes). value_at (Element a k) (seen m.state)) c.as_slice-in-Element.ensures in
+    ap not (c.same_held.ensures ∙ ap (λ (o : Option Value). same_held o (option_copied c.element.result)) left ∙ ap (same_held (value_at (Element a key) some.0)) right)
+    ∙ ap (λ o. differs (Element a key) (seen_or o) (seen m.state)) (sym some.1)
+    ∙ ap (λ (s : Staged g.row.R.Denot). differs (Element a key) (seen_or s.machine.before) (seen s.machine.state)) c.self.view_is
+    ∙ ap (λ w. differs w (seen_or c.args.self.now.machine.before) (seen c.args.self.now.machine.state)) (sym c.in-Element.is)

@@ -21,9 +21,9 @@ returns-in-Some-clause-back c = λ item rest e.
     put_back_is i.marks.items c.pop.new.self.items c.in-Some.mark i.slows.items c.drop_if.new.list.items c.newest_slow-slow.result i.globals.items c.undo_behind.new.globals.items i.live
     i.others.items c.take_if.new.list.items i.records.items c.take_if-in-Some.new.list.items i.sets.items c.take_if-in-Some-2.new.list.items
     c.take_if.result c.take_if-in-Some.result c.take_if-in-Some-2.result item rest (now_of c.args.store.now) (now_of c.undo_behind.new.store) c.truncate.new.self.items
-    c.args.sets.now.items c.exchange.new.sets.items c.exchange.new.newer.items c.undo_behind.new.newer
+    c.args.sets.now.items c.exchange.new.sets.items c.exchange.new.newer.items c.undo_behind.new.newer_others c.undo_behind.new.newer_record
     (popped_is i.marks.items c.pop.new.self.items c.pop.result c.in-Some.mark c.pop.ensures.items c.in-Some.is) c.truncate.ensures.items
     c.take_if.ensures.first c.take_if-in-Some.ensures.first c.take_if-in-Some-2.ensures.first c.newest_slow-slow.ensures c.drop_if.ensures c.take_if.ensures.rest c.take_if-in-Some.ensures.rest c.take_if-in-Some-2.ensures.rest
     u.earlier
     (u.now ∙ ap (λ (r : Registers). put_back (now_of c.args.store.now) (step_by c.in-Some.mark.globals c.newest_slow-slow.result.output r c.truncate.new.self.items c.take_if.result c.take_if-in-Some.result)) c.registers_by.ensures)
-    u.globals u.current c.exchange.ensures.ready c.exchange.ensures.stood (ap (λ k. k.kept) c.self.view_is ∙ e)
+    u.globals u.arrays u.fits u.current c.exchange.ensures.ready c.exchange.ensures.stood (ap (λ k. k.kept) c.self.view_is ∙ e)

@@ -21,7 +21,7 @@ returns-in-Some-clause-back c = λ item rest e.
       now = x.now ∙ ap (λ (k : Kept). put_back (now_of c.args.store.now) k.step) (sym is);
       sets = x.ready ∙ ap (λ (k : Kept). k.sets) (sym is);
       left = ap (λ b. reverse b.items) c.pop_back.ensures.items ∙ others_are xs rest c.in-Some.item item last e;
-      forth = record { forth = forth_of c.exchange.new.self; is = refl; globals = x.globals; current = x.current; sets = x.stood };
+      forth = record { forth = forth_of c.exchange.new.self; is = refl; globals = x.globals; arrays = x.arrays; fits = x.fits; current = x.current; sets = x.stood };
     }
 
 pub returns-in_default-clause-back : goal.returns-in_default-clause-back

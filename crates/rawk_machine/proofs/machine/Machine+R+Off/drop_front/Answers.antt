@@ -26,6 +26,7 @@ invariant_of-self g c =
       chain = chain_as l l i.point (length i.tape.bytes) (length c.forget-size.new.self.bytes) i.sets.items (reverse i.here.items) none v.chain;
       few = v.few;
       clean = v.clean;
+      ahead = v.ahead;
       room = v.room;
     }
 
@@ -67,6 +68,7 @@ invariant_of-self-2 g c =
       chain = chain_as l m i.point (length i.tape.bytes) (length c.forget-size.new.self.bytes) i.sets.items (reverse i.here.items) none v.chain;
       few = v.few;
       clean = v.clean;
+      ahead = v.ahead;
       room = v.room;
     }
 

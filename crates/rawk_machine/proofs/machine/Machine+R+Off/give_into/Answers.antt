@@ -30,6 +30,7 @@ invariant_of-self g c =
       chain = chain_as l (record l { output = c.give.new.self.now }) i.point _ _ i.sets.items (reverse i.here.items) none v.chain;
       few = v.few;
       clean = v.clean;
+      ahead = v.ahead;
       room = v.room;
     }
 

@@ -2,16 +2,17 @@ use Rattle.std.proofs.Common.{◌≡◌, ℕ, ◌+◌, ◌++◌, List, [], lengt
 use Rattle.rawk_value.specs.declared.value.Value.{Value}
 use Rattle.rawk_record.specs.Shown.{Shown}
 use Rattle.rawk_store.specs.Groups.{Group}
-use Rattle.rawk_history.specs.Steps.{Kept}
+use Rattle.rawk_history.specs.Steps.{Forth, Kept}
 use Rattle.rawk_store.specs.declared.registers.Registers.{Registers}
 use Rattle.rawk_store.specs.Stores.{now_of}
 use Rattle.rawk_machine.specs.Last.{Last, On, last_of}
 use Rattle.rawk_machine.specs.Standing.{Standing, Moment, Past, IsAt, StandsAt, MovesOn, ground_of, given_of, moment_of}
-use Rattle.rawk_machine.specs.Kept.{IsPlaced, unsets, pasts, before_of, Chain, Few}
+use Rattle.rawk_machine.specs.Kept.{IsPlaced, unsets, pasts, before_of, Chain, Few, LastFits}
 use Rattle.rawk_machine.specs.Stood.{standing_of, IsBelow}
 use Rattle.rawk_machine.specs.Arrival.{ends_quietly}
 use Rattle.rawk_machine.proofs.SetLists.{none_at, ends_below}
 use Rattle.rawk_machine.proofs.Chains.{ends_with, fit_here, chain-grown, chain-size, moment-grown, unsets-grown, pasts-grown}
+use Rattle.rawk_machine.proofs.Forths.{before-grown, last_fits-grown}
 use Rattle.rawk_machine.proofs.Journals.{moved, few_moved}
 use Rattle.rawk_machine.proofs.Stands.{at_step, come_some, stood_step, stood_same}
 use Rattle.rawk_machine.proofs.Gives.{on_err}
@@ -89,6 +90,7 @@ invariant_of-self g c =
       chain = subst (λ (ks : List Kept). Chain n i.point size i.sets.items (reverse c.journaled.new.here.items) ks) (sym e.same) (subst (λ (gs : List Group). Chain n i.point size i.sets.items (reverse gs) (g.K.Keeper.kept i.keeper)) (sym e.stays) grew);
       few = subst (λ (top : Option ℕ). Few top (length (g.K.Keeper.kept c.journaled.new.keeper))) (sym c.journaled.ensures.limit) (subst (λ (ks : List Kept). Few (g.K.Keeper.limit i.keeper) (length ks)) (sym e.same) v.few);
       clean = λ is. ap (λ (gs : List Group). reverse gs) e.stays ∙ v.clean (ap (last_of i.last) (sym e.forth) ∙ is);
+      ahead = subst (λ (o : Option Forth). LastFits (last_of i.last o) n.arrays) (sym e.forth) (last_fits-grown (last_of i.last (g.K.Keeper.forth i.keeper)) l.arrays n.arrays e.grown.arrays v.ahead);
       room = λ x xs is. v.room x xs (ap (λ (gs : List Group). reverse gs) (sym e.stays) ∙ is);
     }
 
@@ -115,6 +117,7 @@ invariant_of-self-in-None g c =
       chain = subst (λ (gs : List Group). Chain n (i.point + 1) size i.sets.items (reverse gs) (g.K.Keeper.kept c.journaled.new.keeper)) (sym e.here) m.chain;
       few = subst (λ (top : Option ℕ). Few top (length (g.K.Keeper.kept c.journaled.new.keeper))) (sym c.journaled.ensures.limit) (few_moved (g.K.Keeper.limit i.keeper) m);
       clean = λ is. ap (λ (gs : List Group). reverse gs) e.here;
+      ahead = tt;
       room = λ x xs is. absurd (cc (ap (λ (gs : List Group). reverse gs) e.here, is));
     }
 
@@ -169,10 +172,11 @@ returns-in_err-journaled-in-None-clause-err g c =
           ∙ unsets-grown l n i.point size i.sets.items here e.grown v.sound (fit_here l i.point size i.sets.items here kept v.chain)
           ∙ ap (λ (m : Standing g.row.R.Denot). m.unset) c.self.view_is;
       history = past ∙ ap (λ (m : Standing g.row.R.Denot). m.history) c.self.view_is;
-      before = ap (λ (la : Last). before_of la n.globals n.current (pasts n i.sets.items i.point (reverse c.journaled.new.here.items) (g.K.Keeper.kept c.journaled.new.keeper))) (ap (last_of i.last) e.forth)
-          ∙ ap (λ (xs : List Value). before_of (last_of i.last (g.K.Keeper.forth i.keeper)) xs n.current (pasts n i.sets.items i.point (reverse c.journaled.new.here.items) (g.K.Keeper.kept c.journaled.new.keeper))) e.grown.globals
-          ∙ ap (λ (x : Shown). before_of (last_of i.last (g.K.Keeper.forth i.keeper)) l.globals x (pasts n i.sets.items i.point (reverse c.journaled.new.here.items) (g.K.Keeper.kept c.journaled.new.keeper))) e.grown.current
-          ∙ ap (λ (ps : List Past). before_of (last_of i.last (g.K.Keeper.forth i.keeper)) l.globals l.current ps) past
+      before = ap (λ (la : Last). before_of la n.globals n.arrays n.current (pasts n i.sets.items i.point (reverse c.journaled.new.here.items) (g.K.Keeper.kept c.journaled.new.keeper))) (ap (last_of i.last) e.forth)
+          ∙ ap (λ (xs : List Value). before_of (last_of i.last (g.K.Keeper.forth i.keeper)) xs n.arrays n.current (pasts n i.sets.items i.point (reverse c.journaled.new.here.items) (g.K.Keeper.kept c.journaled.new.keeper))) e.grown.globals
+          ∙ ap (λ (x : Shown). before_of (last_of i.last (g.K.Keeper.forth i.keeper)) l.globals n.arrays x (pasts n i.sets.items i.point (reverse c.journaled.new.here.items) (g.K.Keeper.kept c.journaled.new.keeper))) e.grown.current
+          ∙ before-grown (last_of i.last (g.K.Keeper.forth i.keeper)) l.globals l.arrays n.arrays l.current (pasts n i.sets.items i.point (reverse c.journaled.new.here.items) (g.K.Keeper.kept c.journaled.new.keeper)) e.grown.arrays v.sound.arrays v.ahead
+          ∙ ap (λ (ps : List Past). before_of (last_of i.last (g.K.Keeper.forth i.keeper)) l.globals l.arrays l.current ps) past
           ∙ ap (λ (m : Standing g.row.R.Denot). m.before) c.self.view_is;
     })
 

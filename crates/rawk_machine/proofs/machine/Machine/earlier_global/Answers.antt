@@ -7,7 +7,8 @@ use Rattle.rawk_store.specs.Stores.{now_of}
 use Rattle.rawk_machine.specs.Last.{Back, Last, last_of}
 use Rattle.rawk_machine.specs.declared.last_move.LastMove.{LastMove}
 use Rattle.rawk_machine.specs.declared.last_move.LastMove.TheVariants as move
-use Rattle.rawk_machine.specs.Standing.{Standing, Seen}
+use Rattle.rawk_machine.specs.Standing.{Standing}
+use Rattle.rawk_store.specs.Observed.{Observed}
 use Rattle.rawk_machine.specs.Kept.{pasts, globals_forth, before_of}
 use Rattle.rawk_machine.proofs.Befores.{length_before}
 use Rattle.rawk_machine.proofs.machine.Machine.earlier_global.Goals as goal
@@ -29,7 +30,7 @@ returns-in-Some-ahead g c = λ s is.
     let mid = back l.globals f.globals in
     let inside : c.args.number < length l.globals = omega (arith, c.if-len-number.false, c.len.ensures) in
     let last : last_of i.last (g.K.Keeper.forth i.keeper) ≡ Back f = ap (λ (m : LastMove). last_of m (g.K.Keeper.forth i.keeper)) c.in-Back.is ∙ ap (last_of move.Back) a.1 in
-    let seen = same_Some _ _ (sym (ap (λ (la : Last). before_of la l.globals l.current (pasts l i.sets.items i.point (reverse i.here.items) (g.K.Keeper.kept i.keeper))) last) ∙ ap (λ (m : Standing g.row.R.Denot). m.before) c.self.view_is ∙ is) in
+    let seen = same_Some _ _ (sym (ap (λ (la : Last). before_of la l.globals l.arrays l.current (pasts l i.sets.items i.point (reverse i.here.items) (g.K.Keeper.kept i.keeper))) last) ∙ ap (λ (m : Standing g.row.R.Denot). m.before) c.self.view_is ∙ is) in
     let at = ap (λ es. slice_get (back l.globals es) c.args.number) (sym a.2) ∙ c.led_to-in-Some-ahead.ensures l.globals inside (sym c.value-now.ensures) in
     let led = c.led_through.ensures mid (omega (arith, inside, length-back l.globals f.globals)) at in
-    sym led ∙ ap (λ (gs : List Group). slice_get (globals_forth mid gs) c.args.number) (c.ahead_sets.ensures f a.1) ∙ ap (λ (x : Seen). slice_get x.globals c.args.number) seen
+    sym led ∙ ap (λ (gs : List Group). slice_get (globals_forth mid gs) c.args.number) (c.ahead_sets.ensures f a.1) ∙ ap (λ (x : Observed). slice_get x.globals c.args.number) seen

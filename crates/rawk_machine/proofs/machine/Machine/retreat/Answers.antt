@@ -6,11 +6,12 @@ use Rattle.rawk_store.specs.Layout.{Layout}
 use Rattle.rawk_store.specs.Stores.{now_of}
 use Rattle.rawk_code.specs.Actions.{SetAt}
 use Rattle.rawk_store.specs.Back.{back}
+use Rattle.rawk_store.specs.GroupBack.{arrays_in}
 use Rattle.rawk_record.specs.Shown.{record_back}
 use Rattle.rawk_machine.specs.Last.{Back, Last, last_of}
 use Rattle.rawk_machine.specs.declared.last_move.LastMove.TheVariants as move
 use Rattle.rawk_machine.specs.Standing.{Standing, Stood, gone_back}
-use Rattle.rawk_machine.specs.Kept.{below, back_in, newest_first, pasts, globals_forth, record_forth, Chain, Few}
+use Rattle.rawk_machine.specs.Kept.{below, back_in, newest_first, pasts, arrays_forth, globals_forth, record_forth, Chain, Few, LastFits}
 use Rattle.rawk_machine.specs.Stood.{standing_of}
 use Rattle.rawk_machine.specs.Arrival.{ends_quietly}
 use Rattle.rawk_machine.proofs.Chains.{fit_here}
@@ -74,6 +75,7 @@ invariant_of-self g c =
       chain = subst (λ k. Chain (now_of c.go_back.new.store) (i.point - 1) k c.keep_below.new.sets.items (reverse c.go_back.new.here.items) items) bytes chain3;
       few = subst (λ (top : Option ℕ). Few top (length items)) (sym c.go_back.ensures.limit) (few_less (g.K.Keeper.limit i.keeper) (length items) (length (item ∷ items)) (omega arith) (subst (λ (ks : List Kept). Few (g.K.Keeper.limit i.keeper) (length ks)) took v.few));
       clean = λ e. absurd (back_not_on (g.K.Keeper.forth c.go_back.new.keeper) e);
+      ahead = subst (λ (o : Option Forth). LastFits (last_of move.Back o) c.go_back.new.store.arrays.now) (sym b.is) (b.fits, b.sets_fit);
       room = λ x xs e. omega (arith, h.2, v.within);
     }
 
@@ -104,6 +106,7 @@ returns-clause-back g c =
     ∙ ap (λ (top : Option ℕ). standing (below i.point i.sets.items) (record i.tape { consumed = m.registers.consumed }) m item.sets top) c.go_back.ensures.limit
     ∙ gone_is i.code i.settings i.steps i.sets.items i.point i.tape l i.executed here item newer items limit (last_of i.last (g.K.Keeper.forth i.keeper))
     (ap (λ (x : Layout). globals_forth (back x.globals newer.globals) newer.sets) (sym is) ∙ b.globals)
+    (ap (λ (x : Layout). arrays_forth (arrays_in x.arrays newer.others) newer.sets) (sym is) ∙ b.arrays)
     (ap (λ (x : Layout). record_forth (record_back x.current newer.current) newer.sets) (sym is) ∙ b.current)
     ∙ ap old (sym took)
     ∙ ap (λ (x : Standing g.row.R.Denot). gone_back x.history x) c.self.view_is

@@ -15,6 +15,7 @@ use Rattle.rawk_machine.specs.Kept.{IsPlaced, Chain}
 use Rattle.rawk_machine.specs.Stood.{standing_of, IsBelow}
 use Rattle.rawk_machine.specs.Written.{StandsBehind, WrittenOr}
 use Rattle.rawk_machine.specs.Arrival.{ends_quietly}
+use Rattle.rawk_machine.proofs.Forths.{last_fits-grown}
 use Rattle.rawk_machine.proofs.Chains.{chain_set, chain-grown, placed-grown}
 use Rattle.rawk_machine.proofs.Leads.{set_is, stands_grown}
 use Rattle.rawk_machine.proofs.Stands.{stood_set}
@@ -54,6 +55,7 @@ invariant_of-self-2 g c =
       chain = subst (λ (gs : List Group). Chain n i.point size c.push.new.self.items gs kept) (sym last) chain2;
       few = v.few;
       clean = λ is. absurd (cc is);
+      ahead = tt;
       room = λ y ys h. (v.below going).1;
     }
 
@@ -110,7 +112,7 @@ returns-in-Err-clause-err g c =
     let standing = λ (xs : List SetAt) (gs : List Group). standing_of i.code i.settings i.steps xs i.point i.tape n i.executed (reverse gs) kept limit last in
     ap (λ (xs : List SetAt). standing xs c.write_copy.new.here.items) c.write_copy.ensures.sets
     ∙ ap (standing i.sets.items) e.stays
-    ∙ stands_grown i.code i.settings i.steps i.sets.items i.point size i.tape l n i.executed (reverse i.here.items) kept limit last e.err v.sound v.chain
+    ∙ stands_grown i.code i.settings i.steps i.sets.items i.point size i.tape l n i.executed (reverse i.here.items) kept limit last e.err v.sound v.ahead v.chain
     ∙ c.self.view_is
 
 pub returns-in-Err-clause-stood : goal.returns-in-Err-clause-stood
@@ -141,5 +143,6 @@ invariant_of-self g c =
       chain = subst (λ (xs : List SetAt). Chain n i.point size xs (reverse c.write_copy.new.here.items) kept) (sym sets) (subst (λ (gs : List Group). Chain n i.point size i.sets.items gs kept) (sym stays) grew);
       few = v.few;
       clean = λ is. stays ∙ v.clean is;
+      ahead = last_fits-grown (last_of i.last (g.K.Keeper.forth i.keeper)) l.arrays n.arrays e.err.arrays v.ahead;
       room = λ y ys is. v.room y ys (sym stays ∙ is);
     }

@@ -67,6 +67,7 @@ invariant_of-self-2 g c =
       chain = subst (λ k. Chain (now_of c.undo.new.self) i.point k c.pop-last.new.self.items rest kept) bytes chain2;
       few = v.few;
       clean = λ is. absurd (cc is);
+      ahead = tt;
       room = λ y ys e. under;
     }
 
