@@ -33,11 +33,12 @@ impl<R: Source + Drop, K: Keeper> Model for Stage<R, K> {
 
     ghost use Rattle.std.specs.Coded.{codes};
     ghost use Rattle.rawk_value.specs.contracts.value.Value as value;
+    ghost use Rattle.rawk_code.specs.contracts.formula.Formula as formula;
     ghost use Rattle.rawk_machine.specs.Elements.{elements_code};
     ghost use Rattle.rawk_tree.specs.contracts.tree.Expr as expr;
     ghost use Rattle.rawk_tree.specs.contracts.tree.Stmt as stmt;
 
-    ghost coded = { Prim.hlevel (codes, expr.the_row.coded, stmt.the_row.coded, elements_code value.the_row.coded, R.code) };
+    ghost coded = { Prim.hlevel (codes, expr.the_row.coded, stmt.the_row.coded, formula.the_row.coded, elements_code value.the_row.coded, R.code) };
 
     ghost view = { λ s. record { program = s.program; machine = s.machine } };
 

@@ -1,6 +1,6 @@
 -- An element is what stands in the slot of its key.
-use Rattle.std.specs.Prelude.{◌≡◌, ℕ, ◌<◌, ◌≤◌, length, slice_get, List, [], ◌∷◌, Option, None, Some, refl}
-use Rattle.std.proofs.Common.{suc, zero, inl, inr, sym, ap, ◌∙◌, arith}
+use Rattle.std.specs.Prelude.{◌≡◌, ℕ, ◌<◌, ◌≤◌, length, slice_get, List, [], ◌∷◌, Option, None, Some}
+use Rattle.std.proofs.Common.{suc, zero, inl, inr, ap, ◌∙◌, arith}
 use Rattle.std.proofs.lemmas.Bool.{cases_lt}
 use Rattle.std.proofs.lemmas.List.{get_or_past}
 use Rattle.std.specs.FinMap.{get, get-empty}
@@ -8,7 +8,6 @@ use Rattle.std.specs.Ordering.{nat_cmp}
 use Rattle.std.specs.Cmp.Lexicographic.{slice_cmp}
 use Rattle.rawk_value.specs.Values.{Bytes}
 use Rattle.rawk_value.specs.declared.value.Value.{Value}
-use Rattle.rawk_keys.specs.ArrayKey.{array_key}
 use Rattle.rawk_arrays.specs.Elements.{Elements, element_at}
 use Rattle.rawk_arrays.specs.Laid.{Laid, IsLaid, arrays_of, slot}
 use Rattle.rawk_arrays.specs.Place.{place}

@@ -1,3 +1,7 @@
+pub mod Term
+pub mod Terms
+pub mod TermFalls
+pub mod TermCode
 pub mod Actions
 pub mod Meaning
 pub mod Trace

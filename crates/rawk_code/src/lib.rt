@@ -3,6 +3,7 @@
 
 pub mod code;
 pub mod fitting;
+pub mod formula;
 pub mod sets;
 pub mod settings;
 
@@ -10,5 +11,6 @@ pub use code::{
     Code, Computation, Destination, Entry, Instr, Op, Operand, Simple, Simples, Variable,
 };
 pub use fitting::fits;
+pub use formula::{Formula, Measure, Shape};
 pub use sets::SetAt;
 pub use settings::{FirstValue, Settings};

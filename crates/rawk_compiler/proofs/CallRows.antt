@@ -26,6 +26,7 @@ use Rattle.rawk_value.specs.Values.{Bytes}
 use Rattle.rawk_code.specs.declared.code.Op.TheVariants as does
 use Rattle.rawk_code.specs.declared.code.Instr.TheVariants as instr
 use Rattle.rawk_code.specs.declared.code.Operand.TheVariants.{Given as Known, Popped, Computed}
+use Rattle.rawk_code.specs.Term as formula
 use Rattle.rawk_code.specs.declared.code.Computation.TheVariants as computation
 use Rattle.rawk_code.specs.declared.code.Variable.TheVariants as cell
 use Rattle.rawk_code.specs.declared.code.Destination.TheVariants as destination
@@ -164,8 +165,8 @@ module _ (b : Box (Unit {0}) Global) (ptr : Ptr) (alloc : Global) where
       ∷ instr.Point (Some 4) ∷ instr.Do (does.Print 0 (simple.Global y ∷ simple.Global x ∷ []))
       ∷ instr.BeginEnd ∷ instr.Halt
       ∷ instr.Point (Some 0)
-      ∷ instr.Point (Some 1) ∷ instr.Do (does.Store (destination.Variable (cell.Global x)) (Computed (computation.Arithmetic Add) (simple.Global x) (simple.Number (pos 1))))
-      ∷ instr.Point (Some 2) ∷ instr.Return 0 (Computed (computation.Arithmetic Mul) (simple.Local 0) (simple.Local 0))
+      ∷ instr.Point (Some 1) ∷ instr.Do (does.Store (destination.Variable (cell.Global x)) (Computed (formula.Both (computation.Arithmetic Add) (formula.Given (simple.Global x)) (formula.Given (simple.Number (pos 1))))))
+      ∷ instr.Point (Some 2) ∷ instr.Return 0 (Computed (formula.Both (computation.Arithmetic Mul) (formula.Given (simple.Local 0)) (formula.Given (simple.Local 0))))
       ∷ instr.Return 0 (Known simple.Uninitialized) ∷ []
   squaring-code = refl
 
@@ -302,8 +303,8 @@ module _ (b : Box (Unit {0}) Global) (ptr : Ptr) (alloc : Global) where
   between-code : program_code (between (is_record 1) (is_record 2)) ≡ instr.BeginMain
       ∷ instr.Point None ∷ instr.ReadRecord 9
       ∷ instr.Point (Some 1) ∷ instr.SkipIfOn 0 2
-      ∷ instr.SkipIfFalse 5 (Computed (computation.Comparison comparison.Equal) (simple.Global NR) (simple.Number (pos 1))) ∷ instr.Do (does.SetRange 0 true)
-      ∷ instr.SkipIfFalse 1 (Computed (computation.Comparison comparison.Equal) (simple.Global NR) (simple.Number (pos 2))) ∷ instr.Do (does.SetRange 0 false)
+      ∷ instr.SkipIfFalse 5 (Computed (formula.Both (computation.Comparison comparison.Equal) (formula.Given (simple.Global NR)) (formula.Given (simple.Number (pos 1))))) ∷ instr.Do (does.SetRange 0 true)
+      ∷ instr.SkipIfFalse 1 (Computed (formula.Both (computation.Comparison comparison.Equal) (formula.Given (simple.Global NR)) (formula.Given (simple.Number (pos 2))))) ∷ instr.Do (does.SetRange 0 false)
       ∷ instr.Point (Some 2) ∷ instr.Do (does.Print 0 (simple.Field 0 ∷ []))
       ∷ instr.GoTo 1
       ∷ instr.BeginEnd ∷ instr.Halt

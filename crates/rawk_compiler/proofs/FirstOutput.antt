@@ -12,14 +12,13 @@ use Rattle.rawk_words.specs.declared.array.Array.{Array}
 use Rattle.rawk_store.specs.State.{array_keys}
 use Rattle.rawk_code.specs.declared.code.Destination.{Destination}
 use Rattle.rawk_code.specs.declared.code.Simple.TheVariants as simple
-use Rattle.rawk_code.specs.declared.code.Operand.{Operand}
 use Rattle.rawk_code.specs.declared.code.Operand.TheVariants as operand
 use Rattle.rawk_code.specs.declared.code.Instr.{Instr}
 use Rattle.rawk_code.specs.declared.code.Instr.TheVariants as instr
 use Rattle.rawk_code.specs.Actions.{Point, Run, Ended, Limited, Stops, Goes, Breaks, sets_at, Given}
 use Rattle.rawk_code.specs.Trace.{reads, start}
 use Rattle.rawk_code.specs.Machine.{Phase, InBegin, InEnd, to_main, has_next, Places, Config, Going, goes_on, act, steps}
-use Rattle.rawk_compiler.specs.Code.{operand_of, unless_ready, expr_code, Piece, nowhere, always, in_turn, Arm, then_to, branch_to, if_code, step_around, body_around, loop_code, keys_around, keys_code, scalar_destination, jump_code, test_code, stmt_code, stmt_codes, arms_of, main_code, begin_code, end_at_of, functions_at_of, functions_code, program_code, HasAt}
+use Rattle.rawk_compiler.specs.Code.{operand_of, unless_ready, expr_code, over, fork_of, condition_code, condition_leap, Piece, nowhere, always, in_turn, Arm, then_to, branch_to, if_code, step_around, body_around, loop_code, keys_around, keys_code, scalar_destination, jump_code, stmt_code, stmt_codes, arms_of, main_code, begin_code, end_at_of, functions_at_of, functions_code, program_code, HasAt}
 use Rattle.rawk_code.specs.Laws.{IsBeginning, FirstIsSilent, FirstOutputLaw}
 use Rattle.rawk_code.specs.Steps.{run_of, with_point, all_set_same, steps_grow, over_stays}
 use Rattle.rawk_compiler.proofs.Follows.{has_front, has_back, has_all}
@@ -111,12 +110,12 @@ module _ (code : List Instr) where
             let rest = in_turn (map (branch_to end) bs) w (pc + length piece) in
             let work = then_to end b.work w (pc + length b.test + 1) in
             let has_piece = has_front code pc piece rest (has_front code pc (piece ++ rest) c has) in
-            let has_test = has_front code pc b.test (instr.SkipIfFalse (length work) b.from ∷ work) has_piece in
+            let has_test = has_front code pc b.test (over (length work) b.leap ∷ work) has_piece in
             at_point pc (Some all.0) (subst (HasAt code pc) all.2 has_test).0;
       }
 
-  loop_opens : (first : Bool) (site : ℕ) (c : List Instr) (from : Operand) (ps pb : Piece) → Opens ps → Opens pb → Opens (loop_code first (instr.Point (Some site) ∷ c) from ps pb)
-  loop_opens first site c from ps pb os ob =
+  loop_opens : (first : Bool) (site : ℕ) (c : List Instr) (leap : Instr) (ps pb : Piece) → Opens ps → Opens pb → Opens (loop_code first (instr.Point (Some site) ∷ c) leap ps pb)
+  loop_opens first site c leap ps pb os ob =
       record {
         by = λ w pc has calm.
             let t = instr.Point (Some site) ∷ c in
@@ -125,7 +124,7 @@ module _ (code : List Instr) where
             let sp = start + length b in
             let s = ps (step_around pc w) sp in
             let back : List Instr = instr.GoTo (pc + 3) ∷ [] in
-            let tail = instr.SkipIfFalse (length b + length s + 1) from ∷ (b ++ (s ++ back)) in
+            let tail = over (length b + length s + 1) leap ∷ (b ++ (s ++ back)) in
             let e3 : pc + 1 + 1 + 1 ≡ pc + 3 = omega arith in
             let has_test = subst (λ p. HasAt code p (t ++ tail)) e3 has.1.1.1 in
             let has_tail = has_back code (pc + 3) t tail has_test in
@@ -172,7 +171,7 @@ module _ (code : List Instr) where
     stmt_opens (stmt.While' site e p body) = loop_opens false site _ _ (λ w at. []) (stmt_code body) none_opens (stmt_opens body)
     stmt_opens (stmt.DoWhile' p body site e) = loop_opens true site _ _ (λ w at. []) (stmt_code body) none_opens (stmt_opens body)
     stmt_opens (stmt.For' p first site e q step r body) =
-        in_turn_opens (stmt_code first ∷ loop_code false (test_code site e) (operand_of e) (stmt_code step) (stmt_code body) ∷ []) (stmt_opens first, (loop_opens false site _ _ (stmt_code step) (stmt_code body) (stmt_opens step) (stmt_opens body), tt))
+        in_turn_opens (stmt_code first ∷ loop_code false (condition_code site e) (condition_leap e) (stmt_code step) (stmt_code body) ∷ []) (stmt_opens first, (loop_opens false site _ _ (stmt_code step) (stmt_code body) (stmt_opens step) (stmt_opens body), tt))
     stmt_opens (stmt.Break site) = point_opens site (λ w at. jump_code w.exit)
     stmt_opens (stmt.Continue site) = point_opens site (λ w at. jump_code w.again)
     stmt_opens (stmt.Next site) = point_opens site (always _)
@@ -190,7 +189,7 @@ module _ (code : List Instr) where
 
     arms_tested : {m : _} → (row : Row_of-Branch m) → AllTested (arms_of row)
     arms_tested end_of-Branch = tt
-    arms_tested (more_of-Branch site e body rest) = (site, unless_ready (operand_of e) (expr_code e), refl, arms_tested rest)
+    arms_tested (more_of-Branch site e body rest) = (site, (fork_of e false).front, refl, arms_tested rest)
 
   all_open : (ss : List Stmt) → AllOpen (map stmt_code ss)
   all_open [] = tt

@@ -1,5 +1,6 @@
 pub mod Follows
 pub mod Expressions
+pub mod Conditions
 pub mod Keys
 pub mod Getlines
 pub mod Statements
@@ -20,3 +21,4 @@ pub mod Rows
 pub mod CallRows
 pub mod ArrayRows
 pub mod GetlineRows
+pub mod ConditionRows

@@ -1,9 +1,9 @@
 -- Compiled code goes back only to points.
-use Rattle.std.proofs.Common.{◌≡◌, ℕ, pos, zero, suc, ◌+◌, ◌-◌, ◌*◌, ◌<◌, ◌≤◌, ◌⊎◌, inl, inr, Bool, true, false, List, [], ◌∷◌, ◌++◌, length, map, Option, Some, None, refl, sym, ap, ◌∙◌, subst, arith, length-append}
+use Rattle.std.proofs.Common.{◌≡◌, ℕ, pos, zero, suc, ◌+◌, ◌-◌, ◌*◌, ◌<◌, ◌≤◌, ◌⊎◌, inl, inr, Bool, true, false, not, List, [], ◌∷◌, ◌++◌, length, map, Option, Some, None, refl, sym, ap, ◌∙◌, subst, arith, length-append}
 use Rattle.std.specs.Prelude.{slice_get, nat_lt, ◌||◌}
 use Rattle.std.proofs.lemmas.Option.{slice_get_past}
 use Rattle.std.proofs.lemmas.Bool.{cases_lt, lt-ltb}
-use Rattle.rawk_tree.specs.declared.tree.Expr.{Expr, Row_of-Expr, end_of-Expr, more_of-Expr, items-the_row-Expr, Row_of-Link, end_of-Link, more_of-Link}
+use Rattle.rawk_tree.specs.declared.tree.Expr.{Expr, Row_of-Expr, end_of-Expr, more_of-Expr, items-the_row-Expr, Row_of-Link, end_of-Link, more_of-Link, items-the_row-Link}
 use Rattle.rawk_tree.specs.declared.tree.Expr.TheVariants as expr
 use Rattle.rawk_tree.specs.declared.tree.Link.{Link}
 use Rattle.rawk_tree.specs.declared.tree.Link.TheVariants as link
@@ -18,6 +18,9 @@ use Rattle.rawk_tree.specs.declared.tree.Function.{Function}
 use Rattle.rawk_tree.specs.declared.tree.Program.{Program}
 use Rattle.rawk_words.specs.declared.array.Array.{Array}
 use Rattle.rawk_words.specs.declared.operator.Logic.{Logic}
+use Rattle.rawk_words.specs.declared.operator.Sign.TheVariants as sign
+use Rattle.rawk_tree.specs.declared.tree.Unary.{Unary}
+use Rattle.rawk_tree.specs.declared.tree.Unary.TheVariants as unary
 use Rattle.rawk_compiler.specs.declared.loops.Around.{Around}
 use Rattle.rawk_code.specs.declared.code.Simple.{Simple}
 use Rattle.rawk_code.specs.declared.code.Simple.TheVariants as simple
@@ -31,7 +34,7 @@ use Rattle.rawk_code.specs.declared.code.Instr.{Instr}
 use Rattle.rawk_code.specs.declared.code.Op.TheVariants as does
 use Rattle.rawk_code.specs.declared.code.Instr.TheVariants as instr
 use Rattle.rawk_code.specs.Trace.{reads}
-use Rattle.rawk_compiler.specs.Code.{appending, constant_field, simple_field, unless_constant, destination_of, operand_of, sought_operand, separator_operand, constant_operand, right_operand, unless_ready, pushed, joined, key_code, key_operand, choice_code, decide_code, part_dropped, missing_code, getline_to_code, expr_code, expr_codes, effect_code, place_code, parts_code, link_code, link_codes, front_of, simples_behind, Piece, nowhere, always, in_turn, when_code, Arm, then_to, branch_to, if_code, step_around, body_around, loop_code, keys_around, keys_code, scalar_destination, jump_code, test_code, stmt_code, stmt_codes, arms_of, added, added_to, or_else, closing_code, opened_code, guard_code, rule_code, records_code, main_code, begin_code, record_at_of, end_at_of, functions_at_of, function_code, functions_code, entries_of, program_code, HasAt}
+use Rattle.rawk_compiler.specs.Code.{appending, constant_field, simple_field, unless_constant, destination_of, operand_of, sought_operand, separator_operand, constant_operand, right_operand, unless_ready, pushed, joined, key_code, key_operand, over, Fork, agrees, leap_on, forks_code, deciding, joined_fork, logic_of, is_neutral, deciders, forks_by, against, fork_by, forks, link_fork, link_forks, fork_of, choice_code, decide_code, part_dropped, missing_code, getline_to_code, expr_code, expr_codes, effect_code, place_code, parts_code, link_code, link_codes, front_of, simples_behind, Piece, nowhere, always, in_turn, when_code, Arm, then_to, branch_to, if_code, step_around, body_around, loop_code, keys_around, keys_code, scalar_destination, jump_code, test_code, condition_code, condition_leap, stmt_code, stmt_codes, arms_of, added, added_to, or_else, closing_code, opened_code, guard_code, rule_code, records_code, main_code, begin_code, record_at_of, end_at_of, functions_at_of, function_code, functions_code, entries_of, program_code, HasAt}
 use Rattle.rawk_code.specs.Valid.{rank_of, rank, IsEntry, Descends, IsValid}
 use Rattle.rawk_compiler.proofs.Follows.{has_front, has_back, has_all}
 use Rattle.rawk_compiler.proofs.Statements.{branches_length}
@@ -87,7 +90,7 @@ module _ (code : List Instr) where
   unless_fine : (o : Operand) (c : List Instr) → Fine c → Fine (unless_ready o c)
   unless_fine operand.Popped c f = f
   unless_fine (operand.Given from) c f = fine_none
-  unless_fine (operand.Computed op a b) c f = fine_none
+  unless_fine (operand.Computed t) c f = fine_none
 
   pushed_fine : (o : Option Simple) (c : List Instr) → Fine c → Fine (pushed o c)
   pushed_fine None c f = f
@@ -97,11 +100,76 @@ module _ (code : List Instr) where
   constant_fine None c f = f
   constant_fine (Some n) c f = fine_none
 
-  choice_fine : (test : List Instr) (from : Operand) (first second : List Instr) → Fine test → Fine first → Fine second → Fine (choice_code test from first second)
-  choice_fine test from first second ft fy fn =
+  -- a jump forward goes back nowhere
+  abbrev IsForward : Instr → Type 0
+  IsForward leap = (pc k : ℕ) → BackAt pc (over k leap)
+
+  record FineFork (t : Fork) : Type 0 where
+    front : Fine t.front
+    leap : IsForward t.leap
+
+  leap_fine : (wanted : Bool) (from : Operand) → IsForward (leap_on wanted from)
+  leap_fine true from = λ pc k. tt
+  leap_fine false from = λ pc k. tt
+
+  abbrev AllForks : List Fork → Type 0
+  AllForks [] = Unit {0}
+  AllForks (t ∷ ts) = FineFork t × AllForks ts
+
+  forks_fine : (ts : List Fork) (k : ℕ) → AllForks ts → Fine (forks_code ts k)
+  forks_fine [] k all = fine_none
+  forks_fine (t ∷ ts) k all =
+      let rest = forks_code ts k in
+      fine_append t.front (over (length rest + k) t.leap ∷ rest) all.0.front (fine_cons (over (length rest + k) t.leap) rest (λ pc. all.0.leap pc (length rest + k)) (forks_fine ts k all.1))
+
+  joined_fine_fork : (led : Bool) (ts : List Fork) → AllForks ts → FineFork (joined_fork led ts)
+  joined_fine_fork true ts all = record { front = fine_last (forks_code ts 1) (instr.GoOn 1) (λ pc. tt) (forks_fine ts 1 all); leap = λ pc k. tt }
+  joined_fine_fork false ts all = record { front = forks_fine ts 1 all; leap = λ pc k. tt }
+
+  -- forks for each truth, where there are some
+  abbrev FineForks : (Bool → Fork) → Type 0
+  FineForks t = (wanted : Bool) → FineFork (t wanted)
+
+  abbrev IfFine : Option (Bool → Fork) → Type 0
+  IfFine None = Unit {0}
+  IfFine (Some t) = FineForks t
+
+  abbrev AllFineForks : List (Bool → Fork) → Type 0
+  AllFineForks [] = Unit {0}
+  AllFineForks (t ∷ ts) = FineForks t × AllFineForks ts
+
+  at_truth : (wanted : Bool) (ts : List (Bool → Fork)) → AllFineForks ts → AllForks (map (λ t. t wanted) ts)
+  at_truth wanted [] all = tt
+  at_truth wanted (t ∷ ts) all = (all.0 wanted, at_truth wanted ts all.1)
+
+  deciders_fine : (neutral : Bool) (t : Fork) (ts : List Fork) → FineFork t → AllForks ts → AllForks (deciders neutral t ts)
+  deciders_fine true t ts f all = all
+  deciders_fine false t ts f all = (f, all)
+
+  forks_by_fine : (o : Option Logic) (neutral : Bool → Bool) (t : Bool → Fork) (ts : List (Bool → Fork)) → FineForks t → AllFineForks ts → IfFine (forks_by o neutral t ts)
+  forks_by_fine None neutral t ts f all = tt
+  forks_by_fine (Some l) neutral t ts f all =
+      λ wanted. joined_fine_fork (agrees wanted (deciding l)) _ (deciders_fine (neutral (deciding l)) (t (deciding l)) _ (f (deciding l)) (at_truth (deciding l) ts all))
+
+  against_fine : (u : Unary) (t : Bool → Fork) → FineForks t → IfFine (against u t)
+  against_fine (unary.Sign sign.Not) t f = λ wanted. f (not wanted)
+  against_fine (unary.Sign sign.Plus) t f = tt
+  against_fine (unary.Sign sign.Minus) t f = tt
+  against_fine unary.Length t f = tt
+  against_fine unary.ToLower t f = tt
+  against_fine unary.ToUpper t f = tt
+  against_fine unary.Int t f = tt
+
+  fork_by_fine : (o : Option (Bool → Fork)) (from : Operand) (c : List Instr) → IfFine o → Fine c → FineForks (fork_by o from c)
+  fork_by_fine None from c ready f = λ wanted. record { front = unless_fine from c f; leap = leap_fine wanted from }
+  fork_by_fine (Some t) from c ready f = ready
+
+  choice_fine : (t : Fork) (first second : List Instr) → FineFork t → Fine first → Fine second → Fine (choice_code t first second)
+  choice_fine t first second ft fy fn =
       let other = fine_cons (instr.GoOn (length second)) second (λ pc. tt) fn in
       let both = fine_append first (instr.GoOn (length second) ∷ second) fy other in
-      fine_append test (instr.SkipIfFalse (length first + 1) from ∷ (first ++ (instr.GoOn (length second) ∷ second))) ft (fine_cons (instr.SkipIfFalse (length first + 1) from) (first ++ (instr.GoOn (length second) ∷ second)) (λ pc. tt) both)
+      let leap = over (length first + 1) t.leap in
+      fine_append t.front (leap ∷ (first ++ (instr.GoOn (length second) ∷ second))) ft.front (fine_cons leap (first ++ (instr.GoOn (length second) ∷ second)) (λ pc. ft.leap pc (length first + 1)) both)
 
   decide_fine : (l : Logic) (test : List Instr) (from : Operand) → Fine test → Fine (decide_code l test from)
   decide_fine l test from ft = fine_cons (instr.Decide l (length test + 1)) (test ++ instr.Do (does.Truth from) ∷ []) (λ pc. tt) (fine_last test (instr.Do (does.Truth from)) (λ pc. tt) ft)
@@ -130,7 +198,7 @@ module _ (code : List Instr) where
     expr_fine (expr.Read p) = place_fine p
     expr_fine (expr.Unary' u p e) = fine_last (unless_ready (operand_of e) (expr_code e)) (instr.Do (does.Unary u (operand_of e))) (λ pc. tt) (unless_fine (operand_of e) (expr_code e) (expr_fine e))
     expr_fine (expr.Chain' p first shape more) = fine_append (expr_code first) (joined (link_codes more)) (expr_fine first) (joined_fine (link_codes more) (links_fine more))
-    expr_fine (expr.Choice' p a q b r c) = choice_fine (unless_ready (operand_of a) (expr_code a)) (operand_of a) (expr_code b) (expr_code c) (unless_fine (operand_of a) (expr_code a) (expr_fine a)) (expr_fine b) (expr_fine c)
+    expr_fine (expr.Choice' p a q b r c) = choice_fine (fork_by (forks a) (operand_of a) (expr_code a) false) (expr_code b) (expr_code c) (fork_by_fine (forks a) (operand_of a) (expr_code a) (test_fine a) (expr_fine a) false) (expr_fine b) (expr_fine c)
     expr_fine (expr.After op q) = fine_last (parts_code q) (instr.Do (does.After op (destination_of q))) (λ pc. tt) (parts_fine q)
     expr_fine (expr.Assign' q p e) =
         let from = operand_of e in
@@ -186,6 +254,40 @@ module _ (code : List Instr) where
     links_fine : {m : _} → (row : Row_of-Link m) → AllFine (link_codes row)
     links_fine end_of-Link = tt
     links_fine (more_of-Link l rest) = (link_fine l, links_fine rest)
+
+    test_fine : (e : Expr) → IfFine (forks e)
+    test_fine (expr.Unary' u p e) = against_fine u (fork_by (forks e) (operand_of e) (expr_code e)) (fork_by_fine (forks e) (operand_of e) (expr_code e) (test_fine e) (expr_fine e))
+    test_fine (expr.Chain' p first shape more) =
+        forks_by_fine (logic_of (items-the_row-Link _ more)) (λ decided. is_neutral decided first) (fork_by (forks first) (operand_of first) (expr_code first)) (link_forks more) (fork_by_fine (forks first) (operand_of first) (expr_code first) (test_fine first) (expr_fine first)) (link_tests_fine more)
+    test_fine (expr.Number n) = tt
+    test_fine (expr.Text text) = tt
+    test_fine (expr.Read p) = tt
+    test_fine (expr.Choice' p a q b r c) = tt
+    test_fine (expr.After op q) = tt
+    test_fine (expr.Assign' q p e) = tt
+    test_fine (expr.Update' op q p e) = tt
+    test_fine (expr.Call' f shape args arrays) = tt
+    test_fine (expr.Part' p e q from r count) = tt
+    test_fine (expr.Match' p e q s) = tt
+    test_fine (expr.Replace' extent p s q r place) = tt
+    test_fine (expr.Split' how p e a q by) = tt
+    test_fine (expr.Sprintf' p f shape args) = tt
+    test_fine expr.Getline = tt
+    test_fine (expr.GetlineTo q) = tt
+    test_fine (expr.Has' a shape subscripts) = tt
+    test_fine (expr.Count a) = tt
+
+    link_test_fine : (l : Link) → FineForks (link_fork l)
+    link_test_fine (link.Combine j e) = λ wanted. record { front = fine_none; leap = λ pc k. tt }
+    link_test_fine (link.Decide l e) = fork_by_fine (forks e) (operand_of e) (expr_code e) (test_fine e) (expr_fine e)
+
+    link_tests_fine : {m : _} → (row : Row_of-Link m) → AllFineForks (link_forks row)
+    link_tests_fine end_of-Link = tt
+    link_tests_fine (more_of-Link l rest) = (link_test_fine l, link_tests_fine rest)
+
+  -- a condition
+  fork_fine : (e : Expr) → FineForks (fork_of e)
+  fork_fine e = fork_by_fine (forks e) (operand_of e) (expr_code e) (test_fine e) (expr_fine e)
 
   appends_fine : (x : Variable) (froms : List Simple) → Fine (map (appending x) froms)
   appends_fine x [] = fine_none
@@ -263,16 +365,16 @@ module _ (code : List Instr) where
             ((in_turn_fine cs all.1).by w (pc + length a) to (has_back code pc a b has) (omega (arith, len)) safe);
       }
 
-  when_fine : (t : List Instr) (from : Operand) (pa : Piece) → Fine t → FinePiece pa → FinePiece (when_code t from pa)
-  when_fine t from pa ft fa =
+  when_fine : (t : List Instr) (leap : Instr) (pa : Piece) → Fine t → IsForward leap → FinePiece pa → FinePiece (when_code t leap pa)
+  when_fine t leap pa ft fl fa =
       record {
         by = λ w pc to has le safe.
             let p1 = pc + length t + 1 in
             let a = pa w p1 in
-            let skip = instr.SkipIfFalse (length a) from in
+            let skip = over (length a) leap in
             let back = has_back code pc t (skip ∷ a) has in
             let len = length-append t (skip ∷ a) in
-            backs_append pc t (skip ∷ a) (ft.by pc (has_front code pc t (skip ∷ a) has)) (tt, fa.by w p1 to back.1 (omega (arith, len)) safe);
+            backs_append pc t (skip ∷ a) (ft.by pc (has_front code pc t (skip ∷ a) has)) (fl (pc + length t) (length a), fa.by w p1 to back.1 (omega (arith, len)) safe);
       }
 
   -- a place that is safe up to one place is safe up to one before it
@@ -291,11 +393,11 @@ module _ (code : List Instr) where
 
   abbrev AllArms : List Arm → Type 0
   AllArms [] = Unit {0}
-  AllArms (b ∷ bs) = Fine b.test × FinePiece b.work × AllArms bs
+  AllArms (b ∷ bs) = Fine b.test × IsForward b.leap × FinePiece b.work × AllArms bs
 
   branches_fine : (to : ℕ) (bs : List Arm) → AllArms bs → AllPieces (map (branch_to to) bs)
   branches_fine to [] all = tt
-  branches_fine to (b ∷ bs) all = (when_fine b.test b.from (then_to to b.work) all.0 (then_fine to b.work all.1), branches_fine to bs all.2)
+  branches_fine to (b ∷ bs) all = (when_fine b.test b.leap (then_to to b.work) all.0 all.1 (then_fine to b.work all.2), branches_fine to bs all.3)
 
   if_fine : (bs : List Arm) (pb : Piece) → AllArms bs → FinePiece pb → FinePiece (if_code bs pb)
   if_fine bs pb all fb =
@@ -311,10 +413,11 @@ module _ (code : List Instr) where
             backs_append pc c b ((in_turn_fine (map (branch_to end) bs) (branches_fine end bs all)).by w pc to (has_front code pc c b has) (omega (arith, le, len)) safe) (subst (λ p. Backs p b) same (fb.by w from to has_b (omega (arith, le, len, same)) safe));
       }
 
-  loop_fine : (first : Bool) (site : ℕ) (c : List Instr) (from : Operand) (ps pb : Piece) → Fine c → FinePiece ps → FinePiece pb → FinePiece (loop_code first (instr.Point (Some site) ∷ c) from ps pb)
-  loop_fine first site c from ps pb fc fs fb =
+  loop_fine : (first : Bool) (site : ℕ) (t : Fork) (ps pb : Piece) → FineFork t → FinePiece ps → FinePiece pb → FinePiece (loop_code first (instr.Point (Some site) ∷ t.front) t.leap ps pb)
+  loop_fine first site f ps pb ff fs fb =
       record {
         by = λ w pc to has le safe.
+            let c = f.front in
             let t = instr.Point (Some site) ∷ c in
             let start = pc + 3 + length t + 1 in
             let wb = body_around pc w in
@@ -323,7 +426,7 @@ module _ (code : List Instr) where
             let sp = start + length b in
             let s = ps ws sp in
             let back : List Instr = instr.GoTo (pc + 3) ∷ [] in
-            let tail = instr.SkipIfFalse (length b + length s + 1) from ∷ (b ++ (s ++ back)) in
+            let tail = over (length b + length s + 1) f.leap ∷ (b ++ (s ++ back)) in
             let e3 : pc + 1 + 1 + 1 ≡ pc + 3 = omega arith in
             let e2 : pc + 1 + 1 ≡ pc + 2 = omega arith in
             let has_test = subst (λ p. HasAt code p (t ++ tail)) e3 has.1.1.1 in
@@ -336,7 +439,7 @@ module _ (code : List Instr) where
             let outer : SafeJump w.again (sp + length s) = safe_before w.again (sp + length s) to (omega (arith, le, len)) safe.again in
             let backs_step = backs_append sp s back (fs.by ws sp (sp + length s) (has_front code sp s back has_step) (omega arith) (record { exit = exits; again = outer })) (subst (Lands (sp + length s) (pc + 3)) (sym point) tt, tt) in
             let backs_body = backs_append start b (s ++ back) (fb.by wb start sp (has_front code start b (s ++ back) has_tail.1) (omega arith) (record { exit = safe_before (Some (pc + 1)) sp (sp + length s) (omega arith) exits; again = agains })) backs_step in
-            let backs_test = backs_append (pc + 3) t tail (tt, fc.by (pc + 3 + 1) (has_front code (pc + 3 + 1) c tail has_test.1)) (tt, backs_body) in
+            let backs_test = backs_append (pc + 3) t tail (tt, ff.front.by (pc + 3 + 1) (has_front code (pc + 3 + 1) c tail has_test.1)) (ff.leap (pc + 3 + length t) (length b + length s + 1), backs_body) in
             (tt, (tt, (tt, subst (λ p. Backs p (t ++ tail)) (sym e3) backs_test)));
       }
 
@@ -383,11 +486,11 @@ module _ (code : List Instr) where
         always_fine _ (fine_cons (instr.Point (Some site)) _ (λ pc. tt) (fine_append (expr_code f) (d ++ i ∷ []) (expr_fine f) (fine_last d i (λ pc. tt) (joined_fine _ (list_fine es.items)))))
     stmt_fine (stmt.Block' shape all) = in_turn_fine (stmt_codes all) (stmts_fine all)
     stmt_fine (stmt.If' shape branches p other) = if_fine (arms_of branches) (stmt_code other) (arms_fine branches) (stmt_fine other)
-    stmt_fine (stmt.While' site e p body) = loop_fine false site (unless_ready (operand_of e) (expr_code e)) (operand_of e) (λ w at. []) (stmt_code body) (tested_fine e) (in_turn_fine [] tt) (stmt_fine body)
-    stmt_fine (stmt.DoWhile' p body site e) = loop_fine true site (unless_ready (operand_of e) (expr_code e)) (operand_of e) (λ w at. []) (stmt_code body) (tested_fine e) (in_turn_fine [] tt) (stmt_fine body)
+    stmt_fine (stmt.While' site e p body) = loop_fine false site (fork_of e false) (λ w at. []) (stmt_code body) (fork_fine e false) (in_turn_fine [] tt) (stmt_fine body)
+    stmt_fine (stmt.DoWhile' p body site e) = loop_fine true site (fork_of e false) (λ w at. []) (stmt_code body) (fork_fine e false) (in_turn_fine [] tt) (stmt_fine body)
     stmt_fine (stmt.For' p first site e q step r body) =
-        in_turn_fine (stmt_code first ∷ loop_code false (test_code site e) (operand_of e) (stmt_code step) (stmt_code body) ∷ [])
-        (stmt_fine first, (loop_fine false site (unless_ready (operand_of e) (expr_code e)) (operand_of e) (stmt_code step) (stmt_code body) (tested_fine e) (stmt_fine step) (stmt_fine body), tt))
+        in_turn_fine (stmt_code first ∷ loop_code false (condition_code site e) (condition_leap e) (stmt_code step) (stmt_code body) ∷ [])
+        (stmt_fine first, (loop_fine false site (fork_of e false) (stmt_code step) (stmt_code body) (fork_fine e false) (stmt_fine step) (stmt_fine body), tt))
     stmt_fine (stmt.Break site) = jump_fine site (λ w. w.exit) (λ w to s. s.exit)
     stmt_fine (stmt.Continue site) = jump_fine site (λ w. w.again) (λ w to s. s.again)
     stmt_fine (stmt.Next site) = always_fine _ (fine_cons (instr.Point (Some site)) _ (λ pc. tt) (fine_cons instr.NextRecord [] (λ pc. tt) fine_none))
@@ -410,7 +513,7 @@ module _ (code : List Instr) where
 
     arms_fine : {m : _} → (row : Row_of-Branch m) → AllArms (arms_of row)
     arms_fine end_of-Branch = tt
-    arms_fine (more_of-Branch site e body rest) = (fine_cons (instr.Point (Some site)) _ (λ pc. tt) (tested_fine e), stmt_fine body, arms_fine rest)
+    arms_fine (more_of-Branch site e body rest) = (fine_cons (instr.Point (Some site)) _ (λ pc. tt) (fork_fine e false).front, (fork_fine e false).leap, stmt_fine body, arms_fine rest)
 
   all_fine : (ss : List Stmt) → AllPieces (map stmt_code ss)
   all_fine [] = tt
@@ -418,17 +521,16 @@ module _ (code : List Instr) where
 
   guard_fine : (g : Guard) (site : ℕ) (piece : Piece) → FinePiece piece → FinePiece (guard_code g site piece)
   guard_fine (When e) site piece f =
-      when_fine (instr.Point (Some site) ∷ unless_ready (operand_of e) (expr_code e)) (operand_of e) piece (fine_cons (instr.Point (Some site)) _ (λ pc. tt) (unless_fine (operand_of e) (expr_code e) (expr_fine e))) f
+      when_fine (condition_code site e) (condition_leap e) piece (fine_cons (instr.Point (Some site)) _ (λ pc. tt) (fork_fine e false).front) (fork_fine e false).leap f
   guard_fine (Between range first last) site piece f =
       let closes = closing_code range last in
-      let closes_fine = fine_append (unless_ready (operand_of last) (expr_code last)) _ (tested_fine last) (fine_cons (instr.SkipIfFalse 1 (operand_of last)) _ (λ pc. tt) (fine_cons (instr.Do (does.SetRange range false)) [] (λ pc. tt) fine_none)) in
+      let closes_fine = fine_append (fork_of last false).front _ (fork_fine last false).front (fine_cons (over 1 (condition_leap last)) _ (λ pc. (fork_fine last false).leap pc 1) (fine_cons (instr.Do (does.SetRange range false)) [] (λ pc. tt) fine_none)) in
       let opened : FinePiece (opened_code range last piece) = record {
         by = λ w pc to has le safe.
             let a = piece w (pc + 1 + length closes) in
             (tt, backs_append (pc + 1) closes a (closes_fine.by (pc + 1) (has_front code (pc + 1) closes a has.1)) (f.by w (pc + 1 + length closes) to (has_back code (pc + 1) closes a has.1) (omega (arith, le, length-append closes a)) safe));
       } in
-      let test = unless_ready (operand_of first) (expr_code first) in
-      let whole = when_fine test (operand_of first) (opened_code range last piece) (tested_fine first) opened in
+      let whole = when_fine (fork_of first false).front (condition_leap first) (opened_code range last piece) (fork_fine first false).front (fork_fine first false).leap opened in
       record { by = λ w pc to has le safe. (tt, (tt, whole.by w (pc + 1 + 1) to has.1.1 (omega (arith, le)) safe)) }
 
   rules_fine : (rs : List Rule) → AllPieces (map rule_code rs)
@@ -567,6 +669,7 @@ module _ (code : List Instr) where
   descends again entries ready begins pc (Some (instr.Do o)) h back = onward pc (instr.Do o) h refl (pc + 1) (omega arith)
   descends again entries ready begins pc (Some instr.NextRecord) h back = next_down again pc begins h
   descends again entries ready begins pc (Some (instr.SkipIfFalse k from)) h back = (onward pc (instr.SkipIfFalse k from) h refl (pc + 1) (omega arith), onward pc (instr.SkipIfFalse k from) h refl (pc + 1 + k) (omega arith))
+  descends again entries ready begins pc (Some (instr.SkipIfTrue k from)) h back = (onward pc (instr.SkipIfTrue k from) h refl (pc + 1) (omega arith), onward pc (instr.SkipIfTrue k from) h refl (pc + 1 + k) (omega arith))
   descends again entries ready begins pc (Some (instr.ReadRecord k)) h back = (onward pc (instr.ReadRecord k) h refl (pc + 1) (omega arith), onward pc (instr.ReadRecord k) h refl (pc + 1 + k) (omega arith))
   descends again entries ready begins pc (Some (instr.ReadText k)) h back = (onward pc (instr.ReadText k) h refl (pc + 1) (omega arith), onward pc (instr.ReadText k) h refl (pc + 1 + k) (omega arith))
   descends again entries ready begins pc (Some (instr.GoOn k)) h back = jumps_on pc k h

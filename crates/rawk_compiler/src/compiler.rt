@@ -1,11 +1,12 @@
 // The whole program.
 
-ghost use Rattle.std.specs.Prelude.{◌≡◌, [], ◌∷◌, ◌++◌, ◌+◌, IfOk, OnOk, map, length};
-ghost use Rattle.rawk_compiler.specs.Code.{operand_of, unless_ready, expr_code, in_turn, nowhere, when_code, closing_code, opened_code, guard_code, rule_code, function_code, functions_code, entries_from, records_code, main_code, stmt_code, IsCompiled, HasPlaces};
+ghost use Rattle.std.specs.Prelude.{◌≡◌, [], ◌∷◌, ◌++◌, ◌+◌, IfOk, OnOk, false, map, length};
+ghost use Rattle.rawk_compiler.specs.Code.{fork_of, condition_leap, in_turn, nowhere, when_code, closing_code, opened_code, guard_code, rule_code, function_code, functions_code, entries_from, records_code, main_code, stmt_code, IsCompiled, HasPlaces};
 ghost use Rattle.rawk_code.specs.Correct.{CodeOf};
 ghost use Rattle.rawk_code.specs.Trace.{reads};
 
-use crate::emit::{emit_block, emit_condition, emit_operand, emit_skip, emit_stmt};
+use crate::emit::emit_skip;
+use crate::emit_statements::{emit_block, emit_condition, emit_stmt};
 use crate::instructions::{items_of, pass_rest, patch, put, put_go_to, put_point, put_range};
 use crate::loops::Around;
 use rawk_code::{Code, Entry, Instr, Operand, Simple};
@@ -189,10 +190,10 @@ fn emit_range(
     last: &Expr,
     action: &Stmt,
 ) -> Result<usize, AllocError>
-    ensures items { IfOk result (λ behind. code.new.items ≡ code.old.items ++ when_code (unless_ready (operand_of first.now) (expr_code first.now)) (operand_of first.now) (opened_code range last.now (stmt_code action.now)) nowhere (length code.old.items)) }
-    ensures behind { IfOk result (λ behind. behind ≡ length code.old.items + length (unless_ready (operand_of first.now) (expr_code first.now)) + 2) }
+    ensures items { IfOk result (λ behind. code.new.items ≡ code.old.items ++ when_code (fork_of first.now false).front (condition_leap first.now) (opened_code range last.now (stmt_code action.now)) nowhere (length code.old.items)) }
+    ensures behind { IfOk result (λ behind. behind ≡ length code.old.items + length (fork_of first.now false).front + 2) }
 {
-    let skip = emit_skip(alloc, code, first)?;
+    let skip = emit_skip(alloc, code, first, false)?;
     put_range(code, range, true)?;
     let behind = code.len();
     emit_closing(alloc, code, range, last)?;
@@ -210,9 +211,10 @@ fn emit_closing(
 ) -> Result<(), AllocError>
     ensures { OnOk result (code.new.items ≡ code.old.items ++ closing_code range last.now) }
 {
-    let from = emit_operand(alloc, code, last)?;
-    put(code, Instr::SkipIfFalse(1, from))?;
-    put_range(code, range, false)
+    let skip = emit_skip(alloc, code, last, false)?;
+    put_range(code, range, false)?;
+    pass_rest(code, skip);
+    Ok(())
 }
 
 // The functions, and where each begins.

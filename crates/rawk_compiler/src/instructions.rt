@@ -1,8 +1,8 @@
 // Instructions, one behind another; and jumps forward, which are left open until their ends are known.
 
-ghost use Rattle.std.specs.Prelude.{◌≡◌, [], ◌∷◌, ◌++◌, ◌-◌, ◌<◌, Some, pos, IfOk, OnOk, length};
-ghost use Rattle.rawk_compiler.specs.Code.{getline_code, missing_code, getline_to_code};
-ghost use Rattle.rawk_compiler.specs.Written.{over, led};
+ghost use Rattle.std.specs.Prelude.{◌≡◌, ℕ, [], ◌∷◌, ◌++◌, ◌+◌, ◌-◌, ◌<◌, if◌then◌else◌, Some, pos, IfOk, OnOk, length, slice_get};
+ghost use Rattle.rawk_compiler.specs.Code.{over, getline_code, missing_code, getline_to_code};
+ghost use Rattle.rawk_compiler.specs.Written.{led, closed, passed_tests, tests_written};
 
 use rawk_code::{Destination, Instr, Op, Operand, Simple};
 use rawk_items::Items;
@@ -176,6 +176,7 @@ fn lead(jump: &mut Instr, count: usize)
     match jump {
         Instr::GoOn(passed) => *passed = count,
         Instr::SkipIfFalse(passed, _) => *passed = count,
+        Instr::SkipIfTrue(passed, _) => *passed = count,
         Instr::SkipIfOn(_, passed) => *passed = count,
         Instr::Decide(_, passed) => *passed = count,
         Instr::ReadRecord(passed) => *passed = count,
@@ -190,4 +191,49 @@ pub(crate) fn pass_rest(code: &mut Vec<Instr>, place: usize)
 {
     let count = code.len() - place - 1;
     patch(code, place, count);
+}
+
+// The jumps at these places, which lead behind the last instruction.
+pub(crate) fn close(code: &mut Vec<Instr>, ends: &[usize])
+    requires { (i n : ℕ) → slice_get ends.now i ≡ Some n → n < length code.now.items }
+    ensures items { code.new.items ≡ closed (length code.old.items) ends.now code.old.items }
+    ensures size { length code.new.items ≡ length code.old.items }
+{
+    let last = code.len();
+    for end in ends {
+        patch(code, *end, last - (*end + 1));
+    }
+}
+
+// The jump behind tests whose jumps stand at these places, and the place of that jump, which is left open. Where one of them decides, they lead to it (`led`), or else past it.
+pub(crate) fn end_tests(
+    code: &mut Vec<Instr>,
+    leaps: &[usize],
+    led: bool,
+) -> Result<usize, AllocError>
+    requires { (i n : ℕ) → slice_get leaps.now i ≡ Some n → n < length code.now.items }
+    ensures items { IfOk result (λ place. code.new.items ≡ tests_written led leaps.now code.old.items) }
+    ensures place { IfOk result (λ place. place ≡ length code.old.items + (if led then 1 else 0)) }
+{
+    if led {
+        pass_tests(code, leaps, 1)?;
+        let place = code.len();
+        put_open(code)?;
+        Ok(place)
+    } else {
+        let place = code.len();
+        pass_tests(code, leaps, 0)?;
+        Ok(place)
+    }
+}
+
+// A jump over so many, past which the jumps at these places lead.
+fn pass_tests(code: &mut Vec<Instr>, leaps: &[usize], count: usize) -> Result<(), AllocError>
+    requires { (i n : ℕ) → slice_get leaps.now i ≡ Some n → n < length code.now.items }
+    ensures items { OnOk result (code.new.items ≡ passed_tests count leaps.now code.old.items) }
+    ensures size { OnOk result (length code.new.items ≡ length code.old.items + 1) }
+{
+    put(code, Instr::GoOn(count))?;
+    close(code, leaps);
+    Ok(())
 }

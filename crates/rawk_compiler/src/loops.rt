@@ -1,10 +1,10 @@
 // Loops: what stands before and behind their bodies.
 
 ghost use Rattle.std.specs.Prelude.{◌≡◌, [], ◌∷◌, ◌++◌, ◌+◌, ◌<◌, ◌≤◌, ◌^◌, if◌then◌else◌, IfOk, OnOk, length};
-ghost use Rattle.rawk_compiler.specs.Code.{operand_of, test_code, jump_code, step_around, body_around};
+ghost use Rattle.rawk_compiler.specs.Code.{condition_code, condition_leap, jump_code, step_around, body_around};
 ghost use Rattle.rawk_compiler.specs.Written.{loop_written};
 
-use crate::emit::emit_condition;
+use crate::emit_statements::emit_condition;
 use crate::instructions::{patch, put, put_go_to, put_open};
 use rawk_code::Instr;
 use rawk_tree::Expr;
@@ -32,9 +32,9 @@ pub(crate) fn begin_loop(
     site: usize,
     e: &Expr,
 ) -> Result<Opened, AllocError>
-    ensures items { IfOk result (λ loop. code.new.items ≡ code.old.items ++ Instr.GoOn 0 ∷ (Instr.GoOn 0 ∷ (Instr.GoOn 0 ∷ (test_code site e.now ++ Instr.SkipIfFalse 0 (operand_of e.now) ∷ [])))) }
+    ensures items { IfOk result (λ loop. code.new.items ≡ code.old.items ++ Instr.GoOn 0 ∷ (Instr.GoOn 0 ∷ (Instr.GoOn 0 ∷ (condition_code site e.now ++ condition_leap e.now ∷ [])))) }
     ensures start { IfOk result (λ loop. loop.start ≡ length code.old.items) }
-    ensures test { IfOk result (λ loop. loop.test_end ≡ length code.old.items + 3 + length (test_code site e.now)) }
+    ensures test { IfOk result (λ loop. loop.test_end ≡ length code.old.items + 3 + length (condition_code site e.now)) }
     ensures room { IfOk result (λ loop. loop.start + 3 < 2 ^ 63) }
 {
     let start = code.len();

@@ -4,7 +4,6 @@ use Rattle.std.specs.List.{list_any}
 use Rattle.std.specs.Bool.{MatchBool}
 use Rattle.rawk_tape.specs.Records.{Input}
 use Rattle.rawk_value.specs.Values.{Bytes}
-use Rattle.rawk_store.specs.State.{Target}
 use Rattle.rawk_commands.specs.declared.command.Way.TheVariants.{Forward, Back}
 use Rattle.rawk_commands.specs.declared.command.Goal.{Goal}
 use Rattle.rawk_commands.specs.declared.command.Goal.TheVariants.{Shallower, StopOnly}

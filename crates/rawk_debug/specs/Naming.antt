@@ -1,5 +1,5 @@
 -- What a session's names are in a program.
-use Rattle.std.specs.Prelude.{ℕ, Bool, true, List, nat_eq, if◌then◌else◌, position, slice_get, Option, Some, None, is_some, option_map, Result, Ok, Err}
+use Rattle.std.specs.Prelude.{ℕ, Bool, List, nat_eq, if◌then◌else◌, position, slice_get, Option, Some, None, is_some, option_map, Result, Ok, Err}
 use Rattle.std.specs.Str.{bytes_eq}
 use Rattle.rawk_tree.specs.declared.tree.Program.{Program}
 use Rattle.rawk_tree.specs.declared.tree.Kind.{Kind}

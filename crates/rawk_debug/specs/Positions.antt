@@ -1,12 +1,11 @@
 -- Where a machine stands in the run of its program, and what it holds there.
-use Rattle.std.specs.Prelude.{◌≡◌, ℕ, ◌-◌, ◌≤◌, max, Bool, List, [], ◌∷◌, ◌++◌, filter, nat_le, nat_eq, Option, Some, None, Result, Ok, Err, slice_get}
+use Rattle.std.specs.Prelude.{◌≡◌, ℕ, ◌-◌, ◌≤◌, max, Bool, List, [], ◌∷◌, ◌++◌, filter, nat_le, nat_eq, Option, Some, None, slice_get}
 use Rattle.std.specs.List.{list_any}
 use Rattle.rawk_tree.specs.declared.tree.Program.{Program}
 use Rattle.rawk_value.specs.declared.value.Value.{Value}
-use Rattle.rawk_value.specs.declared.fault.Fault.{Fault}
 use Rattle.rawk_tape.specs.Records.{Input}
 use Rattle.rawk_store.specs.State.{State, Target}
-use Rattle.rawk_code.specs.Actions.{Point, SetAt, Ending, Ended, Faulted, Limited}
+use Rattle.rawk_code.specs.Actions.{Point, SetAt, Ending}
 use Rattle.rawk_code.specs.Trace.{FirstValue, Trace, trace, number, site_at_end}
 
 -- where a machine stands: what its run was given, how many steps back it keeps, its point, the sets that stand, and the oldest point kept

@@ -1,11 +1,11 @@
 -- What an element was before the last move, by its slot.
-use Rattle.std.proofs.Common.{◌≡◌, ℕ, ◌<◌, ◌≤◌, Bool, true, false, List, [], ◌∷◌, length, Option, None, Some, refl, sym, ap, ◌∙◌, arith, if◌then◌else◌, slice_get}
+use Rattle.std.proofs.Common.{◌≡◌, ℕ, Bool, true, false, List, [], ◌∷◌, length, Option, None, Some, refl, sym, ap, ◌∙◌, arith, if◌then◌else◌, slice_get}
 use Rattle.std.specs.Prelude.{nat_lt}
 use Rattle.std.proofs.lemmas.Bool.{ltb-false, ltb-true}
 use Rattle.std.proofs.lemmas.Option.{same_Some}
 use Rattle.rawk_value.specs.Values.{Bytes}
 use Rattle.rawk_value.specs.declared.value.Value.{Value}
-use Rattle.rawk_arrays.specs.Elements.{Elements, element_at}
+use Rattle.rawk_arrays.specs.Elements.{element_at}
 use Rattle.rawk_arrays.specs.Laid.{Laid, IsLaid, arrays_of}
 use Rattle.rawk_arrays.specs.Slotted.{IsSlotOf, held_in}
 use Rattle.rawk_arrays.specs.SlotLaws.{slot_element, past_element, no_element}

@@ -3,7 +3,7 @@ use Rattle.std.proofs.Common.{◌≡◌, List, [], ◌∷◌, Option, None, Some
 use Rattle.rawk_value.specs.declared.value.Value.{Value}
 use Rattle.rawk_record.specs.Shown.{Shown}
 use Rattle.rawk_arrays.specs.Elements.{Elements}
-use Rattle.rawk_arrays.specs.Laid.{Laid, GrownArrays, IsLaid, arrays_of}
+use Rattle.rawk_arrays.specs.Laid.{Laid, GrownArrays, IsLaid}
 use Rattle.rawk_arrays.specs.ArraysLaws.{arrays_of-grown, GrownArrays-back, FitsArrays-grown, IsLaid-back}
 use Rattle.rawk_store.specs.declared.others.Others.{Others}
 use Rattle.rawk_store.specs.Groups.{Group}

@@ -67,9 +67,10 @@ impl<R: Source + Drop, K: Keeper> Model for Machine<R, K> {
 
     ghost use Rattle.std.specs.Coded.{codes, coded_list, coded_ℕ};
     ghost use Rattle.rawk_value.specs.contracts.value.Value as value;
+    ghost use Rattle.rawk_code.specs.contracts.formula.Formula as formula;
     ghost use Rattle.rawk_machine.specs.Elements.{elements_code};
 
-    ghost coded = { Prim.hlevel (codes, elements_code value.the_row.coded, R.code) };
+    ghost coded = { Prim.hlevel (codes, elements_code value.the_row.coded, formula.the_row.coded, R.code) };
 
     ghost use Rattle.rawk_machine.specs.Last.{last_of};
     ghost use Rattle.rawk_machine.specs.Stood.{standing_of, IsMachine};

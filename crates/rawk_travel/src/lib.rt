@@ -10,6 +10,7 @@ mod call;
 pub mod count;
 mod elements;
 mod formats;
+mod formulas;
 mod key_loops;
 mod operands;
 mod print;

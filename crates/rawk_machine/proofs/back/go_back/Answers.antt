@@ -4,7 +4,7 @@ use Rattle.rawk_record.specs.Shown.{Shown}
 use Rattle.rawk_arrays.specs.Laid.{Laid}
 use Rattle.rawk_store.specs.Groups.{Group}
 use Rattle.rawk_history.specs.Steps.{Kept}
-use Rattle.rawk_store.specs.GroupBack.{FitsIn, arrays_in, put_back}
+use Rattle.rawk_store.specs.GroupBack.{FitsIn, put_back}
 use Rattle.rawk_store.specs.Layout.{Layout}
 use Rattle.rawk_store.specs.Stores.{now_of}
 use Rattle.rawk_machine.specs.Kept.{AllArraysFit, arrays_forth, globals_forth, record_forth}

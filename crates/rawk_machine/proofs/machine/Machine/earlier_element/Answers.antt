@@ -1,8 +1,7 @@
-use Rattle.std.proofs.Common.{◌≡◌, ◌<◌, ◌∙◌, ap, sym, subst, length, reverse, List, [], Option, Some, slice_get}
+use Rattle.std.proofs.Common.{◌≡◌, ◌∙◌, ap, sym, reverse, List, Option, slice_get}
 use Rattle.std.proofs.lemmas.Option.{same_Some}
 use Rattle.std.specs.Prelude.{option_copied}
 use Rattle.rawk_arrays.specs.Elements.{element_at}
-use Rattle.rawk_arrays.specs.Laid.{Laid, arrays_of}
 use Rattle.rawk_arrays.specs.ListLaws.{length_arrays}
 use Rattle.rawk_store.specs.declared.others.Others.{Others}
 use Rattle.rawk_store.specs.Groups.{Group}
