@@ -1,19 +1,17 @@
-//! Machines there and back: `@back`, a program and its input. The answer is `alike` where a machine, gone to its ending, back to point 0 and
-//! forward again, shows at each point what it showed there before, and the source was not asked again.
+//! Machines there and back: `@back`, a program, its input and what else a machine begins with. The answer is `alike` where a machine, gone to its
+//! ending, back to point 0 and forward again, shows at each point what it showed there before, and the source was not asked again.
+//!
+//! It shows its point, site and ending, the status, the output, the record with its fields, all globals, all elements of all arrays, the activations
+//! with their calling points, the locals of the innermost, and how many old values it keeps.
 
 use crate::kept::STEPS;
 use rawk_machine::{Full, Machine, Step};
 use rawk_store::{FieldRef, Local};
 use rawk_tape::BytesSource;
 use rawk_value::push_number;
+use rawk_words::Array;
 use rows_cases::push_value;
 use std::alloc::{AllocError, Global};
-
-/// How many globals and locals are looked at.
-const NAMES: usize = 40;
-
-/// Which elements of each array are looked at.
-const KEYS: [&str; 10] = ["", "0", "1", "2", "3", "a", "b", "k", "x", "new"];
 
 /// Whether a machine shows the same on each way.
 pub fn compare(
@@ -103,7 +101,7 @@ fn push_machine(
     push_globals(out, machine)?;
     push_arrays(alloc, out, machine)?;
     push_activations(alloc, out, machine)?;
-    push_locals(out, machine)
+    push_locals(alloc, out, machine)
 }
 
 fn push_counts(
@@ -153,18 +151,20 @@ fn push_record(out: &mut Vec<u8>, machine: &Machine<BytesSource, Full>) -> Resul
     Ok(())
 }
 
+/// All globals.
 fn push_globals(out: &mut Vec<u8>, machine: &Machine<BytesSource, Full>) -> Result<(), AllocError> {
-    for number in 0..NAMES {
-        if let Some(value) = machine.global(number) {
-            push_value(out, value)?;
-            out.push(b'|')?;
-        }
+    for number in 0..usize::MAX {
+        let Some(value) = machine.global(number) else {
+            break;
+        };
+        push_value(out, value)?;
+        out.push(b'|')?;
     }
     out.push(b'\n')?;
     Ok(())
 }
 
-/// How many elements each array has, and some of them.
+/// How many elements each array has, those of activations too, and all of them.
 fn push_arrays(
     alloc: Global,
     out: &mut Vec<u8>,
@@ -173,24 +173,29 @@ fn push_arrays(
     for array in 0..machine.array_count() {
         let count = machine.element_count(array);
         out.extend_from_slice(format!(in alloc; "{count}|")?.as_bytes())?;
-        push_elements(out, machine, array)?;
+        let keys = machine.keys_named(alloc, Array::Global(array))?;
+        let pushed = push_elements(out, machine, array, &keys);
+        drop(keys);
+        pushed?;
     }
     out.push(b'\n')?;
     Ok(())
 }
 
+/// The elements of an array under these keys.
 fn push_elements(
     out: &mut Vec<u8>,
     machine: &Machine<BytesSource, Full>,
     array: usize,
+    keys: &[Vec<u8>],
 ) -> Result<(), AllocError> {
-    for key in KEYS {
-        if let Some(value) = machine.element(array, key.as_bytes()) {
-            out.extend_from_slice(key.as_bytes())?;
-            out.push(b'=')?;
+    for key in keys {
+        out.extend_from_slice(key.as_slice())?;
+        out.push(b'=')?;
+        if let Some(value) = machine.element(array, key.as_slice()) {
             push_value(out, value)?;
-            out.push(b'|')?;
         }
+        out.push(b'|')?;
     }
     Ok(())
 }
@@ -213,14 +218,21 @@ fn push_activations(
     Ok(())
 }
 
-/// The locals of the innermost activation.
-fn push_locals(out: &mut Vec<u8>, machine: &Machine<BytesSource, Full>) -> Result<(), AllocError> {
-    for number in 0..NAMES {
+/// All locals of the innermost activation; of an array its number.
+fn push_locals(
+    alloc: Global,
+    out: &mut Vec<u8>,
+    machine: &Machine<BytesSource, Full>,
+) -> Result<(), AllocError> {
+    for number in 0..usize::MAX {
         match machine.local(number) {
             Some(Local::Holds(value)) => push_value(out, value)?,
-            Some(Local::Names(_)) => out.push(b'a')?,
-            None => {}
+            Some(Local::Names(array)) => {
+                out.extend_from_slice(format!(in alloc; "a{array}")?.as_bytes())?
+            }
+            None => break,
         }
+        out.push(b'|')?;
     }
     Ok(())
 }

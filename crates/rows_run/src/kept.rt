@@ -1,7 +1,7 @@
 //! Machines: `@kept`, a program and its input; for each point on the way to the ending and back again the point's number and how
 //! many old values are kept there.
-
-ghost use Rattle.std.specs.Prelude.{◌≡◌, None};
+//!
+//! Further parts are a first value, `@let NAME=TEXT`, a limit of steps, `@steps N`, and `@source fails N`: the source fails behind so many bytes.
 
 use crate::back::compare;
 use rawk_code::{Code, Settings};
@@ -9,6 +9,7 @@ use rawk_compiler::compile;
 use rawk_machine::{Full, Machine, Step};
 use rawk_syntax::parse;
 use rawk_tape::BytesSource;
+use rows_cases::setting_of;
 use std::alloc::{AllocError, Global};
 
 /// How many points a program may reach here.
@@ -22,22 +23,79 @@ pub enum Told {
     Likeness,
 }
 
+/// What a machine begins with, as the parts of a case say it.
+#[derive(Drop)]
+struct Plan<'a> {
+    input: &'a [u8],
+    settings: Settings,
+    steps: u64,
+    source_fails: Option<usize>,
+}
+
+impl<'a> Plan<'a> {
+    /// Takes the parts behind the program.
+    fn take(&mut self, parts: &[&'a [u8]]) -> Result<(), AllocError> {
+        for part in parts {
+            match part {
+                [b'<', input @ ..] => self.input = input,
+                [b'@', b'l', b'e', b't', b' ', value @ ..] => self.assign(value)?,
+                [b'@', setting @ ..] => self.set(setting),
+                _ => {}
+            }
+        }
+        Ok(())
+    }
+
+    /// Takes a first value, `NAME=TEXT`.
+    fn assign(&mut self, value: &[u8]) -> Result<(), AllocError> {
+        match value.iter().position(|b| *b == b'=') {
+            Some(at) => self.settings.assign(&value[..at], &value[at + 1..]),
+            None => Ok(()),
+        }
+    }
+
+    /// Takes a limit of steps, or where the source fails.
+    fn set(&mut self, setting: &[u8]) {
+        match setting_of(setting) {
+            (b"steps", Some(steps)) => self.steps = STEPS.min(steps as u64),
+            (b"source fails", place) => self.source_fails = place,
+            _ => {}
+        }
+    }
+}
+
 /// What a case of machines answers.
 pub fn answered(alloc: Global, parts: &[&[u8]], told: Told) -> Result<Vec<u8>, AllocError> {
-    let (program, input): (&[u8], &[u8]) = match parts {
-        [program] => (program, &[]),
-        [program, [b'<', input @ ..]] => (program, input),
-        _ => return Vec::from_slice(alloc, b"not a case"),
+    let Some((program, parts)) = parts.split_first() else {
+        return Vec::from_slice(alloc, b"not a case");
     };
+    let mut plan = Plan {
+        input: &[],
+        settings: Settings::new(alloc),
+        steps: STEPS,
+        source_fails: None,
+    };
+    let text = match plan.take(parts) {
+        Ok(()) => answer(alloc, program, &plan, told),
+        Err(error) => Err(error),
+    };
+    drop(plan);
+    text
+}
+
+/// What a case of machines answers whose parts are taken.
+fn answer(
+    alloc: Global,
+    program: &[u8],
+    plan: &Plan<'_>,
+    told: Told,
+) -> Result<Vec<u8>, AllocError> {
     let Ok(tree) = parse(alloc, program) else {
         return Vec::from_slice(alloc, b"refused");
     };
     let code = compile(alloc, &tree);
     drop(tree);
-    let code = code?;
-    let input = Vec::from_slice(alloc, input)?;
-    let source = BytesSource::new(input, Vec::new(alloc), None);
-    let text = there_and_back(alloc, code, source, told)?;
+    let text = there_and_back(alloc, code?, plan, told)?;
     Vec::from_slice(alloc, text.as_str().trim_start().as_bytes())
 }
 
@@ -45,14 +103,13 @@ pub fn answered(alloc: Global, parts: &[&[u8]], told: Told) -> Result<Vec<u8>, A
 fn there_and_back(
     alloc: Global,
     code: Code,
-    source: BytesSource,
+    plan: &Plan<'_>,
     told: Told,
-) -> Result<String, AllocError>
-    requires { source.over ≡ None }
-{
-    let settings = Settings::new(alloc);
-    let machine = Machine::new(alloc, code, &settings, source, Full::new(alloc), STEPS);
-    drop(settings);
+) -> Result<String, AllocError> {
+    let input = Vec::from_slice(alloc, plan.input)?;
+    let source = BytesSource::new(input, Vec::new(alloc), plan.source_fails);
+    let keeper = Full::new(alloc);
+    let machine = Machine::new(alloc, code, &plan.settings, source, keeper, plan.steps);
     let mut machine = match machine {
         Ok(machine) => machine,
         Err((refused, _)) => return Err(refused),
