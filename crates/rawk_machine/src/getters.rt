@@ -118,6 +118,13 @@ impl<R: Source + Drop, K: Keeper> Machine<R, K> {
         self.store.globals.value(number)
     }
 
+    /// Whether a range is on, by its number from 0; `None` for a number that none has.
+    pub fn range(&self, number: usize) -> Option<&bool>
+        ensures { option_copied result ≡ slice_get self.now.state.ranges number }
+    {
+        self.store.ranges.value(number)
+    }
+
     /// The bytes of `$0`.
     pub fn text(&self) -> &[u8]
         ensures { result.now ≡ self.now.state.whole }

@@ -1,7 +1,7 @@
 //! Machines there and back: `@back`, a program, its input and what else a machine begins with. The answer is `alike` where a machine, gone to its
 //! ending, back to point 0 and forward again, shows at each point what it showed there before, and the source was not asked again.
 //!
-//! It shows its point, site and ending, the status, the output, the record with its fields, all globals, all elements of all arrays, the activations
+//! It shows its point, site and ending, the status, the output, the record with its fields, all globals, which ranges are on, all elements of all arrays, the activations
 //! with their calling points, the locals of the innermost, and how many old values it keeps.
 
 use crate::kept::STEPS;
@@ -99,6 +99,7 @@ fn push_machine(
     out.push(b'\n')?;
     push_record(out, machine)?;
     push_globals(out, machine)?;
+    push_ranges(out, machine)?;
     push_arrays(alloc, out, machine)?;
     push_activations(alloc, out, machine)?;
     push_locals(alloc, out, machine)
@@ -161,6 +162,17 @@ fn push_globals(out: &mut Vec<u8>, machine: &Machine<BytesSource, Full>) -> Resu
         out.push(b'|')?;
     }
     out.push(b'\n')?;
+    Ok(())
+}
+
+/// Which ranges are on.
+fn push_ranges(out: &mut Vec<u8>, machine: &Machine<BytesSource, Full>) -> Result<(), AllocError> {
+    for number in 0..usize::MAX {
+        let Some(on) = machine.range(number) else {
+            break;
+        };
+        out.push(if *on { b'+' } else { b'-' })?;
+    }
     Ok(())
 }
 
