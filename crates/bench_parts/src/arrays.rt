@@ -20,7 +20,7 @@ pub fn worked<R: Input + Print + AllocGlobal>(rt: &R) -> Result<()> {
 /// The same on these arrays.
 fn work_on<R: Input + Print + AllocGlobal>(rt: &R, arrays: &mut Arrays) -> Result<()> {
     let alloc = rt.alloc();
-    arrays.add()?;
+    arrays.add::<true>()?;
     rest(alloc, arrays);
     for line in rt.lines(alloc) {
         let line = line?;
@@ -58,7 +58,7 @@ fn work(alloc: Global, arrays: &mut Arrays, verb: &str, first: u64, second: u64)
         "fill" => Ok(bump(alloc, arrays, first, first)?),
         "keys" => Ok(keys(alloc, arrays)?),
         "clear" => {
-            arrays.clear(0)?;
+            arrays.clear::<true>(0)?;
             rest(alloc, arrays);
             Ok(arrays.count(0) as u64)
         }
@@ -98,14 +98,14 @@ fn change(
     second: u64,
 ) -> Result<(), AllocError> {
     match verb {
-        "set" => arrays.set(
+        "set" => arrays.set::<true>(
             alloc,
             0,
             key,
             Value::Number(i64::try_from(second).unwrap_or(0)),
         ),
-        "touch" => arrays.touch(alloc, 0, key),
-        _ => arrays.delete(alloc, 0, key),
+        "touch" => arrays.touch::<true>(alloc, 0, key),
+        _ => arrays.delete::<true>(alloc, 0, key),
     }
 }
 
@@ -127,7 +127,7 @@ fn step(alloc: Global, arrays: &mut Arrays, verb: &str) -> Result<u64> {
         }
         _ => {
             arrays.truncate(0);
-            arrays.add()?;
+            arrays.add::<true>()?;
         }
     }
     Ok(arrays.count(0) as u64)
@@ -159,7 +159,7 @@ fn bump_one(alloc: Global, arrays: &mut Arrays, key: &[u8]) -> Result<u64, Alloc
         Some(Value::Number(n)) => n.saturating_add(1),
         _ => 1,
     };
-    arrays.set_at(place, Value::Number(value))?;
+    arrays.set_at::<true>(place, Value::Number(value))?;
     rest(alloc, arrays);
     Ok(value.unsigned_abs())
 }

@@ -57,7 +57,7 @@ fn count_by<R: Source + Drop>(
     for _ in 0..u64::MAX {
         match tape.next(rs)? {
             Some(found) => {
-                current.read(alloc, tape.text(&found), fs, rs.len() == 0)?;
+                current.read::<true>(alloc, tape.text(&found), fs, rs.len() == 0)?;
                 current.forget();
                 tape.consume(found.count);
                 tape.forget();

@@ -22,7 +22,7 @@ use Rattle.rawk_travel.specs.Asking.{Draws}
 use Rattle.rawk_machine.specs.Asked.{AskedBy, HasAsked, asked_wider}
 use Rattle.rawk_machine.specs.declared.step.Step.{Step}
 use Rattle.rawk_machine.specs.declared.step.Step.TheVariants as step
-use Rattle.rawk_machine.specs.Standing.{Standing, MayCome, IsAt, IsPointOf, IsEndOf, StandsIn, Stays, stands_by, given_of, step_of, dropped}
+use Rattle.rawk_machine.specs.Standing.{Standing, MayCome, IsAt, IsPointOf, IsEndOf, StandsIn, stands_by, given_of, step_of, dropped}
 use Rattle.rawk_machine.specs.InTrace.{stands_in_trace}
 use Rattle.rawk.specs.declared.report.Report.{Report}
 use Rattle.rawk.specs.declared.report.Cause.{Cause}
@@ -369,21 +369,20 @@ not_written may_give over drawn may_hold p start sink m now now2 report so law c
       );
 }
 
--- memory is refused in a step
+-- memory is refused in a step from a point
 pub refused : {S V : Type 0} (may_give : S → Input → Type 0) (over : S → Option End) (drawn : S → ℕ) (may_hold : V → Bytes → Type 0) (p : Program) (start : Standing S) (sink : V) (m n : Standing S) (now : V) (report : Report) → Settled may_give drawn may_hold start sink m now
-    → OutputLaw → CodeOf p start.code → SameRun m n → Stays m n → m.ending ≡ None
+    → OutputLaw → CodeOf p start.code → SameRun m n → m.ending ≡ None
     → ((gone : Bytes) (input : Input) → MayCome may_give n gone input → MayCome may_give m gone input)
     → ((gone : Bytes) → (input : Input) × MayCome may_give n gone input)
-    → ((input : Input) (gone handed : Bytes) → MayCome may_give n gone input → IsAt m input gone handed → IsAt n input gone handed)
     → ((input : Input) (gone handed : Bytes) → MayCome may_give n gone input → IsAt m input gone handed → AskedBy m input m.point (gone ++ m.tape.bytes) → AskedBy n input (m.point + 1) (gone ++ n.tape.bytes))
     → Draws over drawn m.tape n.tape
-    → refused_behind p n.point n.site ≡ report
+    → refused_behind p m.point m.site ≡ report
     → Runs may_give over drawn may_hold p start n.tape.source sink now report
-refused may_give over drawn may_hold p start sink m n now report so law compiled same stays going may still stands asks draws is =
+refused may_give over drawn may_hold p start sink m n now report so law compiled same going may still asks draws is =
     let all = SameRun-trans start m n so.same same in
     record {
       read = so.gone ++ n.tape.bytes;
-      took = took_from may_give over drawn start report n so.gone (m.point + 1) all (subst (λ (r : Report). m.point + 1 ≤ points_until r.cause r.point) is (omega (arith, stays.point))) (λ input comes. so.may input (may so.gone input comes))
+      took = took_from may_give over drawn start report n so.gone (m.point + 1) all (subst (λ (r : Report). m.point + 1 ≤ points_until r.cause r.point) is (omega arith)) (λ input comes. so.may input (may so.gone input comes))
           (λ input comes. let before_it = may so.gone input comes in asks input so.gone so.handed comes (so.stands input before_it) (so.asked input before_it))
           (λ first count. counted_on over drawn so.gone m.tape n.tape first draws (so.counted first count)) (still so.gone) (λ faulted. let other = ap (λ (r : Report). r.cause) is ∙ faulted in absurd (cc other));
       taken = λ held holds. (
@@ -391,10 +390,10 @@ refused may_give over drawn may_hold p start sink m n now report so law compiled
         so.taken held holds,
         λ rest comes.
             let input = before (so.gone ++ n.tape.bytes) rest in
-            let come = comes_behind may_give n so.gone rest comes in
-            let stood : StandsIn (trace_of p start input) n so.handed = in_trace p start n input so.gone so.handed all compiled (stands input so.gone so.handed come (so.stands input (may so.gone input come))) in
+            let come = may so.gone input (comes_behind may_give n so.gone rest comes) in
+            let stood : StandsIn (trace_of p start input) m so.handed = in_trace p start m input so.gone so.handed so.same compiled (so.stands input come) in
             subst (λ (r : Report). IsRunOf p (trace_of p start input) r so.handed) is
-            (stopped_behind p (trace_of p start input) n so.handed (law p start.settings (given_of start input)) stood (stays.ending ∙ going) (ap (λ (x : State). x.output) stays.state ∙ so.none)),
+            (stopped_behind p (trace_of p start input) m so.handed (law p start.settings (given_of start input)) stood going so.none),
       );
     }
 

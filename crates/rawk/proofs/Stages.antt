@@ -64,8 +64,8 @@ set_work (Ok (Some fault)) target value old new made same = ap work_of made
 set_work (Err refused) target value old new made same = ap work_of same
 
 -- what an advance draws
-pub draws_is : {S : Type 0} (over : S → Option End) (handed : S → ℕ) (old new : Standing S) → asking.Draws over handed old.tape new.tape → Draws over handed (work_of old) (work_of new)
-draws_is over handed old new d = record { longer = d.longer; counted = d.counted; closed = d.closed }
+pub draws_is : {S : Type 0} (over : S → Option End) (handed : S → ℕ) (old new : Standing S) → asking.Draws over handed old.tape new.tape → old.executed ≤ new.executed → Draws over handed (work_of old) (work_of new)
+draws_is over handed old new d ran = record { ran = ran; longer = d.longer; counted = d.counted; closed = d.closed }
 
 -- what may still come behind what was read
 pub comes_behind : {S : Type 0} (may_give : S → Input → Type 0) (m : Standing S) (rest : Input) → may_give m.tape.source rest → MayCome may_give m [] (before m.tape.bytes rest)

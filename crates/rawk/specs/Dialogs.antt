@@ -41,7 +41,7 @@ over_by no_line.Ended = Ended
 over_by no_line.Unread = Unread
 over_by no_line.TooMany = TooMany
 
--- A dialog on an input of the program, with these commands, of which so much was read: from where the session stood to where it stands, how it is over, and what was written of the transcript of the lines that were read. Behind a `quit` no line is read, and before a line is read all answers before it are written.
+-- A dialog on an input of the program, with these commands, of which so much was read: from where the session stood to where it stands, how it is over, and what was written of the transcript of the lines that were read. Behind a `quit` no line is carried out, and of the commands nothing was read behind the line that was due last but for what one read gives. That answers are written before more is read shows where a line could not be read or an answer not written: all answers before it were.
 pub data IsDialog (input asked : Input) (read : Bytes) (first last : Stand) : Over → Bytes → Type 0 where
   -- the commands are at their end
   to_end : (turns : List Turn) (count : ℕ) (text : Bytes) → TurnsTo asked 0 turns count → NoneQuits turns → next_record asked count newline ≡ Ok None → IsDue read count → Transcript input turns first text last → IsDialog input asked read first last Ended text

@@ -7,7 +7,7 @@ use Rattle.rawk_grammar.specs.declared.tree.Item.{Item}
 use Rattle.rawk_tree.specs.declared.tree.Program.{Program}
 use Rattle.rawk_parsing.specs.declared.refusal.Refusal.{Refusal}
 use Rattle.rawk_parsing.specs.declared.refusal.RefusalKind.TheVariants.{OutOfMemory}
-use Rattle.rawk_syntax.specs.Texts.{IsProgram, IsPlain, IsRefusal}
+use Rattle.rawk_syntax.specs.Texts.{IsProgram, IsOrderly, IsRefusal}
 use Rattle.rawk_code.specs.Trace.{FirstValue}
 use Rattle.rawk_code.specs.Settings.{settings_fit}
 use Rattle.rawk_code.specs.Listing.{Listing}
@@ -22,10 +22,10 @@ pub record IsReady (text : Bytes) (settings : List FirstValue) (p : Program) (co
   pub fits : settings_fit p settings ≡ true
   pub compiled : CodeOf p code
 
--- A text is refused: as it is refused by its parser, or for want of memory. One that plain rules read and whose names are in order, within the limits, is refused for want of memory alone.
+-- A text is refused: as it is refused by its parser, or for want of memory. One that the grammar gives items with names in order, within the limits, is refused for want of memory alone.
 pub record IsRefusedText (text : Bytes) (refusal : Refusal) : Type 0 where
   pub exact : refusal.kind ≢ OutOfMemory → IsRefusal text refusal
-  pub plain : (items : List Item) → length text ≤ PROGRAM_BYTES → IsPlain text items → refusal.kind ≡ OutOfMemory
+  pub derived : (items : List Item) → length text ≤ PROGRAM_BYTES → IsOrderly text items → refusal.kind ≡ OutOfMemory
 
 -- what is reported where nothing runs
 pub data IsRefused (text : Bytes) (settings : List FirstValue) : Report → Type 0 where

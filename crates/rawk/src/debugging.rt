@@ -173,15 +173,12 @@ fn session_kept<R: Source + Drop, C: Source, W: Sink>(
                 alloc, settings, prepared, source, keeper, commands, sink, steps,
             )
         }
-        Some(count) => match Ring::new(alloc, count as usize) {
-            Ok(ring) => session_over(
+        Some(count) => {
+            let ring = Ring::new(alloc, count as usize);
+            session_over(
                 alloc, settings, prepared, source, ring, commands, sink, steps,
-            ),
-            Err(_) => {
-                drop(prepared);
-                Err(source)
-            }
-        },
+            )
+        }
     }
 }
 

@@ -15,120 +15,119 @@ use crate::preparing::{Prepared, prepare};
 use crate::report::{Cause, Report, stopped};
 use rawk_code::Settings;
 use rawk_compiler::laws;
-use rawk_machine::{Machine, Off, Step};
+use rawk_machine::{Runner, Step};
 use rawk_syntax::Program;
 use rawk_tape::{DeviceFault, Sink, Source, write_all};
 use rawk_value::Fault;
 use std::alloc::Global;
 
-/// The report of a machine that is at its ending; nothing at a point.
-fn reported<R: Source + Drop>(program: &Program, machine: &Machine<R, Off>) -> Option<Report>
-    ensures report { result ≡ step_report program.now.lines.items (step_of machine.now.ending machine.now.state.status) machine.now.site machine.now.point }
+/// The report of a run that is at its ending; nothing at a point.
+fn reported<R: Source + Drop>(program: &Program, runner: &Runner<R>) -> Option<Report>
+    ensures report { result ≡ step_report program.now.lines.items (step_of runner.now.ending runner.now.state.status) runner.now.site runner.now.point }
     ensures failures { IfSome result (λ report. write_failures report.cause ≡ 0) }
-    ensures failed { IfSome result (λ report. report.cause ≡ Cause.Faulted Fault.ReadFailed → R.over machine.now.tape.source ≡ Some Ending.Failed) }
+    ensures failed { IfSome result (λ report. report.cause ≡ Cause.Faulted Fault.ReadFailed → R.over runner.now.tape.source ≡ Some Ending.Failed) }
 {
-    let (status, cause) = match machine.step() {
+    let (status, cause) = match runner.step() {
         Step::At => return None,
         Step::Ended(status) => (status, Cause::Ended),
         Step::Faulted(fault) => (2, Cause::Faulted(fault)),
     };
-    let line = program.line_of_site(machine.site());
+    let line = program.line_of_site(runner.site());
     Some(Report {
         status,
         cause,
         line,
-        point: machine.point(),
+        point: runner.point(),
     })
 }
 
-/// The report of a machine that was refused memory behind a point.
-fn refused<R: Source + Drop>(program: &Program, machine: &Machine<R, Off>) -> Report
-    ensures { result ≡ refused_behind program.now machine.now.point machine.now.site }
+/// The report of a run that was refused memory behind a point with this site.
+fn refused(program: &Program, point: u64, site: Option<usize>) -> Report
+    ensures { result ≡ refused_behind program.now point site }
 {
     Report {
         status: 2,
         cause: Cause::Faulted(Fault::OutOfMemory),
-        line: program.line_of_site(machine.site()),
-        point: machine.point(),
+        line: program.line_of_site(site),
+        point,
     }
 }
 
-/// Hands on the output that a machine did not give yet, and lets go what it needs no more of its input. Where the sink fails, the machine stands
+/// Hands on the output that a run did not give yet, and lets go what it needs no more of its input. Where the sink fails, the run stands
 /// at its point.
 fn give_on<R: Source + Drop, W: Sink>(
     alloc: Global,
-    machine: &mut Machine<R, Off>,
+    runner: &mut Runner<R>,
     buffer: &mut Vec<u8>,
     sink: &mut W,
 ) -> Result<(), DeviceFault>
-    requires alone { machine.old.unset ≡ [] }
-    ensures ok { OnOk result (HandsOn R.may_give W.may_hold machine.old sink.old machine.new sink.new) }
-    ensures err { OnErr result (IsCut W.may_hold machine.old.state.output sink.old sink.new) }
-    ensures point { machine.new.point ≡ machine.old.point }
-    ensures source { machine.new.tape.source ≡ machine.old.tape.source }
+    ensures ok { OnOk result (HandsOn R.may_give W.may_hold runner.old sink.old runner.new sink.new) }
+    ensures err { OnErr result (IsCut W.may_hold runner.old.state.output sink.old sink.new) }
+    ensures point { runner.new.point ≡ runner.old.point }
+    ensures source { runner.new.tape.source ≡ runner.old.tape.source }
     ensures failures { CountsUp (W.failures sink.old) (W.failures sink.new) (failures_of result) }
 {
-    machine.give_into(buffer);
+    runner.give_into(buffer);
     match write_all(sink, buffer.as_slice()) {
         Ok(()) => {}
         Err(fault) => return Err(fault),
     }
-    machine.drop_consumed(alloc);
+    runner.drop_consumed(alloc);
     Ok(())
 }
 
-/// Hands on the output that a machine did not give yet, and lets go what it needs no more of its input, where there may be any of these. Where the sink fails,
-/// the machine stands at its point.
+/// Hands on the output that a run did not give yet, and lets go what it needs no more of its input, where there may be any of these. Where the sink fails,
+/// the run stands at its point.
 #[inline]
 fn hand_on<R: Source + Drop, W: Sink>(
     alloc: Global,
-    machine: &mut Machine<R, Off>,
+    runner: &mut Runner<R>,
     buffer: &mut Vec<u8>,
     sink: &mut W,
 ) -> Result<(), DeviceFault>
-    requires alone { machine.old.unset ≡ [] }
-    ensures ok { OnOk result (HandsOn R.may_give W.may_hold machine.old sink.old machine.new sink.new) }
-    ensures err { OnErr result (IsCut W.may_hold machine.old.state.output sink.old sink.new) }
-    ensures point { machine.new.point ≡ machine.old.point }
-    ensures source { machine.new.tape.source ≡ machine.old.tape.source }
+    ensures ok { OnOk result (HandsOn R.may_give W.may_hold runner.old sink.old runner.new sink.new) }
+    ensures err { OnErr result (IsCut W.may_hold runner.old.state.output sink.old sink.new) }
+    ensures point { runner.new.point ≡ runner.old.point }
+    ensures source { runner.new.tape.source ≡ runner.old.tape.source }
     ensures failures { CountsUp (W.failures sink.old) (W.failures sink.new) (failures_of result) }
 {
-    if !machine.has_news() {
+    if !runner.has_news() {
         return Ok(());
     }
-    give_on(alloc, machine, buffer, sink)
+    give_on(alloc, runner, buffer, sink)
 }
 
-/// Runs a machine to its end, and writes the output of each step before the next one.
-fn run_machine<R: Source + Drop, W: Sink>(
+/// Goes on with a run to its end, and writes the output of each step before the next one.
+fn run_on<R: Source + Drop, W: Sink>(
     alloc: Global,
-    machine: &mut Machine<R, Off>,
+    runner: &mut Runner<R>,
     program: &Program,
     sink: &mut W,
 ) -> Report
-    requires fresh { machine.old.point ≡ 0 }
-    requires alone { machine.old.unset ≡ [] }
-    requires stands { (input : Input) → MayCome R.may_give machine.old [] input → IsAt machine.old input [] [] }
-    requires asked { (input : Input) → MayCome R.may_give machine.old [] input → AskedBy machine.old input 0 machine.old.tape.bytes }
-    requires still { (input : Input) × MayCome R.may_give machine.old [] input }
-    requires compiled { CodeOf program.now machine.old.code }
-    ensures runs { Runs R.may_give R.over R.handed W.may_hold program.now machine.old machine.new.tape.source sink.old sink.new result }
+    requires fresh { runner.old.point ≡ 0 }
+    requires stands { (input : Input) → MayCome R.may_give runner.old [] input → IsAt runner.old input [] [] }
+    requires asked { (input : Input) → MayCome R.may_give runner.old [] input → AskedBy runner.old input 0 runner.old.tape.bytes }
+    requires still { (input : Input) × MayCome R.may_give runner.old [] input }
+    requires compiled { CodeOf program.now runner.old.code }
+    ensures runs { Runs R.may_give R.over R.handed W.may_hold program.now runner.old runner.new.tape.source sink.old sink.new result }
     ensures failures { CountsUp (W.failures sink.old) (W.failures sink.new) (write_failures result.cause) }
 {
     laws::output();
     let mut buffer = Vec::new(alloc);
     'steps: loop {
-        match hand_on(alloc, machine, &mut buffer, sink) {
+        match hand_on(alloc, runner, &mut buffer, sink) {
             Ok(()) => {}
-            Err(_) => return stopped(Cause::Faulted(Fault::WriteFailed), machine.point()),
+            Err(_) => return stopped(Cause::Faulted(Fault::WriteFailed), runner.point()),
         }
-        match reported(program, machine) {
+        match reported(program, runner) {
             Some(report) => return report,
             None => {}
         }
-        match machine.advance(alloc) {
+        let point = runner.point();
+        let site = runner.site();
+        match runner.advance(alloc) {
             Ok(_) => {}
-            Err(_) => return refused(program, machine),
+            Err(_) => return refused(program, point, site),
         }
     }
 }
@@ -158,8 +157,8 @@ fn run_prepared<R: Source + Drop, W: Sink>(
 {
     laws::first_output();
     let Prepared { program, code } = prepared;
-    let mut machine = match Machine::new(alloc, code, settings, source, Off, steps) {
-        Ok(machine) => machine,
+    let mut runner = match Runner::new(alloc, code, settings, source, steps) {
+        Ok(runner) => runner,
         Err((_, source)) => {
             drop(program);
             return Finished {
@@ -168,8 +167,8 @@ fn run_prepared<R: Source + Drop, W: Sink>(
             };
         }
     };
-    let report = run_machine(alloc, &mut machine, &program, sink);
-    let source = machine.into_source();
+    let report = run_on(alloc, &mut runner, &program, sink);
+    let source = runner.into_source();
     drop(program);
     Finished { report, source }
 }

@@ -172,7 +172,7 @@ impl Arrays {
     }
 
     // Fills or empties a slot of an array; a number that has no array changes nothing.
-    fn put(
+    fn put<const SAVES: bool>(
         &mut self,
         alloc: Global,
         array: usize,
@@ -181,10 +181,10 @@ impl Arrays {
     ) -> Result<(), AllocError>
         ensures did { OnOk result (arrays_of self.new.now ≡ with_put array key.now value (arrays_of self.old.now)) }
         ensures err { OnErr result (arrays_of self.new.now ≡ arrays_of self.old.now) }
-        ensures start { GrownArrays self.old.start self.new.start }
+        ensures start { OnTrue SAVES (GrownArrays self.old.start self.new.start) }
     {
         if array < self.live {
-            put(
+            put::<SAVES>(
                 alloc,
                 &mut self.index,
                 &mut self.cells,
@@ -198,7 +198,7 @@ impl Arrays {
     }
 
     /// Assigns to an element; a number that has no array changes nothing. It fails where memory is refused, and then no element has changed.
-    pub fn set(
+    pub fn set<const SAVES: bool>(
         &mut self,
         alloc: Global,
         array: usize,
@@ -207,9 +207,9 @@ impl Arrays {
     ) -> Result<(), AllocError>
         ensures did { OnOk result (arrays_of self.new.now ≡ with_element array key.now value (arrays_of self.old.now)) }
         ensures err { OnErr result (arrays_of self.new.now ≡ arrays_of self.old.now) }
-        ensures start { GrownArrays self.old.start self.new.start }
+        ensures start { OnTrue SAVES (GrownArrays self.old.start self.new.start) }
     {
-        self.put(alloc, array, key, Some(value))
+        self.put::<SAVES>(alloc, array, key, Some(value))
     }
 
     /// The place of an element, to read it and to write it with one search, until the step ends; `None` for a number that has no array.
@@ -246,12 +246,16 @@ impl Arrays {
     }
 
     /// Assigns to the element at a place. It fails where memory is refused, and then no element has changed.
-    pub fn set_at(&mut self, place: usize, value: Value) -> Result<(), AllocError>
+    pub fn set_at<const SAVES: bool>(
+        &mut self,
+        place: usize,
+        value: Value,
+    ) -> Result<(), AllocError>
         ensures did { OnOk result ((a : ℕ) (k : Bytes) → IsPlaceOf a k place self.old.now → arrays_of self.new.now ≡ with_element a k value (arrays_of self.old.now)) }
         ensures err { OnErr result (self.new.now ≡ self.old.now) }
-        ensures start { self.new.start ≡ self.old.start }
+        ensures start { OnTrue SAVES (self.new.start ≡ self.old.start) }
     {
-        set_slot(
+        set_slot::<SAVES>(
             &self.index,
             &mut self.cells,
             &mut self.counts,
@@ -262,63 +266,73 @@ impl Arrays {
     }
 
     /// Makes an element that is not there, uninitialised, as reading it does. It fails where memory is refused, and then no element has changed.
-    pub fn touch(&mut self, alloc: Global, array: usize, key: &[u8]) -> Result<(), AllocError>
+    pub fn touch<const SAVES: bool>(
+        &mut self,
+        alloc: Global,
+        array: usize,
+        key: &[u8],
+    ) -> Result<(), AllocError>
         ensures did { OnOk result (arrays_of self.new.now ≡ touched array key.now (arrays_of self.old.now)) }
         ensures err { OnErr result (arrays_of self.new.now ≡ arrays_of self.old.now) }
-        ensures start { GrownArrays self.old.start self.new.start }
+        ensures start { OnTrue SAVES (GrownArrays self.old.start self.new.start) }
     {
         if self.has(array, key) {
             return Ok(());
         }
-        self.put(alloc, array, key, Some(Value::Uninitialized))
+        self.put::<SAVES>(alloc, array, key, Some(Value::Uninitialized))
     }
 
     /// Deletes an element, if it is there. It fails where memory is refused, and then no element has changed.
-    pub fn delete(&mut self, alloc: Global, array: usize, key: &[u8]) -> Result<(), AllocError>
+    pub fn delete<const SAVES: bool>(
+        &mut self,
+        alloc: Global,
+        array: usize,
+        key: &[u8],
+    ) -> Result<(), AllocError>
         ensures did { OnOk result (arrays_of self.new.now ≡ without_element array key.now (arrays_of self.old.now)) }
         ensures err { OnErr result (arrays_of self.new.now ≡ arrays_of self.old.now) }
-        ensures start { GrownArrays self.old.start self.new.start }
+        ensures start { OnTrue SAVES (GrownArrays self.old.start self.new.start) }
     {
         if self.has(array, key) {
             self.emptied = self.emptied.saturating_add(1);
-            return self.put(alloc, array, key, None);
+            return self.put::<SAVES>(alloc, array, key, None);
         }
         Ok(())
     }
 
     /// Deletes all elements of an array, in a time linear in the slots that it has. It fails where memory is refused; some are deleted then.
-    pub fn clear(&mut self, array: usize) -> Result<(), AllocError>
+    pub fn clear<const SAVES: bool>(&mut self, array: usize) -> Result<(), AllocError>
         ensures did { OnOk result (arrays_of self.new.now ≡ cleared array (arrays_of self.old.now)) }
-        ensures start { self.new.start ≡ self.old.start }
+        ensures start { OnTrue SAVES (self.new.start ≡ self.old.start) }
     {
         if array < self.live {
-            let walked = empty(&self.index, &mut self.cells, &mut self.counts, array)?;
+            let walked = empty::<SAVES>(&self.index, &mut self.cells, &mut self.counts, array)?;
             self.emptied = self.emptied.saturating_add(walked);
         }
         Ok(())
     }
 
     /// Adds an empty array, whose number is how many there were. It fails where memory is refused.
-    pub fn add(&mut self) -> Result<(), AllocError>
+    pub fn add<const SAVES: bool>(&mut self) -> Result<(), AllocError>
         ensures did { OnOk result (arrays_of self.new.now ≡ arrays_of self.old.now ++ no_elements ∷ []) }
-        ensures start { self.new.start ≡ self.old.start }
+        ensures start { OnTrue SAVES (self.new.start ≡ self.old.start) }
     {
         let Some(live) = self.live.checked_add(1) else {
             return Err(AllocError);
         };
-        let walked = empty(&self.index, &mut self.cells, &mut self.counts, self.live)?;
+        let walked = empty::<SAVES>(&self.index, &mut self.cells, &mut self.counts, self.live)?;
         self.emptied = self.emptied.saturating_add(walked);
         self.live = live;
         Ok(())
     }
 
     /// Adds so many empty arrays. It fails where memory is refused.
-    pub fn add_empty(&mut self, count: usize) -> Result<(), AllocError>
+    pub fn add_empty<const SAVES: bool>(&mut self, count: usize) -> Result<(), AllocError>
         ensures did { OnOk result (arrays_of self.new.now ≡ arrays_of self.old.now ++ replicate count no_elements) }
-        ensures start { self.new.start ≡ self.old.start }
+        ensures start { OnTrue SAVES (self.new.start ≡ self.old.start) }
     {
         for _i in 0..count {
-            self.add()?;
+            self.add::<SAVES>()?;
         }
         Ok(())
     }
@@ -371,6 +385,12 @@ impl Arrays {
         self.began = self.live;
     }
 
+    /// Whether `pack` removes slots.
+    #[inline(always)]
+    pub fn is_sparse(&self) -> bool {
+        self.emptied > FEW && self.emptied / 2 > self.cells.len() / 4 + FEW
+    }
+
     /// Removes the slots that are empty, and those of array numbers that are not in use, where most slots were emptied. What leads back to earlier
     /// steps fits no more then. Where memory for that is refused, the slots stay. Each slot is so moved once on average.
     pub fn pack(&mut self, alloc: Global)
@@ -379,7 +399,7 @@ impl Arrays {
         ensures rest { self.new.start ≡ self.new.now }
         ensures laid { IsLaid self.new.now.index self.new.now.slots }
     {
-        if self.emptied > FEW && self.emptied / 2 > self.cells.len() / 4 + FEW {
+        if self.is_sparse() {
             self.emptied = 0;
             pack(
                 alloc,
@@ -431,11 +451,11 @@ impl Arrays {
         ensures start { GrownArrays self.old.start self.new.start }
     {
         match change {
-            ArraysChange::Set { array, key, value } => self.set(alloc, array, &key, value),
-            ArraysChange::Touch { array, key } => self.touch(alloc, array, &key),
-            ArraysChange::Delete { array, key } => self.delete(alloc, array, &key),
-            ArraysChange::Clear { array } => self.clear(array),
-            ArraysChange::AddEmpty(count) => self.add_empty(count),
+            ArraysChange::Set { array, key, value } => self.set::<true>(alloc, array, &key, value),
+            ArraysChange::Touch { array, key } => self.touch::<true>(alloc, array, &key),
+            ArraysChange::Delete { array, key } => self.delete::<true>(alloc, array, &key),
+            ArraysChange::Clear { array } => self.clear::<true>(array),
+            ArraysChange::AddEmpty(count) => self.add_empty::<true>(count),
             ArraysChange::Truncate(count) => {
                 self.truncate(count);
                 Ok(())

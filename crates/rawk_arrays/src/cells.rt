@@ -1,5 +1,6 @@
 //! Slots of elements, and the keys that they belong to.
 
+ghost use Rattle.std.specs.Bool.{OnTrue};
 ghost use Rattle.std.specs.Prelude.{◌≡◌, ℕ, ◌<◌, ◌≤◌, ◌++◌, ◌∷◌, [], IfOk, OnErr, OnOk, None, Some, if◌then◌else◌, is_some, length, slice_get, slice_set};
 ghost use Rattle.std.specs.Option.{option_copied};
 ghost use Rattle.std.specs.FinMap.{get};
@@ -98,7 +99,7 @@ pub(crate) fn slot_for(
 }
 
 /// Fills or empties a slot, and counts what it was and is; a number that is no slot changes nothing. It fails where memory is refused, and then nothing has changed.
-pub(crate) fn set_slot(
+pub(crate) fn set_slot<const SAVES: bool>(
     index: &Keys,
     cells: &mut ElementSlots,
     counts: &mut Vec<usize>,
@@ -111,7 +112,8 @@ pub(crate) fn set_slot(
     ensures counted { AreCounted index.now cells.new.now counts.new.items }
     ensures did { OnOk result (cells.new.now ≡ slice_set cells.old.now number value) }
     ensures err { OnErr result (cells.new.now ≡ cells.old.now) }
-    ensures start { cells.new.start ≡ cells.old.start }
+    ensures start { OnTrue SAVES (cells.new.start ≡ cells.old.start) }
+    ensures size { length cells.new.start ≡ length cells.old.start }
 {
     if number >= cells.len() {
         return Ok(());
@@ -119,13 +121,13 @@ pub(crate) fn set_slot(
     let _names = index.len();
     let was = is_filled(cells, number);
     let is = value.is_some();
-    cells.write(number, value)?;
+    cells.write::<SAVES>(number, value)?;
     recount(index, counts, number, was, is);
     Ok(())
 }
 
 /// Fills or empties the slot of a key. It fails where memory is refused, and then no element has changed.
-pub(crate) fn put(
+pub(crate) fn put<const SAVES: bool>(
     alloc: Global,
     index: &mut Keys,
     cells: &mut ElementSlots,
@@ -141,15 +143,15 @@ pub(crate) fn put(
     ensures did { OnOk result (IsPut array key.now value index.old cells.old.now index.new cells.new.now) }
     ensures err { OnErr result (IsSpread cells.old.now cells.new.now) }
     ensures more { Longer index.old index.new }
-    ensures start { IsSpread cells.old.start cells.new.start }
+    ensures start { OnTrue SAVES (IsSpread cells.old.start cells.new.start) }
 {
     let number = slot_for(alloc, index, cells, counts, array, key)?;
-    set_slot(index, cells, counts, number, value)?;
+    set_slot::<SAVES>(index, cells, counts, number, value)?;
     Ok(())
 }
 
 // Empties a slot. It fails where memory is refused, and then nothing has changed.
-fn empty_slot(
+fn empty_slot<const SAVES: bool>(
     index: &Keys,
     cells: &mut ElementSlots,
     counts: &mut Vec<usize>,
@@ -160,19 +162,20 @@ fn empty_slot(
     ensures laid { AreLaid index.now cells.new }
     ensures counted { AreCounted index.now cells.new.now counts.new.items }
     ensures did { OnOk result (IsSlotEmptied number cells.old.now cells.new.now) }
-    ensures start { cells.new.start ≡ cells.old.start }
+    ensures start { OnTrue SAVES (cells.new.start ≡ cells.old.start) }
     ensures err { OnErr result (cells.new.now ≡ cells.old.now) }
+    ensures size { length cells.new.start ≡ length cells.old.start }
 {
     if filled(cells, number).is_none() {
         return Ok(());
     }
-    set_slot(index, cells, counts, number, None)?;
+    set_slot::<SAVES>(index, cells, counts, number, None)?;
     Ok(())
 }
 
 /// Empties the slots of an array, in a time linear in their number, and gives about how many there are. It fails where memory is refused;
 /// those that were emptied stay so.
-pub(crate) fn empty(
+pub(crate) fn empty<const SAVES: bool>(
     index: &Keys,
     cells: &mut ElementSlots,
     counts: &mut Vec<usize>,
@@ -183,13 +186,13 @@ pub(crate) fn empty(
     ensures laid { AreLaid index.now cells.new }
     ensures counted { AreCounted index.now cells.new.now counts.new.items }
     ensures did { OnOk result (IsEmptied array index.now cells.old.now cells.new.now) }
-    ensures start { cells.new.start ≡ cells.old.start }
+    ensures start { OnTrue SAVES (cells.new.start ≡ cells.old.start) }
 {
     let mut at = index.latest(array);
     let _count = index.len();
     let mut walked = 0usize;
     while let Some(number) = at {
-        empty_slot(index, cells, counts, number)?;
+        empty_slot::<SAVES>(index, cells, counts, number)?;
         walked = walked.saturating_add(1);
         at = index.earlier(number);
     }
@@ -280,7 +283,7 @@ fn pack_one(
     match filled(cells, number) {
         Some(value) => {
             let copy = value.copy(alloc)?;
-            put(
+            put::<true>(
                 alloc,
                 packed_names,
                 packed,

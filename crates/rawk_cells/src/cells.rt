@@ -1,6 +1,6 @@
 //! The globals, and a text among them that is added to in place.
 
-ghost use Rattle.std.specs.Prelude.{◌≡◌, ◌<◌, ◌≤◌, ◌∷◌, ◌++◌, [], IfOk, OnErr, OnOk, drop, length, slice_get, slice_set, take, Some};
+ghost use Rattle.std.specs.Prelude.{◌≡◌, ◌<◌, ◌≤◌, ◌∷◌, ◌++◌, [], IfOk, IfSome, OnErr, OnOk, drop, length, slice_get, slice_set, take, Some};
 ghost use Rattle.std.specs.Bool.{OnTrue};
 ghost use Rattle.std.specs.Option.{option_copied};
 ghost use Rattle.rawk_slots.specs.Back.{back, AreBelow, AreDistinctFrom, HasAdded};
@@ -25,7 +25,8 @@ pub struct Grown {
 
 /// Globals, of which a number names one, from 0, beside what they were when the step began.
 ///
-/// A text that grows in place, where the step has changed no other global, is not kept as it was: how many bytes it had leads back.
+/// A text that grows in place, where the step has changed no other global, is not kept as it was: how many bytes it had leads back. Where `SAVES` is false, nothing is kept:
+/// nothing is said of the step's beginning then.
 #[derive(Drop)]
 pub struct Cells {
     alloc: Global,
@@ -105,7 +106,7 @@ fn keep_shorter(alloc: Global, slots: &mut Slots<Value>, grown: Grown) -> Result
             let earlier = shortened(value.copy(alloc)?, grown.count);
             let spare = value.copy(alloc)?;
             let now = slots.replace_at_rest(place, earlier);
-            match slots.write(place, now) {
+            match slots.write::<true>(place, now) {
                 Ok(()) => Ok(()),
                 Err(refused) => {
                     drop(slots.replace_at_rest(place, spare));
@@ -125,18 +126,34 @@ fn cut(slots: &mut Slots<Value>, grown: Grown)
     drop(slots.replace_at_rest(grown.place, shortened(now, grown.count)));
 }
 
-/// Keeps the text that grew as it was, if one did (see `keep_shorter`).
+/// Keeps the text that grew as it was, if one did (see `keep_shorter`) and old values are saved.
 #[inline(always)]
-fn settle(alloc: Global, slots: &mut Slots<Value>, grown: Option<Grown>) -> Result<(), AllocError>
+fn settle<const SAVES: bool>(
+    alloc: Global,
+    slots: &mut Slots<Value>,
+    grown: Option<Grown>,
+) -> Result<(), AllocError>
     requires { HasGrown grown slots.old }
     ensures now { slots.new.now ≡ slots.old.now }
-    ensures start { OnOk result (slots.new.start ≡ before_growth grown slots.old.start) }
+    ensures start { OnTrue SAVES (OnOk result (slots.new.start ≡ before_growth grown slots.old.start)) }
     ensures err { OnErr result (slots.new ≡ slots.old) }
 {
+    if !SAVES {
+        return Ok(());
+    }
     match grown {
         None => Ok(()),
         Some(grown) => keep_shorter(alloc, slots, grown),
     }
+}
+
+/// Where a text grew, if old values are saved.
+#[inline(always)]
+fn noted<const SAVES: bool>(grown: Grown) -> Option<Grown>
+    ensures saved { OnTrue SAVES (result ≡ Some grown) }
+    ensures other { IfSome result (λ g. g ≡ grown) }
+{
+    if SAVES { Some(grown) } else { None }
 }
 
 /// A text with bytes behind it. It fails where memory is refused.
@@ -176,14 +193,14 @@ impl Cells {
 
     /// Gives a global a value; a number that no global has changes nothing. It fails where memory is refused, and then nothing has changed.
     #[inline(always)]
-    pub fn set(&mut self, place: usize, value: Value) -> Result<(), AllocError>
+    pub fn set<const SAVES: bool>(&mut self, place: usize, value: Value) -> Result<(), AllocError>
         ensures did { OnOk result (self.new.now ≡ slice_set self.old.now place value) }
-        ensures start { self.new.start ≡ self.old.start }
+        ensures start { OnTrue SAVES (self.new.start ≡ self.old.start) }
         ensures err { OnErr result (self.new.now ≡ self.old.now) }
     {
-        settle(self.alloc, &mut self.slots, self.grown)?;
+        settle::<SAVES>(self.alloc, &mut self.slots, self.grown)?;
         self.grown = None;
-        self.slots.set(place, value)
+        self.slots.set::<SAVES>(place, value)
     }
 
     /// Adds a global, which the step's beginning then has too. It fails where memory is refused, and then nothing has changed.
@@ -192,16 +209,21 @@ impl Cells {
         ensures start { OnOk result (self.new.start ≡ self.old.start ++ value ∷ []) }
         ensures err { OnErr result (self.new ≡ self.old) }
     {
-        settle(self.alloc, &mut self.slots, self.grown)?;
+        settle::<true>(self.alloc, &mut self.slots, self.grown)?;
         self.grown = None;
         self.slots.add(value)
     }
 
     /// Puts bytes behind the text of a global, in place where the step has changed no other global and nobody shares the text; a number that no global has changes nothing. It fails
     /// where memory is refused, and then nothing has changed.
-    pub fn append(&mut self, alloc: Global, place: usize, more: &[u8]) -> Result<(), AllocError>
+    pub fn append<const SAVES: bool>(
+        &mut self,
+        alloc: Global,
+        place: usize,
+        more: &[u8],
+    ) -> Result<(), AllocError>
         ensures did { OnOk result (self.new.now ≡ longer_at place more.now self.old.now) }
-        ensures start { self.new.start ≡ self.old.start }
+        ensures start { OnTrue SAVES (self.new.start ≡ self.old.start) }
         ensures err { OnErr result (self.new.now ≡ self.old.now) }
     {
         if place >= self.slots.len() {
@@ -211,7 +233,7 @@ impl Cells {
             None => {
                 if self.slots.is_at_rest() {
                     if let Some(count) = grow(alloc, &mut self.slots, place, more)? {
-                        self.grown = Some(Grown { place, count });
+                        self.grown = noted::<SAVES>(Grown { place, count });
                         return Ok(());
                     }
                 }
@@ -224,20 +246,25 @@ impl Cells {
                 }
             }
         }
-        self.append_copy(alloc, place, more)
+        self.append_copy::<SAVES>(alloc, place, more)
     }
 
     /// The same by a copy.
-    fn append_copy(&mut self, alloc: Global, place: usize, more: &[u8]) -> Result<(), AllocError>
+    fn append_copy<const SAVES: bool>(
+        &mut self,
+        alloc: Global,
+        place: usize,
+        more: &[u8],
+    ) -> Result<(), AllocError>
         ensures did { OnOk result (self.new.now ≡ longer_at place more.now self.old.now) }
-        ensures start { self.new.start ≡ self.old.start }
+        ensures start { OnTrue SAVES (self.new.start ≡ self.old.start) }
         ensures err { OnErr result (self.new.now ≡ self.old.now) }
     {
         match self.slots.value(place) {
             None => Ok(()),
             Some(value) => {
                 let longer = longer(alloc, value, more)?;
-                self.set(place, longer)
+                self.set::<SAVES>(place, longer)
             }
         }
     }
@@ -250,7 +277,7 @@ impl Cells {
         ensures below { IfOk result (λ group. AreBelow (length self.old.now) group.entries.items) }
         ensures err { OnErr result (self.new ≡ self.old) }
     {
-        settle(self.alloc, &mut self.slots, self.grown)?;
+        settle::<true>(self.alloc, &mut self.slots, self.grown)?;
         self.grown = None;
         Ok(self.slots.finish(alloc))
     }
@@ -268,7 +295,7 @@ impl Cells {
         ensures err { OnErr result (self.new ≡ self.old) }
         ensures same { OnErr result (list.new.items ≡ list.old.items) }
     {
-        settle(self.alloc, &mut self.slots, self.grown)?;
+        settle::<true>(self.alloc, &mut self.slots, self.grown)?;
         self.grown = None;
         self.slots.finish_into(list, count)
     }
@@ -364,7 +391,7 @@ impl Reversible for Cells {
     ) -> Result<SlotGroup<Value>, AllocError> {
         self.grown = None;
         self.slots.forget();
-        self.slots.set(change.place, change.value)?;
+        self.slots.set::<true>(change.place, change.value)?;
         Ok(self.slots.finish(alloc))
     }
 

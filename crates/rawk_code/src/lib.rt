@@ -2,6 +2,7 @@
 #![tactic(auto)]
 
 pub mod code;
+mod fields_asked;
 pub mod fitting;
 pub mod formula;
 pub mod sets;

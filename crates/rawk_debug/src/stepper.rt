@@ -1,6 +1,6 @@
 //! What a session asks of a machine.
 
-ghost use Rattle.std.specs.Prelude.{◌≡◌, ◌+◌, ◌-◌, ◌<◌, Bool, length, Ok, None, Some, IfOk, OnOk, OnErr, IsTrue, IsFalse, is_some, option_map, option_copied, slice_get};
+ghost use Rattle.std.specs.Prelude.{◌≡◌, ◌+◌, ◌-◌, ◌^◌, ◌<◌, Bool, length, Ok, None, Some, IfOk, OnOk, OnErr, IsTrue, IsFalse, is_some, option_map, option_copied, slice_get};
 ghost use Rattle.rawk_tape.specs.Records.{Input};
 ghost use Rattle.rawk_tape.specs.Inputs.{before as behind};
 ghost use Rattle.rawk_tape.specs.declared.source.Ending.TheVariants.{Failed};
@@ -140,7 +140,8 @@ pub trait Stepper: Drop {
         requires { IsTrue (fresh self.now) }
         ensures { result ≡ differs place.now (before self.now) (seen (held self.now).state) };
 
-    /// Goes to the next point or to the ending. It fails where memory is refused, and then stands as before. A source that is over is asked for nothing.
+    /// Goes to the next point or to the ending. It fails where memory is refused, and then stands as before. A source that is over is asked for nothing. The count of
+    /// instructions that were run rises, until it is the greatest number of 128 bits.
     fn advance(&mut self, alloc: Global) -> Result<(), AllocError>
         requires { (held self.old).over ≡ None }
         ensures moved { OnOk result (position self.new ≡ gone_to ((position self.old).point + 1) (position self.old)) }
@@ -148,7 +149,8 @@ pub trait Stepper: Drop {
         ensures fresh { OnOk result (IsTrue (fresh self.new)) }
         ensures err { OnErr result (position self.new ≡ position self.old) }
         ensures narrows { (input : Input) → may_be self.new input → may_be self.old input }
-        ensures draws { Draws Self.Device.over Self.Device.handed (work self.old) (work self.new) };
+        ensures draws { Draws Self.Device.over Self.Device.handed (work self.old) (work self.new) }
+        ensures counted { (work self.old).executed + 1 < 2 ^ 128 → (work self.old).executed < (work self.new).executed };
 
     /// Goes back to the point before, and takes back the sets made at this one. `false` only at the oldest point kept, and
     /// then nothing changes. It takes no memory, reads nothing and runs nothing: the source stays as it is, and whatever might have been the input still may.

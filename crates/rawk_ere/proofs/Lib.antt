@@ -6,3 +6,9 @@ pub mod BracketLemmas
 pub mod IntervalLemmas
 pub mod ScanLemmas
 pub mod PatternOfLemmas
+pub mod Paths
+pub mod NeedPaths
+pub mod OpenLemmas
+pub mod EreLemmas
+pub mod SizeLemmas
+pub mod WideLemmas

@@ -1,23 +1,36 @@
-//! Extended regular expressions, read from patterns.
+//! Extended regular expressions, read from patterns, and the calls on them.
 
-ghost use Rattle.std.specs.Prelude.{◌≡◌, ◌+◌, ◌-◌, ◌*◌, ◌<◌, ◌≤◌, length, ℕ, Some, IfOk, IfErr};
+ghost use Rattle.std.specs.Prelude.{◌≡◌, ◌+◌, ◌-◌, ◌*◌, ◌<◌, ◌≤◌, ◌↔◌, IsTrue, length, ℕ, Some, IfOk, IfErr};
 ghost use Rattle.rawk_ere_tree.specs.Tree.{size_of, IsWithinLimits};
+ghost use Rattle.rawk_ere_tree.specs.Node.{tree_of};
 ghost use Rattle.rawk_ere.specs.PatternOf.{IsPatternOf, IsRefused};
 ghost use Rattle.rawk_ere_tree.specs.Code.{code_of};
-ghost use Rattle.rawk_ere_tree.specs.Ends.{IsLongest, IsMatch};
+ghost use Rattle.rawk_ere_tree.specs.Ends.{IsLongest, IsMatch, HasMatch};
 ghost use Rattle.rawk_ere_tree.specs.Open.{IsOpenMatch, IsSettled, IsOpenFrom};
 ghost use Rattle.rawk_ere_automaton.specs.Search.{IsBetween, AreBetween};
 
 use crate::error::EreError;
 use crate::read::read;
-use rawk_ere_automaton::automaton::Automaton;
+use crate::tables::{small_table, small_wide};
+use rawk_ere_automaton::search::{
+    first, first_by, first_open, is_found_by, is_found_by_walk, longest, open_start,
+};
+use rawk_ere_automaton::table::{Table, run};
+use rawk_ere_tree::code::Code;
+use rawk_ere_tree::emit::emit;
+use rawk_ere_tree::node::Node;
+use rawk_ere_tree::proof_tree::ProofTree;
 use std::alloc::{AllocError, Global};
 use std::marker::Model;
 
-/// An extended regular expression with its automaton. A contract sees its tree.
+/// An extended regular expression with its automaton. A contract sees its tree, which takes no memory.
 #[derive(Drop)]
 pub struct Ere {
-    automaton: Automaton,
+    tree: ProofTree,
+    code: Code,
+    table: Option<Table>,
+    wide: Option<Table>,
+    on_empty: bool,
 }
 
 /// The tree of the expression.
@@ -29,7 +42,19 @@ impl Model for Ere {
 
     ghost coded = { tree_code };
 
-    ghost view = { λ e. e.automaton };
+    ghost use Rattle.std.specs.Prelude.{◌≡◌, ◌↔◌, IsTrue, []};
+    ghost use Rattle.rawk_ere_tree.specs.Code.{code_of, wide_code};
+
+    ghost view = { λ e. e.tree.tree };
+
+    ghost use Rattle.rawk_ere_automaton.specs.Table.{IsTable};
+    ghost use Rattle.rawk_ere_automaton.specs.Search.{BeginsIn};
+    ghost use Rattle.std.specs.Option.{ForSome};
+
+    ghost invariant = { λ e. (e.code ≡ code_of e.tree.tree)
+        × ForSome e.table (IsTable e.code)
+        × ForSome e.wide (IsTable (wide_code e.code))
+        × (IsTrue e.on_empty ↔ BeginsIn e.code [] 0 0) };
 }
 
 impl Ere {
@@ -41,8 +66,27 @@ impl Ere {
         ensures refused { IfErr result (λ x. IsRefused x pattern.now) }
     {
         let node = read(alloc, pattern)?;
-        let automaton = Automaton::new(alloc, node)?;
-        Ok(Ere { automaton })
+        let expression = Ere::of_node(alloc, node)?;
+        Ok(expression)
+    }
+
+    /// The expression of the tree.
+    fn of_node(alloc: Global, node: Node) -> Result<Ere, AllocError>
+        ensures { IfOk result (λ e. e ≡ tree_of node) }
+    {
+        let mut code = Code::new(alloc);
+        emit(alloc, &mut code, &node)?;
+        code.shrink();
+        let table = small_table(alloc, &code)?;
+        let wide = small_wide(alloc, &code, &table)?;
+        let on_empty = is_found_by_walk(alloc, &code, b"")?;
+        Ok(Ere {
+            tree: ProofTree::of(&node),
+            code,
+            table,
+            wide,
+            on_empty,
+        })
     }
 
     /// How many states the automaton has.
@@ -50,7 +94,7 @@ impl Ere {
         ensures value { result ≡ length (code_of self.now) + 1 }
         ensures within { result ≤ 2 * size_of self.now + 1 }
     {
-        self.automaton.states()
+        self.code.len() + 1
     }
 
     /// The greatest end of a match that begins at `from`, if there is one. It reads no byte twice.
@@ -64,7 +108,14 @@ impl Ere {
         ensures is { IfOk result (IsLongest text.now self.now from) }
         ensures within { IfOk result (IsBetween from (length text.now)) }
     {
-        self.automaton.longest_at(alloc, text, from)
+        if let Some(table) = &self.table {
+            if text.len() > 0 {
+                let ran = run(table, &self.code, text, from);
+                return Ok(ran.longest);
+            }
+        }
+        let walked = longest(alloc, &self.code, text, from, true)?;
+        Ok(walked.longest)
     }
 
     /// The same, with how often a state was entered at a place: at most once for each state at each place.
@@ -79,7 +130,8 @@ impl Ere {
         ensures within { IfOk result (λ r. IsBetween from (length text.now) r.0) }
         ensures entered { IfOk result (λ r. r.1 ≤ (length text.now - from + 1) * (length (code_of self.now) + 1)) }
     {
-        self.automaton.longest_at_counted(alloc, text, from)
+        let walked = longest(alloc, &self.code, text, from, true)?;
+        Ok((walked.longest, walked.entered))
     }
 
     /// The leftmost match from `from` on, and the longest there: its begin and its end.
@@ -93,7 +145,26 @@ impl Ere {
         ensures is { IfOk result (IsMatch text.now self.now from) }
         ensures within { IfOk result (AreBetween from (length text.now)) }
     {
-        self.automaton.find(alloc, text, from)
+        if text.len() == 0 {
+            return Ok(self.on_empty.then_some((0, 0)));
+        }
+        match &self.table {
+            None => first(alloc, &self.code, text, from),
+            Some(table) => first_by(alloc, table, &self.wide, &self.code, text, from),
+        }
+    }
+
+    /// Whether the text has a match. It reads no further than it must to tell.
+    pub fn is_found(&self, alloc: Global, text: &[u8]) -> Result<bool, AllocError>
+        ensures { IfOk result (λ b. IsTrue b ↔ HasMatch text.now self.now) }
+    {
+        if text.len() == 0 {
+            return Ok(self.on_empty);
+        }
+        match &self.table {
+            None => is_found_by_walk(alloc, &self.code, text),
+            Some(table) => is_found_by(alloc, table, &self.wide, &self.code, text),
+        }
     }
 
     /// The leftmost nonempty match from `from` on, and the longest there, if it stays that in every longer text that begins
@@ -109,7 +180,7 @@ impl Ere {
         ensures settled { IfOk result (λ o. (m : ℕ × ℕ) → o ≡ Some m → IsSettled text.now self.now from m) }
         ensures within { IfOk result (AreBetween from (length text.now)) }
     {
-        self.automaton.find_open(alloc, text, from)
+        first_open(alloc, &self.table, &self.code, text, from)
     }
 
     /// The first place from `from` on where a nonempty match may begin, in this text or in a longer one that begins with it;
@@ -118,6 +189,6 @@ impl Ere {
         requires { from ≤ length text.now }
         ensures { IfOk result (IsOpenFrom text.now self.now from) }
     {
-        self.automaton.open_from(alloc, text, from)
+        open_start(alloc, &self.table, &self.code, text, from)
     }
 }

@@ -11,6 +11,7 @@ pub mod interval;
 pub mod part;
 pub mod read;
 pub mod scan;
+pub mod tables;
 pub mod token;
 
 pub use error::EreError;

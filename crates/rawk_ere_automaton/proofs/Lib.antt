@@ -1,10 +1,4 @@
-pub mod Paths
 pub mod WalkLemmas
-pub mod EreLemmas
-pub mod SizeLemmas
-pub mod OpenLemmas
-pub mod NeedPaths
 pub mod SearchLemmas
 pub mod TableLemmas
 pub mod BuildLemmas
-pub mod WideLemmas

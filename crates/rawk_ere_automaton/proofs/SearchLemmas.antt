@@ -1,6 +1,7 @@
 -- Searches from one place after the other.
-use Rattle.std.proofs.Common.{◌≡◌, ℕ, zero, suc, ◌+◌, ◌-◌, ◌<◌, ◌≤◌, ◌⊎◌, inl, inr, Bool, true, false, Option, Some, None, List, length, refl, sym, ap, subst, arith, true≢false}
+use Rattle.std.proofs.Common.{◌≡◌, ℕ, zero, suc, ◌+◌, ◌-◌, ◌<◌, ◌≤◌, ◌⊎◌, inl, inr, Bool, true, false, Option, Some, None, List, length, refl, sym, ap, ◌∙◌, subst, arith, true≢false}
 use Rattle.std.specs.Prelude.{IsTrue, ◌↔◌}
+use Rattle.std.specs.Option.{is_some}
 use Rattle.std.proofs.lemmas.Bool.{cases_eq, cases_lt}
 use Rattle.std.proofs.lemmas.Option.{slice_get_within}
 use Rattle.rawk_ere_tree.specs.declared.code.Instruction.{Instruction}
@@ -36,6 +37,35 @@ module _ (code : List Instruction) (s : List ℕ) where
     | inl is ↦ (let g = subst (λ x. IsFarthest code true s here x) e f in g j w.0 (subst (λ x. Path code true s w.0 0 x (length code) j) is w.1))
     | inr other ↦ (let o : i ≡ here → ⊥ = other in n i j le (omega (arith, o)) w)
   ]
+
+  pub none_more_way : (p here : ℕ) → ((j : ℕ) → Way code s true here j → ⊥) → BeginsNone code s p here → BeginsNone code s p (here + 1)
+  none_more_way p here not n = λ i j le lt w. elim (cases_eq i here) [
+    | inl is ↦ not j (w.0, subst (λ x. Path code true s w.0 0 x (length code) j) is w.1)
+    | inr other ↦ (let o : i ≡ here → ⊥ = other in n i j le (omega (arith, o)) w)
+  ]
+
+  -- a search for whether there is a way: one was found, none begins before the place and the rest was passed over, or none but at the end of the text
+  pub found_way : (at : ℕ) → at ≤ length s → (j : ℕ) × Way code s true at j → BeginsIn code s 0 (length s)
+  found_way at le h = (at, h.0, omega arith, le, h.1)
+
+  pub found_passed : (at : ℕ) (o : Option ℕ) (b : Bool) → b ≡ is_some o → BeginsNone code s 0 at → EndsFrom code s at (length s) o → IsTrue b ↔ BeginsIn code s 0 (length s)
+  found_passed at None b is n f = (
+    λ h. absurd (true≢false (sym h ∙ is)),
+    λ w. elim (cases_lt w.0 at) as (λ _. IsTrue b) [ inl before ↦ absurd (n w.0 w.1 w.2 before w.4) | inr ge ↦ absurd (f (w.0, w.1, ge, w.3, w.4)) ],
+  )
+  found_passed at (Some j) b is n f = (λ h. (f.0, j, omega arith, f.2, f.3), λ w. is)
+
+  pub found_last : (at : ℕ) (b : Bool) → at ≡ length s → BeginsNone code s 0 at → IsTrue b ↔ ((j : ℕ) × Way code s true at j) → IsTrue b ↔ BeginsIn code s 0 (length s)
+  found_last at b e n f = (
+    λ h. found_way at (omega (arith, e)) (f.0 h),
+    λ w. elim (cases_lt w.0 at) as (λ _. IsTrue b) [
+      | inl before ↦ absurd (n w.0 w.1 w.2 before w.4)
+      | inr ge ↦
+          let high = w.3 in
+          let here : w.0 ≡ at = omega (arith, ge, high, e) in
+          f.1 (w.1, subst (λ x. Way code s true x w.1) here w.4)
+    ],
+  )
 
   pub first_none : (p here : ℕ) → length s < here → BeginsNone code s p here → IsFirst code s p None
   first_none p here lt n = λ i j le end w. n i j le (omega arith) w

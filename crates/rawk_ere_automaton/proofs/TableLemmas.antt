@@ -1,9 +1,8 @@
 -- A walk by the table is a walk of state sets.
-use Rattle.std.proofs.Common.{◌≡◌, ℕ, zero, suc, ◌+◌, ◌-◌, ◌*◌, ◌/◌, ◌%◌, ◌<◌, ◌≤◌, ◌⊎◌, inl, inr, Bool, true, false, List, [], length, drop, get_or, Option, Some, None, refl, sym, ◌∙◌, subst, arith, true≢false, ap}
+use Rattle.std.proofs.Common.{◌≡◌, ℕ, zero, suc, ◌+◌, ◌*◌, ◌/◌, ◌%◌, ◌<◌, ◌≤◌, ◌⊎◌, inl, inr, Bool, true, false, List, [], length, get_or, Option, Some, None, refl, sym, ◌∙◌, subst, arith, true≢false}
 use Rattle.std.specs.Prelude.{◌↔◌, IsTrue, Contains, slice_index}
 use Rattle.std.proofs.lemmas.Option.{slice_get_within}
-use Rattle.std.proofs.lemmas.Bool.{cases_lt}
-use Rattle.std.proofs.lemmas.List.{get_or-drop}
+use Rattle.std.proofs.lemmas.Bool.{cases_eq, cases_lt}
 use Rattle.std.proofs.lemmas.List.Elements.{Contains-append_cases}
 use Rattle.rawk_ere_tree.specs.declared.code.Instruction.{Instruction}
 use Rattle.rawk_ere_tree.specs.Ends.{IsLast}
@@ -11,7 +10,7 @@ use Rattle.rawk_ere_tree.specs.Code.{Hops, Step, Path, wide_code}
 use Rattle.rawk_ere_tree.specs.StateSets.{Adds}
 use Rattle.rawk_ere_automaton.specs.Sets.{Closes, AreReached, IsFarthestBefore, IsFarthest}
 use Rattle.rawk_ere_automaton.specs.Search.{EndsFrom, Widens, BeginsNone, MayStart, NoneMay}
-use Rattle.rawk_ere_tree.specs.Begins.{begins_with}
+use Rattle.rawk_ere_begins.specs.Filters.{IsPassedOver}
 use Rattle.rawk_ere_automaton.specs.declared.table.Table.{Table}
 use Rattle.rawk_ere_automaton.specs.Table.{members, Begins, LeadsBy, EndsLast, AreFilled, AreStarts, IsTable}
 use Rattle.rawk_ere_tree.proofs.SetLemmas.{Contains-none}
@@ -198,37 +197,77 @@ module _ (code : List Instruction) (s : List ℕ) where
   open_running_end sets i at row longest result ends le e is c r =
       farthest_end code false s i (at + 1) result le (omega (arith, e)) (open_noted i at (members sets row) longest result ends is c r.reached r.before)
 
-  -- no way that reads a byte may begin with the byte at the place
-  pub may_not : (t : Table) (is : IsTable code t) (at b : ℕ) → 0 < at → at < length s → b ≡ get_or s at 0 → b < 256 → get_or t.next.items (t.later * 256 + b) 0 ≡ t.dead → MayStart code s at → ⊥
-  may_not t is at b pos lt eb lb nd m =
-      let r0 = running_start is.sets t.start t.later at t.later is.starts (inr (λ z. omega (arith, z), refl)) in
-      let r1 = row_next is.sets t.next.items at at t.later b t.dead is.filled is.all (omega arith) lt eb lb (sym nd) r0.within r0.reached in
-      let z = is.none r1.0 in
+  -- where a walk by the table begins at the row `later`
+  abbrev pub IsLater : Table → ℕ → Type 0
+  IsLater t at = (0 < at) ⊎ (t.start ≡ t.later)
+
+  pub later_on : (t : Table) (from at : ℕ) → from ≤ at → IsLater t from → IsLater t at
+  later_on t from at le (inl pos) = inl (omega (arith, pos, le))
+  later_on t from at le (inr e) = inr e
+
+  running_later : (t : Table) (is : IsTable code t) (at : ℕ) → IsLater t at → Running is.sets at at t.later None
+  running_later t is at (inl pos) = running_start is.sets t.start t.later at t.later is.starts (inr (λ z. omega (arith, z, pos), refl))
+  running_later t is at (inr e) = elim (cases_eq at 0) [
+    | inl begun ↦ running_start is.sets t.start t.later at t.later is.starts (inl (begun, sym e))
+    | inr on ↦ running_start is.sets t.start t.later at t.later is.starts (inr (on, refl))
+  ]
+
+  -- no way that reads a byte begins at a place from which nothing is left
+  none_left : (t : Table) (is : IsTable code t) (i at : ℕ) → i < at → at ≤ length s → (t.dead < length is.sets) × AreReached code false s i at (members is.sets t.dead) → ((j : ℕ) → i < j → j < at → (n : ℕ) × Path code false s n 0 i (length code) j → ⊥) → MayStart code s i → ⊥
+  none_left t is i at lt le r before m =
+      let z = is.none r.0 in
       elim m as (λ _. ⊥) [
-        | inl w ↦ not_true ((wants_none code false s at (at + 1) (members is.sets t.dead) (omega arith) (omega arith) z r1.1).1 w)
-        | inr h ↦
-            let later = h.1 in
-            let p = path_passes code false s h.2.0 0 at (length code) h.0 (at + 1) (omega arith) h.2.1 (omega arith) (omega (arith, later)) in
-            let x = r1.1.all p.0 p.1 p.2 p.3 in omega (arith, x.1, z)
+        | inl w ↦ not_true ((wants_none code false s i at (members is.sets t.dead) (omega (arith, lt)) le z r.1).1 w)
+        | inr h ↦ elim (cases_lt h.0 at) as (λ _. ⊥) [
+          | inl early ↦ before h.0 h.1 early h.2
+          | inr past ↦
+              let p = path_passes code false s h.2.0 0 i (length code) h.0 at (omega arith) h.2.1 (omega (arith, lt)) past in
+              let x = r.1.all p.0 p.1 p.2 p.3 in omega (arith, x.1, z)
+        ]
       ]
 
+  -- no way that reads a byte may begin with the byte at the place
+  pub may_not : (t : Table) (is : IsTable code t) (at b : ℕ) → IsLater t at → at < length s → b ≡ get_or s at 0 → b < 256 → get_or t.next.items (t.later * 256 + b) 0 ≡ t.dead → MayStart code s at → ⊥
+  may_not t is at b pos lt eb lb nd m =
+      let r0 = running_later t is at pos in
+      let r1 = row_next is.sets t.next.items at at t.later b t.dead is.filled is.all (omega arith) lt eb lb (sym nd) r0.within r0.reached in
+      none_left t is at (at + 1) (omega arith) (omega (arith, lt)) r1 (λ j low high w. omega (arith, low, high)) m
+
+  -- nor with that and the next one
+  may_not_pair : (t : Table) (is : IsTable code t) (at a b : ℕ) → IsLater t at → at + 1 < length s → a ≡ get_or s at 0 → a < 256 → b ≡ get_or s (at + 1) 0 → b < 256
+      → get_or t.ends.items (get_or t.next.items (t.later * 256 + a) 0) false ≡ false → get_or t.next.items (get_or t.next.items (t.later * 256 + a) 0 * 256 + b) 0 ≡ t.dead → MayStart code s at → ⊥
+  may_not_pair t is at a b pos lt ea la eb lb ne nd m =
+      let row = get_or t.next.items (t.later * 256 + a) 0 in
+      let r0 = running_later t is at pos in
+      let r1 = row_next is.sets t.next.items at at t.later a row is.filled is.all (omega arith) (omega (arith, lt)) ea la refl r0.within r0.reached in
+      let r2 = row_next is.sets t.next.items at (at + 1) row b t.dead is.filled is.all (omega arith) lt eb lb (sym nd) r1.0 r1.1 in
+      let e : at + 1 + 1 ≡ at + 2 = omega arith in
+      none_left t is at (at + 2) (omega arith) (omega (arith, lt)) (subst (λ k. (t.dead < length is.sets) × AreReached code false s at k (members is.sets t.dead)) e r2)
+      (λ j low high w.
+      let here : j ≡ at + 1 = omega (arith, low, high) in
+      let end = r1.1.all (length code) w.0 (omega arith) (subst (λ x. Path code false s w.0 0 at (length code) x) here w.1) in
+      true≢false (sym ((is.ends_are row r1.0).1 end) ∙ ne))
+      m
+
   -- nor where each byte leads to the row without states
-  pub none_may_dead : (t : Table) (is : IsTable code t) (from first upto : ℕ) → 0 < from → upto ≤ length s → ((k : ℕ) → get_or s k 0 < 256) → ((k : ℕ) → first ≤ k → k < upto → get_or t.next.items (t.later * 256 + get_or s k 0) 0 ≡ t.dead)
+  pub none_may_dead : (t : Table) (is : IsTable code t) (from first upto : ℕ) → IsLater t from → upto ≤ length s → ((k : ℕ) → get_or s k 0 < 256) → ((k : ℕ) → first ≤ k → k < upto → get_or t.next.items (t.later * 256 + get_or s k 0) 0 ≡ t.dead)
       → NoneMay code s from first → NoneMay code s from upto
   none_may_dead t is from first upto pos end fits dead n = λ i low lt m. elim (cases_lt i first) [
     | inl before ↦ n i low before m
-    | inr ge ↦ may_not t is i (get_or s i 0) (omega (arith, pos, low)) (omega (arith, lt, end)) refl (fits i) (dead i ge lt) m
+    | inr ge ↦ may_not t is i (get_or s i 0) (later_on t from i low pos) (omega (arith, lt, end)) refl (fits i) (dead i ge lt) m
   ]
 
-  pub none_may_seek : (t : Table) (is : IsTable code t) (from n : ℕ) (rest : List ℕ) → 0 < from → from + n ≤ length s → rest ≡ drop from s → ((k : ℕ) → get_or s k 0 < 256) → ((k : ℕ) → k < n → begins_with t.begins (get_or rest k 0) ≡ false)
-      → NoneMay code s from (from + n)
-  none_may_seek t is from n rest pos le er fits h = λ i low lt m.
-      let e : from + (i - from) ≡ i = omega arith in
-      let b = get_or s i 0 in
-      let byte : get_or rest (i - from) 0 ≡ b = ap (λ l. get_or l (i - from) 0) er ∙ get_or-drop from s (i - from) 0 ∙ ap (λ x. get_or s x 0) e in
-      let not : begins_with t.begins b ≡ false = subst (λ x. begins_with t.begins x ≡ false) byte (h (i - from) (omega arith)) in
-      let known = is.begin_with b (fits i) not in
-      may_not t is i b (omega arith) (omega arith) refl (fits i) known.1 m
+  -- nor at a place that is passed over
+  may_not_here : (t : Table) (is : IsTable code t) (at : ℕ) → IsLater t at → at < length s → ((k : ℕ) → get_or s k 0 < 256) → IsPassedOver t.begins s at → MayStart code s at → ⊥
+  may_not_here t is at pos lt fits (inl e) m = may_not t is at (get_or s at 0) pos lt refl (fits at) (is.begin_with.empty e (get_or s at 0) (fits at)) m
+  may_not_here t is at pos lt fits (inr (inl z)) m = may_not t is at (get_or s at 0) pos lt refl (fits at) (is.begin_with.single (get_or s at 0) (fits at) z) m
+  may_not_here t is at pos lt fits (inr (inr z)) m = elim (is.begin_with.pair (get_or s at 0) (get_or s (at + 1) 0) (fits at) (fits (at + 1)) z.1) [
+    | inl d ↦ may_not t is at (get_or s at 0) pos lt refl (fits at) d m
+    | inr d ↦ may_not_pair t is at (get_or s at 0) (get_or s (at + 1) 0) pos z.0 refl (fits at) refl (fits (at + 1)) d.0 d.1 m
+  ]
+
+  pub none_may_seek : (t : Table) (is : IsTable code t) (from upto : ℕ) → IsLater t from → upto ≤ length s → ((k : ℕ) → get_or s k 0 < 256) → ((k : ℕ) → from ≤ k → k < upto → IsPassedOver t.begins s k) → NoneMay code s from upto
+  none_may_seek t is from upto pos le fits h = λ i low lt m. may_not_here t is i (later_on t from i low pos) (omega (arith, lt, le)) fits (h i low lt) m
 
   -- an end at the row is one of a way
   pub running_way : (sets : List (ℕ × List ℕ)) (i at row : ℕ) (longest : Option ℕ) → at < length s → Contains (members sets row) (length code) → Running sets i at row longest → (n : ℕ) × Path code true s n 0 i (length code) at
@@ -247,37 +286,55 @@ module _ (code : List Instruction) (s : List ℕ) where
         | inr v ↦ (let x = l.copies.only o.0 v in omega (arith, x.1))
       ]
 
-  -- no way begins with the byte at the place
-  pub begins_not : (t : Table) (is : IsTable code t) (at b : ℕ) → 0 < at → at < length s → b ≡ get_or s at 0 → b < 256 → get_or t.ends.items t.later false ≡ false → get_or t.next.items (t.later * 256 + b) 0 ≡ t.dead
-      → (j : ℕ) → (n : ℕ) × Path code true s n 0 at (length code) j → ⊥
-  begins_not t is at b pos lt eb lb ne nd j w =
-      let r0 = running_start is.sets t.start t.later at t.later is.starts (inr (λ z. omega (arith, z), refl)) in
-      let r1 = running_next is.sets t.next.items at at t.later b t.dead None None (get_or t.ends.items t.later false) is.filled is.all (omega arith) lt eb lb (sym nd) (is.ends_are t.later r0.within) (inr (λ x. true≢false (sym x ∙ ne), refl)) r0 in
-      let z = is.none r1.within in
-      let f : IsFarthest code true s at None = elim (cases_lt (at + 1) (length s)) [
-        | inl more ↦ running_stop is.sets at (at + 1) t.dead None (omega arith) more z r1
+  -- no way ends where nothing is left, if none ended before
+  none_ends : (t : Table) (is : IsTable code t) (i at : ℕ) → i < at → at ≤ length s → Running is.sets i at t.dead None → (j : ℕ) → (n : ℕ) × Path code true s n 0 i (length code) j → ⊥
+  none_ends t is i at lt le r j w =
+      let z = is.none r.within in
+      let f : IsFarthest code true s i None = elim (cases_lt at (length s)) [
+        | inl more ↦ running_stop is.sets i at t.dead None (omega (arith, lt)) more z r
         | inr last ↦
-            running_end is.sets at (at + 1) t.dead None None (get_or t.last_ends.items t.dead false) (is.last t.dead r1.within) (omega arith) (omega arith) (omega arith) r1 (inr (none_last (members is.sets t.dead) (get_or t.last_ends.items t.dead false) z (is.last t.dead r1.within), refl))
+            running_end is.sets i at t.dead None None (get_or t.last_ends.items t.dead false) (is.last t.dead r.within) (omega (arith, lt)) (omega (arith, lt)) (omega (arith, last, le)) r (inr (none_last (members is.sets t.dead) (get_or t.last_ends.items t.dead false) z (is.last t.dead r.within), refl))
       ] in
       f j w.0 w.1
 
-  -- nor with those that are passed over
-  pub begins_none_seek : (t : Table) (is : IsTable code t) (from n : ℕ) (rest : List ℕ) → 0 < from → from + n ≤ length s → rest ≡ drop from s → ((k : ℕ) → get_or s k 0 < 256) → ((k : ℕ) → k < n → begins_with t.begins (get_or rest k 0) ≡ false)
-      → BeginsNone code s from (from + n)
-  begins_none_seek t is from n rest pos le er fits h = λ i j low lt w.
-      let e : from + (i - from) ≡ i = omega arith in
-      let b = get_or s i 0 in
-      let byte : get_or rest (i - from) 0 ≡ b = ap (λ l. get_or l (i - from) 0) er ∙ get_or-drop from s (i - from) 0 ∙ ap (λ x. get_or s x 0) e in
-      let not : begins_with t.begins b ≡ false = subst (λ x. begins_with t.begins x ≡ false) byte (h (i - from) (omega arith)) in
-      let known = is.begin_with b (fits i) not in
-      begins_not t is i b (omega arith) (omega arith) refl (fits i) known.0 known.1 j w
+  -- no way begins with the byte at the place
+  pub begins_not : (t : Table) (is : IsTable code t) (at b : ℕ) → IsLater t at → at < length s → b ≡ get_or s at 0 → b < 256 → get_or t.ends.items t.later false ≡ false → get_or t.next.items (t.later * 256 + b) 0 ≡ t.dead
+      → (j : ℕ) → (n : ℕ) × Path code true s n 0 at (length code) j → ⊥
+  begins_not t is at b pos lt eb lb ne nd j w =
+      let r0 = running_later t is at pos in
+      let r1 = running_next is.sets t.next.items at at t.later b t.dead None None (get_or t.ends.items t.later false) is.filled is.all (omega arith) lt eb lb (sym nd) (is.ends_are t.later r0.within) (inr (λ x. true≢false (sym x ∙ ne), refl)) r0 in
+      none_ends t is at (at + 1) (omega arith) (omega (arith, lt)) r1 j w
+
+  -- nor with that and the next one
+  begins_not_pair : (t : Table) (is : IsTable code t) (at a b : ℕ) → IsLater t at → at + 1 < length s → a ≡ get_or s at 0 → a < 256 → b ≡ get_or s (at + 1) 0 → b < 256 → get_or t.ends.items t.later false ≡ false
+      → get_or t.ends.items (get_or t.next.items (t.later * 256 + a) 0) false ≡ false → get_or t.next.items (get_or t.next.items (t.later * 256 + a) 0 * 256 + b) 0 ≡ t.dead
+      → (j : ℕ) → (n : ℕ) × Path code true s n 0 at (length code) j → ⊥
+  begins_not_pair t is at a b pos lt ea la eb lb ne ne' nd j w =
+      let row = get_or t.next.items (t.later * 256 + a) 0 in
+      let r0 = running_later t is at pos in
+      let r1 = running_next is.sets t.next.items at at t.later a row None None (get_or t.ends.items t.later false) is.filled is.all (omega arith) (omega (arith, lt)) ea la refl (is.ends_are t.later r0.within) (inr (λ x. true≢false (sym x ∙ ne), refl)) r0 in
+      let r2 = running_next is.sets t.next.items at (at + 1) row b t.dead None None (get_or t.ends.items row false) is.filled is.all (omega arith) lt eb lb (sym nd) (is.ends_are row r1.within) (inr (λ x. true≢false (sym x ∙ ne'), refl)) r1 in
+      none_ends t is at (at + 1 + 1) (omega arith) (omega (arith, lt)) r2 j w
+
+  -- nor at a place that is passed over
+  begins_not_here : (t : Table) (is : IsTable code t) (at : ℕ) → IsLater t at → at < length s → ((k : ℕ) → get_or s k 0 < 256) → get_or t.ends.items t.later false ≡ false → IsPassedOver t.begins s at
+      → (j : ℕ) → (n : ℕ) × Path code true s n 0 at (length code) j → ⊥
+  begins_not_here t is at pos lt fits ne (inl e) j w = begins_not t is at (get_or s at 0) pos lt refl (fits at) ne (is.begin_with.empty e (get_or s at 0) (fits at)) j w
+  begins_not_here t is at pos lt fits ne (inr (inl z)) j w = begins_not t is at (get_or s at 0) pos lt refl (fits at) ne (is.begin_with.single (get_or s at 0) (fits at) z) j w
+  begins_not_here t is at pos lt fits ne (inr (inr z)) j w = elim (is.begin_with.pair (get_or s at 0) (get_or s (at + 1) 0) (fits at) (fits (at + 1)) z.1) [
+    | inl d ↦ begins_not t is at (get_or s at 0) pos lt refl (fits at) ne d j w
+    | inr d ↦ begins_not_pair t is at (get_or s at 0) (get_or s (at + 1) 0) pos z.0 refl (fits at) refl (fits (at + 1)) ne d.0 d.1 j w
+  ]
+
+  pub begins_none_seek : (t : Table) (is : IsTable code t) (from upto : ℕ) → IsLater t from → upto ≤ length s → ((k : ℕ) → get_or s k 0 < 256) → get_or t.ends.items t.later false ≡ false → ((k : ℕ) → from ≤ k → k < upto → IsPassedOver t.begins s k) → BeginsNone code s from upto
+  begins_none_seek t is from upto pos le fits ne h = λ i j low lt w. begins_not_here t is i (later_on t from i low pos) (omega (arith, lt, le)) fits ne (h i low lt) j w
 
   -- nor where each byte leads to the row without states
-  pub begins_none_dead : (t : Table) (is : IsTable code t) (from first upto : ℕ) → 0 < from → upto ≤ length s → ((k : ℕ) → get_or s k 0 < 256) → get_or t.ends.items t.later false ≡ false
+  pub begins_none_dead : (t : Table) (is : IsTable code t) (from first upto : ℕ) → IsLater t from → upto ≤ length s → ((k : ℕ) → get_or s k 0 < 256) → get_or t.ends.items t.later false ≡ false
       → ((k : ℕ) → first ≤ k → k < upto → get_or t.next.items (t.later * 256 + get_or s k 0) 0 ≡ t.dead) → BeginsNone code s from first → BeginsNone code s from upto
   begins_none_dead t is from first upto pos end fits ne dead n = λ i j low lt w. elim (cases_lt i first) [
     | inl before ↦ n i j low before w
-    | inr ge ↦ begins_not t is i (get_or s i 0) (omega (arith, pos, low)) (omega (arith, lt, end)) refl (fits i) ne (dead i ge lt) j w
+    | inr ge ↦ begins_not t is i (get_or s i 0) (later_on t from i low pos) (omega (arith, lt, end)) refl (fits i) ne (dead i ge lt) j w
   ]
 
 -- ways of the wide code

@@ -2,7 +2,7 @@
 use Rattle.std.specs.Prelude.{◌≡◌, ℕ, ◌+◌, ◌*◌, ◌/◌, ◌%◌, ◌<◌, ◌↔◌, Bool, true, false, IsTrue, List, [], ◌++◌, length, slice_index, slice_index_or, Contains, ◌-◌}
 use Rattle.rawk_ere_tree.specs.declared.code.Instruction.{Instruction}
 use Rattle.rawk_ere_automaton.specs.declared.table.Table.{Table}
-use Rattle.rawk_ere_tree.specs.Begins.{AreBegins}
+use Rattle.rawk_ere_begins.specs.Filters.{IsFilter}
 use Rattle.rawk_ere_tree.specs.StateSets.{Adds}
 use Rattle.rawk_ere_automaton.specs.Sets.{Closes, AdvancesBy, TakesFrom, AsksIn}
 
@@ -56,7 +56,7 @@ pub record IsTable (code : List Instruction) (t : Table) : Type 0 where
   pub wants_all : length t.wants.items ≡ length sets
   pub wants_are : (r : ℕ) → r < length sets → IsTrue (slice_index_or t.wants.items r false) ↔ AsksIn code (members sets r)
   pub none : t.dead < length sets → length (members sets t.dead) ≡ 0
-  pub begin_with : AreBegins t.next.items t.ends.items t.later t.dead t.begins
+  pub begin_with : IsFilter t.next.items t.ends.items t.later t.dead t.begins
 
 -- the set is, up to order, a row of the new sets, which begin with the old ones
 pub record IsPlaced (old new : List (ℕ × List ℕ)) (set : List ℕ) (row : ℕ) : Type 0 where

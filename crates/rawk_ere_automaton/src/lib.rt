@@ -1,7 +1,6 @@
-//! Trees of extended regular expressions over bytes, what they match, and the automata that find it.
+//! The tables of codes of extended regular expressions over bytes, and the searches by them and by sets of states.
 #![tactic(auto)]
 
-pub mod automaton;
 pub mod progress;
 pub mod search;
 pub mod table;

@@ -8,14 +8,17 @@ ghost use Rattle.std.specs.Option.{ForSome};
 ghost use Rattle.rawk_ere_automaton.specs.Search.{BeginsIn, BeginsNone, EndsFrom, IsFirstBegin, IsProgress, Widens, IsBetween, AreBetween, IsFound, IsFirstOpen, IsOpenStart, MayStart, MayIn, NoneMay, IsOpening, IsOpened};
 
 use crate::progress::{Opening, Progress};
-use crate::table::{Table, first_end_by, run, run_open, skip, skip_open};
+use crate::table::{Table, first_end_by, first_stop, run, run_open, skip, skip_open};
 use crate::walk::{Walked, first_end, may_begin_by, no_states, walk};
 use rawk_ere_tree::code::Code;
 use rawk_ere_tree::set::StateSet;
 use std::alloc::{AllocError, Global};
 
 /// How many bytes a search reads in vain before one pass over the text tells whether there is a way at all.
-const FEW: usize = 32;
+const FEW: usize = 16;
+
+/// For so many bytes that are passed over, one more may be read in vain.
+const PASSED: usize = 4;
 
 /// Walks from a place to the end of the text.
 pub fn longest(
@@ -90,14 +93,29 @@ pub fn first(
     }
 }
 
-/// Looks for a way from place to place, until it has read so many bytes in vain.
+/// The first place from `from` on where a way may begin; the start of the text may differ from later places.
+fn first_place(table: &Table, code: &Code, text: &[u8], from: usize) -> usize
+    requires within { from ≤ length text.now }
+    requires table { IsTable code.now table.now }
+    ensures low { from ≤ result }
+    ensures high { result ≤ length text.now }
+    ensures none { BeginsNone code.now text.now from result }
+{
+    if from == 0 && table.start != table.later {
+        return from;
+    }
+    skip(table, code, text, from)
+}
+
+/// Looks for a way from place to place, until it has read so many bytes in vain, and a share of those that it passed over.
+#[inline(always)]
 fn restart(table: &Table, code: &Code, text: &[u8], from: usize, most: usize) -> Progress
     requires within { from ≤ length text.now }
     requires some { 0 < length text.now }
     requires table { IsTable code.now table.now }
     ensures { IsProgress code.now text.now from result }
 {
-    let mut begin = from;
+    let mut begin = first_place(table, code, text, from);
     let mut left = most;
     while begin < text.len() {
         let ran = run(table, code, text, begin);
@@ -110,7 +128,7 @@ fn restart(table: &Table, code: &Code, text: &[u8], from: usize, most: usize) ->
         if spent >= left {
             return Progress::Paused(next);
         }
-        left -= spent;
+        left = (left - spent).saturating_add((next - begin) / PASSED);
         begin = next;
     }
     Progress::Nothing
@@ -238,6 +256,50 @@ pub fn first_by(
             Ok(found)
         }
     }
+}
+
+/// Whether there is a way at all. It goes from place to place until it has read so much in vain; then one pass over what is left tells.
+pub fn is_found_by(
+    alloc: Global,
+    table: &Table,
+    wide: &Option<Table>,
+    code: &Code,
+    text: &[u8],
+) -> Result<bool, AllocError>
+    requires some { 0 < length text.now }
+    requires table { IsTable code.now table.now }
+    requires wide { ForSome wide.now (IsTable (wide_code code.now)) }
+    requires widens { Widens code.now text.now }
+    ensures { IfOk result (λ b. IsTrue b ↔ BeginsIn code.now text.now 0 (length text.now)) }
+{
+    let mut begin = first_place(table, code, text, 0);
+    let mut left = FEW;
+    while begin < text.len() {
+        let found = first_stop(table, code, text, begin);
+        if found.is_end {
+            return Ok(true);
+        }
+        let next = skip(table, code, text, begin + 1);
+        let spent = found.stop - begin;
+        if spent >= left {
+            let passed = pass(alloc, wide, code, text, next)?;
+            return Ok(passed.is_some());
+        }
+        left = (left - spent).saturating_add((next - begin) / PASSED);
+        begin = next;
+    }
+    let last = first_stop(table, code, text, begin);
+    Ok(last.is_end)
+}
+
+/// The same by a walk of state sets.
+pub fn is_found_by_walk(alloc: Global, code: &Code, text: &[u8]) -> Result<bool, AllocError>
+    ensures { IfOk result (λ b. IsTrue b ↔ BeginsIn code.now text.now 0 (length text.now)) }
+{
+    let mut now = no_states(alloc, code)?;
+    let mut next = no_states(alloc, code)?;
+    let found = first_end(&mut now, &mut next, code, text, 0, text.len());
+    Ok(found.is_some())
 }
 
 /// The first place from `from` to `upto` where a way may begin that reads a byte, of which there is one: it halves what is left.

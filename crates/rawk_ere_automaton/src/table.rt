@@ -5,11 +5,12 @@ ghost use Rattle.rawk_ere_tree.specs.StateSets.{Adds};
 ghost use Rattle.rawk_ere_automaton.specs.Sets.{Closes, IsFarthest, AsksIn, WantsFrom};
 ghost use Rattle.rawk_ere_automaton.specs.Table.{members, Begins, LeadsBy, EndsLast, AreFilled, AreStarts, IsTable, IsPlaced, Extends, AreAlike, AreMarkedAlike, IsTarget};
 ghost use Rattle.rawk_ere_tree.specs.Code.{wide_code};
-ghost use Rattle.rawk_ere_automaton.specs.Search.{EndsFrom, Widens, BeginsNone, NoneMay};
+ghost use Rattle.rawk_ere_automaton.specs.Search.{EndsFrom, Widens, Way, BeginsNone, NoneMay};
 ghost use Rattle.std.specs.Option.{ForSome};
 
 use crate::walk::{asks_in, close, has_end, no_states, read, reads_from};
-use rawk_ere_tree::begins::{FirstBytes, find_begins, seek};
+use rawk_ere_begins::filter::{Filter, find_filter};
+use rawk_ere_begins::seek::{LONG, seek};
 use rawk_ere_tree::code::Code;
 use rawk_ere_tree::set::StateSet;
 use std::alloc::{AllocError, Global};
@@ -31,8 +32,8 @@ pub struct Table {
     pub later: usize,
     /// The row without states; no row, if each has some.
     pub dead: usize,
-    /// The bytes that lead from the later row to another than the dead one.
-    pub begins: FirstBytes,
+    /// The bytes that lead from the later row to another than the dead one, and those that lead on from there.
+    pub begins: Filter,
 }
 
 /// What a walk by a table found.
@@ -40,6 +41,15 @@ pub struct Table {
 pub struct Ran {
     /// The end of the longest way through the code.
     pub longest: Option<usize>,
+    /// Where the walk stopped.
+    pub stop: usize,
+}
+
+/// Where a walk by a table came to the end of a way, or to where none is possible.
+#[derive(Clone, Copy)]
+pub struct Stopped {
+    /// Whether a way ends there.
+    pub is_end: bool,
     /// Where the walk stopped.
     pub stop: usize,
 }
@@ -88,7 +98,38 @@ pub fn run(table: &Table, code: &Code, text: &[u8], from: usize) -> Ran
     }
 }
 
-/// The same in a text that may go on, so that `$` does not hold at its end.
+/// Walks from a place to the first end of a way.
+pub fn first_stop(table: &Table, code: &Code, text: &[u8], from: usize) -> Stopped
+    requires within { from ≤ length text.now }
+    requires some { 0 < length text.now }
+    requires table { IsTable code.now table.now }
+    ensures way { IsTrue result.is_end ↔ (j : ℕ) × Way code.now text.now true from j }
+    ensures low { from ≤ result.stop }
+    ensures high { result.stop ≤ length text.now }
+{
+    let mut row = if from == 0 { table.start } else { table.later };
+    for at in from..text.len() {
+        if table.ends[row] {
+            return Stopped {
+                is_end: true,
+                stop: at,
+            };
+        }
+        if row == table.dead {
+            return Stopped {
+                is_end: false,
+                stop: at,
+            };
+        }
+        row = table.next[row * 256 + text[at] as usize] as usize;
+    }
+    Stopped {
+        is_end: table.last_ends[row],
+        stop: text.len(),
+    }
+}
+
+/// The same as `run` in a text that may go on, so that `$` does not hold at its end.
 pub fn run_open(table: &Table, code: &Code, text: &[u8], from: usize) -> OpenRan
     requires within { from ≤ length text.now }
     requires table { IsTable code.now table.now }
@@ -140,49 +181,74 @@ pub fn first_end_by(wide: &Table, code: &Code, text: &[u8], from: usize) -> Opti
     }
 }
 
-/// The first place from `from` on whose byte leads on from the row `later`; the end of the text, if there is none.
-fn pass_dead(table: &Table, text: &[u8], from: usize) -> usize
-    requires within { from ≤ length text.now }
-    requires row { table.now.later * 256 + 256 ≤ length table.now.next.items }
+/// Up to where places are looked at one by one: the next one, and in a text that is not long all of them, but none where no way
+/// reads a byte.
+fn near(table: &Table, text: &[u8], from: usize) -> usize
+    requires { from ≤ length text.now }
     ensures low { from ≤ result }
     ensures high { result ≤ length text.now }
+{
+    if table.begins.is_empty {
+        return from;
+    }
+    if text.len() < LONG || from == text.len() {
+        return text.len();
+    }
+    from + 1
+}
+
+/// The first place from `from` to `upto` whose byte leads on from the row `later`; `upto`, if there is none before it.
+fn pass_dead(table: &Table, text: &[u8], from: usize, upto: usize) -> usize
+    requires within { from ≤ upto }
+    requires upto { upto ≤ length text.now }
+    requires row { table.now.later * 256 + 256 ≤ length table.now.next.items }
+    ensures low { from ≤ result }
+    ensures high { result ≤ upto }
     ensures dead { (k : ℕ) → from ≤ k → k < result → slice_index table.now.next.items (table.now.later * 256 + slice_index text.now k) ≡ table.now.dead }
 {
-    for at in from..text.len() {
+    for at in from..upto {
         if table.next[table.later * 256 + text[at] as usize] as usize != table.dead {
             return at;
         }
     }
-    text.len()
+    upto
 }
 
 /// The first place from `from` on where a way may begin that reads a byte, or that reads none; the end of the text, if none is left.
 pub fn skip(table: &Table, code: &Code, text: &[u8], from: usize) -> usize
-    requires begun { 0 < from }
+    requires begun { (0 < from) ⊎ (table.now.start ≡ table.now.later) }
     requires within { from ≤ length text.now }
     requires table { IsTable code.now table.now }
     ensures low { from ≤ result }
     ensures high { result ≤ length text.now }
     ensures none { BeginsNone code.now text.now from result }
 {
-    let first = from + seek(table.begins, &text[from..]);
     if table.ends[table.later] {
+        return from;
+    }
+    let upto = near(table, text, from);
+    let first = pass_dead(table, text, from, upto);
+    if first < upto {
         return first;
     }
-    pass_dead(table, text, first)
+    seek(&table.begins, text, upto)
 }
 
 /// The first place from `from` on where a way may begin that reads a byte; the end of the text, if none is left.
 pub fn skip_open(table: &Table, code: &Code, text: &[u8], from: usize) -> usize
-    requires begun { 0 < from }
+    requires begun { (0 < from) ⊎ (table.now.start ≡ table.now.later) }
     requires within { from ≤ length text.now }
     requires table { IsTable code.now table.now }
     ensures low { from ≤ result }
     ensures high { result ≤ length text.now }
     ensures none { NoneMay code.now text.now from result }
 {
-    let first = from + seek(table.begins, &text[from..]);
-    pass_dead(table, text, first)
+    let upto = near(table, text, from);
+    let first = pass_dead(table, text, from, upto);
+    if first < upto {
+        return first;
+    }
+    seek(&table.begins, text, upto)
 }
 
 /// The table of the code, if it has fewer than `most` rows.
@@ -231,7 +297,7 @@ fn finish(
     match packed {
         None => Ok(None),
         Some(next) => {
-            let begins = find_begins(&next, &ends, later, dead);
+            let begins = find_filter(&next, &ends, later, dead);
             Ok(Some(Table {
                 next,
                 ends,

@@ -40,6 +40,10 @@ abbrev pub IsLongest : List ℕ → Tree → ℕ → Option ℕ → Type 0
 IsLongest s e i None = (j : ℕ) → Ends true s e i j → ⊥
 IsLongest s e i (Some j) = Ends true s e i j × ((k : ℕ) → Ends true s e i k → k ≤ j)
 
+-- the text has a match
+abbrev pub HasMatch : List ℕ → Tree → Type 0
+HasMatch s e = (i : ℕ) × (j : ℕ) × (i ≤ length s) × Ends true s e i j
+
 -- the leftmost match from p on, and the longest there
 abbrev pub IsMatch : List ℕ → Tree → ℕ → Option (ℕ × ℕ) → Type 0
 IsMatch s e p None = (i j : ℕ) → p ≤ i → i ≤ length s → Ends true s e i j → ⊥

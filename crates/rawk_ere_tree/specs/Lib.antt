@@ -10,4 +10,3 @@ pub mod Longer
 pub mod Code
 pub mod Kept
 pub mod StateSets
-pub mod Begins

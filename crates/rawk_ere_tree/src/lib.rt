@@ -1,7 +1,6 @@
 //! Trees of extended regular expressions over bytes, what they match, and the instructions of their automata.
 #![tactic(auto)]
 
-pub mod begins;
 pub mod byte_set;
 pub mod code;
 pub mod emit;

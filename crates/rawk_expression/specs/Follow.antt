@@ -49,6 +49,26 @@ stops k.Or = true
 stops k.Question = true
 stops _ = false
 
+-- what may stand behind the operands of `||`, of `&&`, and behind an operand of `&&`
+abbrev pub asks : Kind → Bool
+asks k.Question = true
+asks c = ends c
+
+abbrev pub ors : Kind → Bool
+ors k.Or = true
+ors c = asks c
+
+abbrev pub ands : Kind → Bool
+ands k.And = true
+ands c = ors c
+
+-- what may stand behind a test of the level; one that ends in an assignment ends the expression
+abbrev pub behind : Bool → ℕ → Kind → Bool
+behind true n c = ends c
+behind false zero c = ands c
+behind false (suc zero) c = ors c
+behind false (suc (suc n)) c = asks c
+
 -- what begins an operand
 abbrev pub starts : Kind → Bool
 starts k.Name = true
@@ -76,6 +96,40 @@ pub ends_stops : (c : Kind) → ends c ≡ true → stops c ≡ true
 ends_stops k.EndOfText h = refl
 ends_stops _ h = cc
 
+ends_asks : (c : Kind) → ends c ≡ true → asks c ≡ true
+ends_asks k.Question h = refl
+ends_asks _ h = h
+
+asks_ors : (c : Kind) → asks c ≡ true → ors c ≡ true
+asks_ors k.Or h = refl
+asks_ors _ h = h
+
+ors_ands : (c : Kind) → ors c ≡ true → ands c ≡ true
+ors_ands k.And h = refl
+ors_ands _ h = h
+
+ands_stops : (c : Kind) → ands c ≡ true → stops c ≡ true
+ands_stops k.EndOfText h = refl
+ands_stops _ h = cc
+
+pub ends_behind : (b : Bool) (n : ℕ) (c : Kind) → ends c ≡ true → behind b n c ≡ true
+ends_behind true n c h = h
+ends_behind false zero c h = ors_ands c (asks_ors c (ends_asks c h))
+ends_behind false (suc zero) c h = asks_ors c (ends_asks c h)
+ends_behind false (suc (suc n)) c h = ends_asks c h
+
+pub less_behind : (b : Bool) (n : ℕ) (c : Kind) → behind b (suc n) c ≡ true → behind b n c ≡ true
+less_behind true n c h = h
+less_behind false zero c h = ors_ands c h
+less_behind false (suc zero) c h = asks_ors c h
+less_behind false (suc (suc n)) c h = h
+
+pub behind_stops : (b : Bool) (n : ℕ) (c : Kind) → behind b n c ≡ true → stops c ≡ true
+behind_stops true n c h = ends_stops c h
+behind_stops false zero c h = ands_stops c h
+behind_stops false (suc zero) c h = ands_stops c (ors_ands c h)
+behind_stops false (suc (suc n)) c h = ands_stops c (ors_ands c (asks_ors c h))
+
 pub place_starts : (c : Kind) → table.begins_place c ≡ true → starts c ≡ true
 place_starts k.Name h = refl
 place_starts _ h = cc
@@ -83,10 +137,6 @@ place_starts _ h = cc
 pub starts_sign : (c : Kind) → starts c ≡ true → table.sign c ≡ None
 starts_sign k.Name h = refl
 starts_sign _ h = cc
-
-pub starts_change : (c : Kind) → starts c ≡ true → table.change c ≡ None
-starts_change k.Name h = refl
-starts_change _ h = cc
 
 pub stops_operator : (c : Kind) → stops c ≡ true → table.operator c ≡ None
 stops_operator k.EndOfText h = refl
@@ -96,10 +146,6 @@ pub stops_begins : (c : Kind) → stops c ≡ true → table.begins_joined c ≡
 stops_begins k.EndOfText h = refl
 stops_begins _ h = cc
 
-pub stops_change : (c : Kind) → stops c ≡ true → table.change c ≡ None
-stops_change k.EndOfText h = refl
-stops_change _ h = cc
-
 pub stops_assignment : (c : Kind) → stops c ≡ true → table.assignment c ≡ None
 stops_assignment k.EndOfText h = refl
 stops_assignment _ h = cc
@@ -107,10 +153,6 @@ stops_assignment _ h = cc
 pub operator_begins : (c : Kind) (o : Operator) → table.operator c ≡ Some o → table.begins_joined c ≡ false
 operator_begins k.Star o h = refl
 operator_begins _ o h = cc
-
-pub operator_change : (c : Kind) (o : Operator) → table.operator c ≡ Some o → table.change c ≡ None
-operator_change k.Star o h = refl
-operator_change _ o h = cc
 
 pub operator_assignment : (c : Kind) (o : Operator) → table.operator c ≡ Some o → table.assignment c ≡ None
 operator_assignment k.Star o h = refl
@@ -120,9 +162,9 @@ pub begins_operator : (c : Kind) → table.begins_joined c ≡ true → table.op
 begins_operator k.Name h = refl
 begins_operator _ h = cc
 
-pub starts_assignment : (c : Kind) → starts c ≡ true → table.begins_joined c ≡ true → table.assignment c ≡ None
-starts_assignment k.Name h g = refl
-starts_assignment _ h g = cc
+pub begins_assignment : (c : Kind) → table.begins_joined c ≡ true → table.assignment c ≡ None
+begins_assignment k.Name h = refl
+begins_assignment _ h = cc
 
 pub change_assignment : (c : Kind) (how : Change) → table.change c ≡ Some how → table.assignment c ≡ None
 change_assignment k.Increment how h = refl
@@ -135,6 +177,25 @@ no_concat _ h = cc
 -- a test that a kind passes tells it from one that does not
 pub apart : (f : Kind → Bool) (a b : Kind) → f a ≡ true → f b ≡ false → a ≢ b
 apart f a b h g e = let c : f a ≡ f b = ap f e in cc
+
+pub behind_not_in : (b : Bool) (n : ℕ) (c : Kind) → behind b n c ≡ true → c ≢ k.In
+behind_not_in true n c h = apart ends c k.In h refl
+behind_not_in false zero c h = apart ands c k.In h refl
+behind_not_in false (suc zero) c h = apart ors c k.In h refl
+behind_not_in false (suc (suc n)) c h = apart asks c k.In h refl
+
+-- `&&` and `||` stand behind operands of their level, and not behind what they join
+pub mark_behind : (n : ℕ) → n ≤ 1 → behind false n (table.mark (suc n)) ≡ true
+mark_behind zero le = refl
+mark_behind (suc zero) le = refl
+mark_behind (suc (suc n)) le = absurd (omega arith)
+
+pub behind_not_mark : (b : Bool) (n : ℕ) (c : Kind) → n ≤ 1 → behind b (suc n) c ≡ true → c ≢ table.mark (suc n)
+behind_not_mark true zero c le h = apart ends c k.And h refl
+behind_not_mark true (suc zero) c le h = apart ends c k.Or h refl
+behind_not_mark false zero c le h = apart ors c k.And h refl
+behind_not_mark false (suc zero) c le h = apart asks c k.Or h refl
+behind_not_mark b (suc (suc n)) c le h = absurd (omega arith)
 
 -- ---- steps
 
@@ -258,58 +319,42 @@ pub past_symbol : (o : Operator) (i : Input) → (o ≡ op.Concat → ⊥) → x
 past_symbol op.Concat i h = absurd (h refl)
 past_symbol _ i h = refl
 
--- a token behind which a place is no more than it is
+-- a token that goes on with no operand, but for `++` and `--` behind a place
 pub record Calm (j : Input) : Type 0 where
   pub no_bracket : kind j ≢ k.LeftBracket
-  pub no_change : table.change (kind j) ≡ None
   pub no_assignment : table.assignment (kind j) ≡ None
+  pub no_caret : kind j ≢ k.Caret
 
 pub stops_calm : (j : Input) → stops (kind j) ≡ true → Calm j
-stops_calm j h = record { no_bracket = apart stops (kind j) k.LeftBracket h refl; no_change = stops_change (kind j) h; no_assignment = stops_assignment (kind j) h }
+stops_calm j h = record { no_bracket = apart stops (kind j) k.LeftBracket h refl; no_assignment = stops_assignment (kind j) h; no_caret = apart stops (kind j) k.Caret h refl }
 
--- what the parser sees at the operator of a plain expression
+-- what the parser sees at an operator
 pub record Seen (p : Bool) (n : ℕ) (o : Operator) (j l : Input) : Type 0 where
   pub found : table.joins p n (kind j) ≡ Some o
   pub other : (m : ℕ) → m ≢ n → table.joins p m (kind j) ≡ None
   pub past : x.past (table.is_concat o) j ≡ l
   pub calm : Calm j
-  pub no_caret : kind j ≢ k.Caret
   pub no_end : kind j ≢ k.EndOfText
 
 pub symbol_not : (c b : Kind) (o : Operator) → table.operator c ≡ Some o → table.operator b ≡ None → c ≢ b
 symbol_not c b o h g e = let f : table.operator c ≡ table.operator b = ap table.operator e in cc
 
-pub join_seen : (p : Bool) (n : ℕ) (o : Operator) (j l : Input) → starts (kind l) ≡ true → Joins p n o j l → Seen p n o j l
-join_seen p n o j l s (symbol {c = c} sp jo calm) =
+pub join_seen : (p : Bool) (n : ℕ) (o : Operator) (j l : Input) → Joins p n o j l → Seen p n o j l
+join_seen p n o j l (symbol {c = c} sp jo calm) =
     let at : table.operator (kind j) ≡ Some o = ap table.operator sp.is_kind ∙ jo in
     record {
       found = symbol_found p (kind j) o at calm;
       other = symbol_other p (kind j) o at;
       past = past_symbol o j (λ q. no_concat (kind j) (at ∙ ap Some q)) ∙ sp.is_next;
-      calm = record { no_bracket = symbol_not (kind j) k.LeftBracket o at refl; no_change = operator_change (kind j) o at; no_assignment = operator_assignment (kind j) o at };
-      no_caret = symbol_not (kind j) k.Caret o at refl;
+      calm = record { no_bracket = symbol_not (kind j) k.LeftBracket o at refl; no_assignment = operator_assignment (kind j) o at; no_caret = symbol_not (kind j) k.Caret o at refl };
       no_end = symbol_not (kind j) k.EndOfText o at refl;
     }
-join_seen p n o j l s (beside {c = c} sp b) =
+join_seen p n o j l (beside {c = c} sp b) =
     let at : table.begins_joined (kind j) ≡ true = ap table.begins_joined sp.is_kind ∙ b in
     record {
       found = beside_found p (kind j) at;
       other = beside_other p (kind j) at;
       past = refl;
-      calm = record { no_bracket = apart starts (kind j) k.LeftBracket s refl; no_change = starts_change (kind j) s; no_assignment = starts_assignment (kind j) s at };
-      no_caret = apart starts (kind j) k.Caret s refl;
-      no_end = apart starts (kind j) k.EndOfText s refl;
+      calm = record { no_bracket = apart table.begins_joined (kind j) k.LeftBracket at refl; no_assignment = begins_assignment (kind j) at; no_caret = apart table.begins_joined (kind j) k.Caret at refl };
+      no_end = apart table.begins_joined (kind j) k.EndOfText at refl;
     }
-
-pub binds_small : (o : Operator) → table.binds o ≤ 5
-binds_small (op.Arithmetic arithmetic.Add) = omega arith
-binds_small (op.Arithmetic arithmetic.Sub) = omega arith
-binds_small (op.Arithmetic _) = omega arith
-binds_small op.Concat = omega arith
-binds_small (op.Comparison _) = omega arith
-binds_small op.Match = omega arith
-binds_small op.NotMatch = omega arith
-
-pub joins_small : (p : Bool) (n : ℕ) (o : Operator) (i j : Input) → Joins p n o i j → n ≤ 5
-joins_small p n o i j (symbol a b c) = binds_small o
-joins_small p n o i j (beside a b) = omega arith

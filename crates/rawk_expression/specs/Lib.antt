@@ -3,8 +3,9 @@ pub mod Nests
 pub mod Grammar
 pub mod Under
 pub mod Sound
-pub mod Plain
 pub mod Follow
-pub mod Upward
 pub mod Fronts
+pub mod Upward
+pub mod Operands
 pub mod Complete
+pub mod Depths

@@ -96,15 +96,8 @@ slots_pushed {T} s t v e = sym (oldest_first t) ∙ (ap (λ (xs : List T). rever
 pub length_values : {T : Type 0} (s : Stacked T) → length (live_values s) ≡ length (live_slots s)
 length_values s = length-reverse (live_slots s)
 
-pub frames_kept : (frames : Journaled (Stacked Activation)) (locals new : Journaled (Stacked Local)) → AreFrames frames locals → length (live_slots locals.now) ≤ length (live_slots new.now) → GrownStack locals.start new.start → AreFrames frames new
-frames_kept frames locals new h le g = record {
-  now = nested_more (live_values frames.now) (length (live_slots locals.now)) (length (live_slots new.now)) le h.now;
-  start =
-      let same : live_slots new.start ≡ live_slots locals.start = sym (oldest_first new.start) ∙ (ap (λ (xs : List Local). reverse xs) (live_values-grown locals.start new.start g h.locals_live) ∙ oldest_first locals.start) in
-      rw same h.start;
-  frames_live = h.frames_live;
-  locals_live = IsLive-grown locals.start new.start g h.locals_live;
-}
+pub frames_kept : (frames : Journaled (Stacked Activation)) (locals new : Journaled (Stacked Local)) → AreFrames frames locals → length (live_slots locals.now) ≤ length (live_slots new.now) → AreFrames frames new
+frames_kept frames locals new h le = record { now = nested_more (live_values frames.now) (length (live_slots locals.now)) (length (live_slots new.now)) le h.now }
 
 -- the newest activation, and what is left without it
 pub left_frame : (as1 older : List Activation) (ls rest : List Local) (a : Activation) → Some a ≡ slice_get as1 0 → older ≡ drop 1 as1 → rest ≡ take a.base ls → (f : Frame) × (frames_from as1 ls ≡ f ∷ frames_from older rest) × IsOf a f
@@ -116,6 +109,3 @@ left_frame (x ∷ xs) older ls rest a e d r =
           (ap (λ (y : Activation). frames_from xs (take y.base ls)) (sym same) ∙ (ap (λ (ys : List Activation). frames_from ys (take a.base ls)) (sym d) ∙ ap (λ (ys : List Local). frames_from older ys) (sym r))),
       record { function = ap (λ (y : Activation). y.function) (sym same); arrays_before = ap (λ (y : Activation). y.arrays_before) (sym same); called_at = ap (λ (y : Activation). y.called_at) (sym same); site = ap (λ (y : Activation). y.site) (sym same) },
     )
-
-pub frames_rest : (frames : Stacked Activation) (locals : Stacked Local) → IsNested (live_values frames) (length (live_slots locals)) → IsLive frames → IsLive locals → AreFrames (at_rest frames) (at_rest locals)
-frames_rest frames locals n f l = record { now = n; start = n; frames_live = f; locals_live = l }

@@ -33,12 +33,9 @@ IsNested (a ∷ older) n = (a.base ≤ n) × IsNested older a.base
 abbrev pub AreNested : LaidFrames → Type 0
 AreNested l = IsNested (live_values l.frames) (length (live_slots l.locals))
 
--- the activations are nested, now and when the step began
+-- the activations are nested
 pub record AreFrames (frames : Journaled (Stacked Activation)) (locals : Journaled (Stacked Local)) : Type 0 where
   pub now : IsNested (live_values frames.now) (length (live_slots locals.now))
-  pub start : IsNested (live_values frames.start) (length (live_slots locals.start))
-  pub frames_live : IsLive frames.start
-  pub locals_live : IsLive locals.start
 
 -- the live lengths are within the slots
 pub record AreFramesLive (l : LaidFrames) : Type 0 where

@@ -114,17 +114,21 @@ impl Frames {
     }
 
     /// Writes a local of the newest activation; a number that is none changes nothing. It fails where memory is refused, and then nothing has changed.
-    pub fn set_local(&mut self, number: usize, local: Local) -> Result<(), AllocError>
+    pub fn set_local<const SAVES: bool>(
+        &mut self,
+        number: usize,
+        local: Local,
+    ) -> Result<(), AllocError>
         ensures did { OnOk result (frames_of self.new.now ≡ with_local number local (frames_of self.old.now)) }
         ensures returns { returns_of self.new.now ≡ returns_of self.old.now }
-        ensures start { self.new.start ≡ self.old.start }
+        ensures start { OnTrue SAVES (self.new.start ≡ self.old.start) }
         ensures err { OnErr result (self.new.now ≡ self.old.now) }
     {
-        set_local_of(&self.frames, &mut self.locals, number, local)
+        set_local_of::<SAVES>(&self.frames, &mut self.locals, number, local)
     }
 
     /// Adds an activation with no locals. It fails where memory is refused.
-    pub fn enter(
+    pub fn enter<const SAVES: bool>(
         &mut self,
         function: usize,
         arrays_before: usize,
@@ -134,10 +138,10 @@ impl Frames {
     ) -> Result<(), AllocError>
         ensures did { OnOk result (frames_of self.new.now ≡ new_frame function arrays_before called_at site ∷ frames_of self.old.now) }
         ensures returns { OnOk result (returns_of self.new.now ≡ return_to ∷ returns_of self.old.now) }
-        ensures start { GrownFrames self.old.start self.new.start }
+        ensures start { OnTrue SAVES (GrownFrames self.old.start self.new.start) }
     {
         let base = self.locals.len();
-        self.frames.push(Activation {
+        self.frames.push::<SAVES>(Activation {
             function,
             base,
             arrays_before,
@@ -148,12 +152,12 @@ impl Frames {
     }
 
     /// Adds a local to the newest activation. It fails where memory is refused.
-    pub fn add_local(&mut self, local: Local) -> Result<(), AllocError>
+    pub fn add_local<const SAVES: bool>(&mut self, local: Local) -> Result<(), AllocError>
         ensures did { OnOk result (frames_of self.new.now ≡ with_more local (frames_of self.old.now)) }
         ensures returns { OnOk result (returns_of self.new.now ≡ returns_of self.old.now) }
-        ensures start { GrownFrames self.old.start self.new.start }
+        ensures start { OnTrue SAVES (GrownFrames self.old.start self.new.start) }
     {
-        self.locals.push(local)?;
+        self.locals.push::<SAVES>(local)?;
         Ok(())
     }
 
@@ -182,6 +186,7 @@ impl Frames {
 
     /// Ends the step, and gives what it changed. It takes no memory.
     pub fn finish(&mut self, alloc: Global) -> FramesGroup
+        requires nested { AreNested self.old.start }
         ensures now { self.new ≡ at_rest self.old.now }
         ensures back { frames_back self.old.now result ≡ self.old.start }
         ensures fits { FitsFrames result self.old.now }
@@ -224,6 +229,7 @@ impl Frames {
 
     /// Puts back what the step in progress changed. It takes no memory and always succeeds.
     pub fn undo_step(&mut self)
+        requires nested { AreNested self.old.start }
         ensures now { self.new ≡ at_rest self.old.start }
         ensures nested { AreNested self.old.start }
         ensures live { AreFramesLive self.old.start }
@@ -237,6 +243,7 @@ impl Frames {
         requires { FitsFrames group.old self.old.now }
         ensures now { self.new ≡ at_rest (frames_back self.old.now group.old) }
         ensures newer { frames_back self.new.now group.new ≡ self.old.now }
+        ensures nested { AreNested self.new.now }
         ensures live { AreFramesLive self.new.now }
     {
         self.frames.undo(&mut group.frames);
@@ -255,9 +262,9 @@ impl Frames {
                 called_at,
                 site,
                 return_to,
-            } => self.enter(function, arrays_before, called_at, site, return_to),
-            FramesChange::AddLocal(local) => self.add_local(local),
-            FramesChange::SetLocal { number, local } => self.set_local(number, local),
+            } => self.enter::<true>(function, arrays_before, called_at, site, return_to),
+            FramesChange::AddLocal(local) => self.add_local::<true>(local),
+            FramesChange::SetLocal { number, local } => self.set_local::<true>(number, local),
             FramesChange::Leave => {
                 let _left = self.leave();
                 Ok(())
@@ -369,19 +376,19 @@ fn local_of<'a>(
 }
 
 /// Writes a local of the newest activation.
-fn set_local_of(
+fn set_local_of<const SAVES: bool>(
     frames: &Stack<Activation>,
     locals: &mut Stack<Local>,
     number: usize,
     local: Local,
 ) -> Result<(), AllocError>
     ensures did { OnOk result (frames_from (live_values frames.now.now) (live_slots locals.new.now) ≡ with_local number local (frames_from (live_values frames.now.now) (live_slots locals.old.now))) }
-    ensures start { locals.new.start ≡ locals.old.start }
+    ensures start { OnTrue SAVES (locals.new.start ≡ locals.old.start) }
     ensures err { OnErr result (locals.new.now ≡ locals.old.now) }
     ensures size { length (live_slots locals.new.now) ≡ length (live_slots locals.old.now) }
 {
     match place_of(frames, locals, number) {
-        Some(place) => locals.set_oldest(place, local)?,
+        Some(place) => locals.set_oldest::<SAVES>(place, local)?,
         None => {}
     }
     Ok(())

@@ -68,12 +68,12 @@ impl KeysLeft {
     }
 
     /// Begins a loop over these keys. It fails where memory is refused.
-    pub fn begin(&mut self, keys: Vec<Vec<u8>>) -> Result<(), AllocError>
+    pub fn begin<const SAVES: bool>(&mut self, keys: Vec<Vec<u8>>) -> Result<(), AllocError>
         ensures did { OnOk result (keys_of self.new.now ≡ texts keys.items ∷ keys_of self.old.now) }
-        ensures start { GrownKeys self.old.start self.new.start }
+        ensures start { OnTrue SAVES (GrownKeys self.old.start self.new.start) }
     {
-        self.visited.push(0)?;
-        self.lists.push(keys)
+        self.visited.push::<SAVES>(0)?;
+        self.lists.push::<SAVES>(keys)
     }
 
     /// The next key of the innermost loop, if one is left.
@@ -84,11 +84,11 @@ impl KeysLeft {
     }
 
     /// The next key of the innermost loop is visited. It fails where memory is refused, and then nothing has changed.
-    pub fn advance(&mut self) -> Result<(), AllocError>
+    pub fn advance<const SAVES: bool>(&mut self) -> Result<(), AllocError>
         ensures did { OnOk result (keys_of self.new.now ≡ without_first (keys_of self.old.now)) }
-        ensures start { self.new.start ≡ self.old.start }
+        ensures start { OnTrue SAVES (self.new.start ≡ self.old.start) }
     {
-        advance_of(&self.lists, &mut self.visited)
+        advance_of::<SAVES>(&self.lists, &mut self.visited)
     }
 
     /// Ends the innermost loops, so many.
@@ -174,8 +174,8 @@ impl KeysLeft {
         ensures start { GrownKeys self.old.start self.new.start }
     {
         match change {
-            KeysChange::Begin(keys) => self.begin(keys),
-            KeysChange::Advance => self.advance(),
+            KeysChange::Begin(keys) => self.begin::<true>(keys),
+            KeysChange::Advance => self.advance::<true>(),
             KeysChange::End(count) => {
                 self.end(count);
                 Ok(())
@@ -257,9 +257,12 @@ fn key_of(list: &Vec<Vec<u8>>, number: usize) -> Option<&[u8]>
 }
 
 /// One more key of the innermost loop is visited.
-fn advance_of(lists: &Stack<Vec<Vec<u8>>>, visited: &mut Stack<usize>) -> Result<(), AllocError>
+fn advance_of<const SAVES: bool>(
+    lists: &Stack<Vec<Vec<u8>>>,
+    visited: &mut Stack<usize>,
+) -> Result<(), AllocError>
     ensures did { OnOk result (left_lists (live_values visited.new.now) (live_values lists.now.now) ≡ without_first (left_lists (live_values visited.old.now) (live_values lists.now.now))) }
-    ensures start { visited.new.start ≡ visited.old.start }
+    ensures start { OnTrue SAVES (visited.new.start ≡ visited.old.start) }
 {
     let next = match visited.newest(0) {
         Some(count) => *count,
@@ -270,7 +273,7 @@ fn advance_of(lists: &Stack<Vec<Vec<u8>>>, visited: &mut Stack<usize>) -> Result
         None => return Ok(()),
     };
     if next < length {
-        visited.set_newest(next + 1)?;
+        visited.set_newest::<SAVES>(next + 1)?;
     }
     Ok(())
 }

@@ -1,5 +1,5 @@
--- The parser of statements reads all that is derived by plain rules.
-use Rattle.std.proofs.Common.{◌≡◌, ◌≢◌, ℕ, zero, suc, ◌<◌, ◌≤◌, Bool, true, false, cond, ◌==◌, inl, inr, List, [], ◌∷◌, ◌++◌, Option, Some, None, Ok, refl, sym, ap, ◌∙◌, append_assoc, append-nil, arith}
+-- The parser of statements reads all that is derived.
+use Rattle.std.proofs.Common.{◌≡◌, ◌≢◌, ℕ, zero, suc, ◌<◌, ◌≤◌, Bool, true, false, cond, ◌==◌, List, [], ◌∷◌, ◌++◌, Option, Some, None, Ok, refl, sym, ap, ◌∙◌, append_assoc, append-nil, arith}
 use Rattle.rawk_lexer.specs.declared.token.Kind.{Kind}
 use Rattle.rawk_lexer.specs.declared.token.Kind.TheVariants as k
 use Rattle.rawk_lexer.specs.Lex.{kind, next, spelling, left}
@@ -9,11 +9,12 @@ use Rattle.rawk_parsing.specs.declared.tree.Expr.TheVariants as expr
 use Rattle.rawk_parsing.specs.declared.tree.Place.{Place}
 use Rattle.rawk_parsing.specs.declared.tree.Place.TheVariants as spot
 use Rattle.rawk_parsing.specs.Parser.{Input, Outcome, Parser, and_then, ◌>>=◌, pure, too_deep, expect, sees, newlines, name_at, name}
+use Rattle.rawk_expression.specs.Expression as parser
 use Rattle.rawk_expression.specs.Expression.{expression, lone_place, printed}
+use Rattle.rawk_parsing.specs.Tables.{change}
 use Rattle.rawk_parsing.specs.Tokens as token
 use Rattle.rawk_parsing.specs.Tokens.{Spells, Newlines}
-use Rattle.rawk_expression.specs.Grammar.{Whole}
-use Rattle.rawk_expression.specs.Plain.{Plain, contains, of_place, named}
+use Rattle.rawk_expression.specs.Grammar.{Whole, Level, Derives, test as is_test, lone, contains, operated, chain, no_more, tight, unsigned, base, bare, named}
 use Rattle.rawk_parsing.specs.Steps.{done, sees_kind, spells}
 use Rattle.rawk_grammar.specs.declared.context.Context.{Context}
 use Rattle.rawk_grammar.specs.declared.tree.Act.{Act}
@@ -28,11 +29,11 @@ use Rattle.rawk_grammar.specs.declared.tree.Stmt.TheVariants as tree
 use Rattle.rawk_grammar.specs.Context.{looped, allows}
 use Rattle.rawk_grammar.specs.Statement.{branch_of, simple_at, condition_at, head_of}
 use Rattle.rawk_grammar.specs.Statement as x
-use Rattle.rawk_grammar.specs.Grammar.{Phrase, One, Many, Action, Chain}
-use Rattle.rawk_grammar.specs.Plain.{Separator, PlainActs, evaluate, print_record, print, printf, delete, PlainJumps, next_record, break_loop, continue_loop, exit, exit_with, return, return_with, PlainEncloses, parentheses, PlainSimply, no_part, part, PlainTests, no_test, test, PlainHeads, head, PlainStates, empty, simple, jump, none, more, action, block, choice, last, otherwise, else_if, while_loop, do_loop, count_loop, member_loop, last_simple, last_jump}
+use Rattle.rawk_grammar.specs.Grammar.{Ends, semicolon, newline, brace, Acts, evaluate, print_record, print, printf, delete, Jumps, next_record, break_loop, continue_loop, exit, exit_with, return, return_with, Encloses, parentheses, Simply, no_part, part, Tests, no_test, test, Heads, head, Phrase, One, Many, Action, Chain, States, empty, simple, jump, none, more, action, block, choice, last, otherwise, else_if, while_loop, do_loop, count_loop, member_loop}
 use Rattle.rawk_expression.specs.Follow.{ends, apart, not_seen, seen, expect_is, by_kind, newlines_exact}
 use Rattle.rawk_expression.specs.Fronts.{begins as starts_expression, spells_shrink, shrinks, newlines_shrink, fronts}
 use Rattle.rawk_expression.specs.Complete.{whole_complete, place_complete, printed_complete}
+use Rattle.rawk_grammar.proofs.NoElse.{unseen}
 use Rattle.rawk_grammar.proofs.Steps.{both, not_zero, go_on, on_true, on_false, eats, leaves, all_true}
 
 abbrev begins_act : Kind → Bool
@@ -75,18 +76,21 @@ begins c = begins_act c
 
 -- ---- ends
 
-end_is : (i j : Input) → Separator i j → x.end i ≡ Ok (tt, j)
+end_is : (i j : Input) → Ends i j → x.end i ≡ Ok (tt, j)
 unfolding x.end
-end_is i j (w, inl s) = by_kind x.end_by k.Semicolon i s.is_kind ∙ ap (λ m. done tt m) s.is_next
-end_is i j (w, inr s) = by_kind x.end_by k.Newline i s.is_kind ∙ ap (λ m. done tt m) s.is_next
+end_is i j (semicolon s) = by_kind x.end_by k.Semicolon i s.is_kind ∙ ap (λ m. done tt m) s.is_next
+end_is i j (newline s) = by_kind x.end_by k.Newline i s.is_kind ∙ ap (λ m. done tt m) s.is_next
+end_is i j (brace e) = by_kind x.end_by k.RightBrace i e
 
-separator_closes : (i j : Input) → Separator i j → x.closes (kind i) ≡ true
-separator_closes i j (w, inl s) = ap x.closes s.is_kind
-separator_closes i j (w, inr s) = ap x.closes s.is_kind
+ends_closes : (i j : Input) → Ends i j → x.closes (kind i) ≡ true
+ends_closes i j (semicolon s) = ap x.closes s.is_kind
+ends_closes i j (newline s) = ap x.closes s.is_kind
+ends_closes i j (brace e) = ap x.closes e
 
-pub separator_less : (i j : Input) → Separator i j → left j < left i
-separator_less i j (w, inl s) = spells_shrink k.Semicolon w i j (λ q. cc) s
-separator_less i j (w, inr s) = spells_shrink k.Newline w i j (λ q. cc) s
+ends_less : (i j : Input) → Ends i j → left j ≤ left i
+ends_less i j (semicolon s) = (let a = spells_shrink k.Semicolon _ i j (λ q. cc) s in omega arith)
+ends_less i j (newline s) = (let a = spells_shrink k.Newline _ i j (λ q. cc) s in omega arith)
+ends_less i j (brace e) = omega arith
 
 closes_bare : (c : Kind) → x.closes c ≡ true → x.is_bare c ≡ true
 closes_bare k.RightParen h = refl
@@ -143,7 +147,7 @@ pub record Acted (d : ℕ) (a : Act) (i j : Input) : Type 0 where
   pub less : left j < left i
   pub read : x.is_bare (kind j) ≡ true → x.act_by (suc d) (kind i) i ≡ Ok (a, j)
 
-acted : {d : ℕ} {a : Act} {i j : Input} → PlainActs d a i j → Acted d a i j
+acted : {d : ℕ} {a : Act} {i j : Input} → Acts d a i j → Acted d a i j
 acted (evaluate {d = d} {e = e} {i = i} {j = j} h) = record {
   first = expression_acts (kind i) (fronts h);
   less = shrinks h;
@@ -174,18 +178,11 @@ simple_is : (d : ℕ) (a : Act) (i j : Input) → Acted d a i j → x.is_bare (k
 unfolding x.simple
 simple_is d a i j g b = go_on (x.act_by (suc d) (kind i) i) (λ a. pure (simple_at (left i) a)) a j _ (g.read b) refl
 
-ended_is : (d : ℕ) (a : Act) (i j l : Input) → Acted d a i j → Separator j l → x.ended (suc d) i ≡ Ok (tree.Simple (simple_at (left i) a), l)
+ended_is : (d : ℕ) (a : Act) (i j l : Input) → Acted d a i j → Ends j l → x.ended (suc d) i ≡ Ok (tree.Simple (simple_at (left i) a), l)
 unfolding x.ended
 ended_is d a i j l g s =
-    go_on (x.simple (suc d) i) _ (simple_at (left i) a) j _ (simple_is d a i j g (closes_bare (kind j) (separator_closes j l s)))
+    go_on (x.simple (suc d) i) _ (simple_at (left i) a) j _ (simple_is d a i j g (closes_bare (kind j) (ends_closes j l s)))
     (go_on (x.end j) (λ _. pure (tree.Simple (simple_at (left i) a))) tt l _ (end_is j l s) refl)
-
--- a brace behind it stays
-ended_brace : (d : ℕ) (a : Act) (i j : Input) → Acted d a i j → kind j ≡ k.RightBrace → x.ended (suc d) i ≡ Ok (tree.Simple (simple_at (left i) a), j)
-unfolding x.ended x.end
-ended_brace d a i j g e =
-    go_on (x.simple (suc d) i) _ (simple_at (left i) a) j _ (simple_is d a i j g (ap x.is_bare e))
-    (go_on (x.end j) (λ _. pure (tree.Simple (simple_at (left i) a))) tt j _ (by_kind x.end_by k.RightBrace j e) refl)
 
 -- ---- jumps
 
@@ -193,7 +190,7 @@ no_value : (d : ℕ) (j : Input) → x.closes (kind j) ≡ true → x.optional_v
 unfolding x.optional_value
 no_value d j h = on_true (x.closes (kind j)) _ _ _ h refl
 
-a_value : (d : ℕ) (e : Expr) (i j : Input) → Plain d (Whole false e) i j → x.closes (kind j) ≡ true → x.optional_value (suc d) i ≡ Ok (Some e, j)
+a_value : (d : ℕ) (e : Expr) (i j : Input) → Derives d (Whole false e) i j → x.closes (kind j) ≡ true → x.optional_value (suc d) i ≡ Ok (Some e, j)
 unfolding x.optional_value
 a_value d e i j h b =
     on_false (x.closes (kind i)) _ _ _ (begins_not_closes (kind i) (fronts h))
@@ -205,7 +202,7 @@ pub record Jumped (c : Context) (d : ℕ) (y : Jump) (i j : Input) : Type 0 wher
   pub allowed : allows c (kind i) ≡ true
   pub read : x.closes (kind j) ≡ true → x.jump_by (suc d) (kind i) i ≡ Ok (y, j)
 
-jumped : {c : Context} {d : ℕ} {y : Jump} {i j : Input} → PlainJumps c d y i j → Jumped c d y i j
+jumped : {c : Context} {d : ℕ} {y : Jump} {i j : Input} → Jumps c d y i j → Jumped c d y i j
 jumped (next_record {c = c} {d = d} {w = w} {i = i} {j = j} p s) = record {
   first = ap begins_jump s.is_kind;
   less = spells_shrink k.Next w i j (λ q. cc) s;
@@ -249,17 +246,11 @@ jumped (return_with {c = c} {d = d} {e = e} {w = w} {i = i} {j = j} {l = l} p s 
   read = λ b. by_kind (x.jump_by (suc d)) k.Return i s.is_kind ∙ go_on (x.optional_value (suc d) (next i)) (λ e. pure (jumps.Return e)) (Some e) l _ (ap (x.optional_value (suc d)) s.is_next ∙ a_value d e j l h b) refl;
 }
 
-placed_is : (c : Context) (d : ℕ) (y : Jump) (i j l : Input) → Jumped c d y i j → Separator j l → x.placed_jump (suc d) c i ≡ Ok (tree.Jump (left i) y, l)
+placed_is : (c : Context) (d : ℕ) (y : Jump) (i j l : Input) → Jumped c d y i j → Ends j l → x.placed_jump (suc d) c i ≡ Ok (tree.Jump (left i) y, l)
 unfolding x.placed_jump x.jump
 placed_is c d y i j l g s =
     on_true (allows c (kind i)) _ _ _ g.allowed
-    (go_on (x.jump_by (suc d) (kind i) i) _ y j _ (g.read (separator_closes j l s)) (go_on (x.end j) (λ _. pure (tree.Jump (left i) y)) tt l _ (end_is j l s) refl))
-
-placed_brace : (c : Context) (d : ℕ) (y : Jump) (i j : Input) → Jumped c d y i j → kind j ≡ k.RightBrace → x.placed_jump (suc d) c i ≡ Ok (tree.Jump (left i) y, j)
-unfolding x.placed_jump x.jump x.end
-placed_brace c d y i j g e =
-    on_true (allows c (kind i)) _ _ _ g.allowed
-    (go_on (x.jump_by (suc d) (kind i) i) _ y j _ (g.read (ap x.closes e)) (go_on (x.end j) (λ _. pure (tree.Jump (left i) y)) tt j _ (by_kind x.end_by k.RightBrace j e) refl))
+    (go_on (x.jump_by (suc d) (kind i) i) _ y j _ (g.read (ends_closes j l s)) (go_on (x.end j) (λ _. pure (tree.Jump (left i) y)) tt l _ (end_is j l s) refl))
 
 -- ---- heads
 
@@ -267,13 +258,13 @@ pub record Enclosed (d : ℕ) (t : Condition) (i j : Input) : Type 0 where
   pub less : left j < left i
   pub read : x.enclosed (suc d) i ≡ Ok (t, j)
 
-enclosed_is : (d : ℕ) (e : Expr) (v w : List ℕ) (i j l m : Input) → Spells k.LeftParen v i j → Plain d (Whole false e) j l → Spells k.RightParen w l m → x.enclosed (suc d) i ≡ Ok (condition_at (left j) e, m)
+enclosed_is : (d : ℕ) (e : Expr) (v w : List ℕ) (i j l m : Input) → Spells k.LeftParen v i j → Derives d (Whole false e) j l → Spells k.RightParen w l m → x.enclosed (suc d) i ≡ Ok (condition_at (left j) e, m)
 unfolding x.enclosed
 enclosed_is d e v w i j l m s h t =
     go_on (expect k.LeftParen i) _ tt j _ (expect_is k.LeftParen v i j s)
     (go_on (expression (suc d) want.Whole j) _ e l _ (whole_complete d false e j l h (ap ends t.is_kind)) (go_on (expect k.RightParen l) (λ _. pure (condition_at (left j) e)) tt m _ (expect_is k.RightParen w l m t) refl))
 
-enclosed : {d : ℕ} {t : Condition} {i j : Input} → PlainEncloses d t i j → Enclosed d t i j
+enclosed : {d : ℕ} {t : Condition} {i j : Input} → Encloses d t i j → Enclosed d t i j
 enclosed (parentheses {d = d} {e = e} {v = v} {w = w} {i = i} {j = j} {l = l} {m = m} s h t) = record {
   less = (let a = spells_shrink k.LeftParen v i j (λ q. cc) s in let b = shrinks h in let c = spells_shrink k.RightParen w l m (λ q. cc) t in omega arith);
   read = enclosed_is d e v w i j l m s h t;
@@ -283,34 +274,34 @@ condition_is : (d : ℕ) (t : Condition) (i j l : Input) → Enclosed d t i j �
 unfolding x.condition
 condition_is d t i j l g ns ne = go_on (x.enclosed (suc d) i) _ t j _ g.read (ap (λ m. done t m) (newlines_exact j l ne ns))
 
-part_is : (stop : Kind) (d : ℕ) (o : Option Stmt) (i j : Input) → x.is_bare stop ≡ true → begins_act stop ≡ false → PlainSimply d o i j → kind j ≡ stop → x.optional_simple stop (suc d) i ≡ Ok (o, j)
+part_is : (stop : Kind) (d : ℕ) (o : Option Stmt) (i j : Input) → x.is_bare stop ≡ true → begins_act stop ≡ false → Simply d o i j → kind j ≡ stop → x.optional_simple stop (suc d) i ≡ Ok (o, j)
 unfolding x.optional_simple
 part_is stop d o i j b n no_part e = on_true (sees stop i) _ _ _ (seen stop i e) refl
 part_is stop d o i j b n (part {a = a} h) e =
     let g = acted h in
     on_false (sees stop i) _ _ _ (not_seen stop i (apart begins_act (kind i) stop g.first n)) (go_on (x.simple (suc d) i) (λ s. pure (Some (tree.Simple s))) (simple_at (left i) a) j _ (simple_is d a i j g (ap x.is_bare e ∙ b)) refl)
 
-part_less : {d : ℕ} {o : Option Stmt} {i j : Input} → PlainSimply d o i j → left j ≤ left i
+part_less : {d : ℕ} {o : Option Stmt} {i j : Input} → Simply d o i j → left j ≤ left i
 part_less (no_part {d = d} {i = i}) = omega arith
 part_less (part {d = d} {a = a} {i = i} {j = j} h) = let a = (acted h).less in omega arith
 
 -- what a part of a head begins with is no newline
-part_front : {d : ℕ} {o : Option Stmt} {i j : Input} (stop : Kind) → PlainSimply d o i j → kind j ≡ stop → stop ≢ k.Newline → kind i ≢ k.Newline
+part_front : {d : ℕ} {o : Option Stmt} {i j : Input} (stop : Kind) → Simply d o i j → kind j ≡ stop → stop ≢ k.Newline → kind i ≢ k.Newline
 part_front stop (no_part {d = d} {i = i}) e ne = λ q. ne (sym e ∙ q)
 part_front stop (part {d = d} {a = a} {i = i} {j = j} h) e ne = apart begins_act (kind i) k.Newline (acted h).first refl
 
-test_is : (d : ℕ) (o : Option Expr) (i j : Input) → PlainTests d o i j → kind j ≡ k.Semicolon → x.optional_test (suc d) i ≡ Ok (o, j)
+test_is : (d : ℕ) (o : Option Expr) (i j : Input) → Tests d o i j → kind j ≡ k.Semicolon → x.optional_test (suc d) i ≡ Ok (o, j)
 unfolding x.optional_test
 test_is d o i j no_test e = on_true (sees k.Semicolon i) _ _ _ (seen k.Semicolon i e) refl
 test_is d o i j (test {e = y} h) e =
     on_false (sees k.Semicolon i) _ _ _ (not_seen k.Semicolon i (apart starts_expression (kind i) k.Semicolon (fronts h) refl))
     (go_on (expression (suc d) want.Whole i) (λ e. pure (Some e)) y j _ (whole_complete d false y i j h (ap ends e)) refl)
 
-test_less : {d : ℕ} {o : Option Expr} {i j : Input} → PlainTests d o i j → left j ≤ left i
+test_less : {d : ℕ} {o : Option Expr} {i j : Input} → Tests d o i j → left j ≤ left i
 test_less (no_test {d = d} {i = i}) = omega arith
 test_less (test {d = d} {e = e} {i = i} {j = j} h) = let a = shrinks h in omega arith
 
-test_front : {d : ℕ} {o : Option Expr} {i j : Input} → PlainTests d o i j → kind j ≡ k.Semicolon → kind i ≢ k.Newline
+test_front : {d : ℕ} {o : Option Expr} {i j : Input} → Tests d o i j → kind j ≡ k.Semicolon → kind i ≢ k.Newline
 test_front (no_test {d = d} {i = i}) e = λ q. (let no : k.Semicolon ≡ k.Newline = sym e ∙ q in cc)
 test_front (test {d = d} {e = y} {i = i} {j = j} h) e = apart starts_expression (kind i) k.Newline (fronts h) refl
 
@@ -324,8 +315,8 @@ pub record Headed (d : ℕ) (h : Head) (i j : Input) : Type 0 where
   pub apart_in : x.sees_member i ≡ false
 
 head_is : (d : ℕ) (first final : Option Stmt) (e : Option Expr) (u v w : List ℕ) (i j l m n o p q r : Input)
-    → PlainSimply d first i j → Spells k.Semicolon u j l → Newlines l m → PlainTests d e m n → Spells k.Semicolon v n o → Newlines o p
-    → PlainSimply d final p q → Spells k.RightParen w q r → x.head (suc d) i ≡ Ok (head_of first (left m) e final, r)
+    → Simply d first i j → Spells k.Semicolon u j l → Newlines l m → Tests d e m n → Spells k.Semicolon v n o → Newlines o p
+    → Simply d final p q → Spells k.RightParen w q r → x.head (suc d) i ≡ Ok (head_of first (left m) e final, r)
 unfolding x.head
 head_is d first final e u v w i j l m n o p q r f s ns t z nt g y =
     go_on (x.optional_simple k.Semicolon (suc d) i) _ first j _ (part_is k.Semicolon d first i j refl refl f s.is_kind)
@@ -365,8 +356,16 @@ members i h =
 same_rest : {A : Type 0} (o : Outcome A) (p q : A × Input) → o ≡ Ok p → o ≡ Ok q → p.1 ≡ q.1
 same_rest o p q h g = let e : p ≡ q = cc in ap (λ r. r.1) e
 
+-- a name, `in` and a name are an expression
+one_array : (d : ℕ) (i : Input) → Members i → Derives d (Whole false (expr.In (expr.Of (spot.Name (name_at i))) (name_at (next (next i)) ∷ []))) i (next (next (next i)))
+unfolding parser.chained parser.contained
+one_array d i g =
+    let operand : Derives d (Level false 0 (expr.Of (spot.Name (name_at i)))) i (next i) = tight (unsigned (base (bare (named g.first) (ap change g.sign.is_kind)))) in
+    let up : Derives d (Level false 5 (expr.Of (spot.Name (name_at i)))) i (next i) = chain (chain (chain (chain (chain operand no_more) no_more) no_more) no_more) no_more in
+    is_test (lone (lone (contains (operated up) (token.array g.sign g.second token.no_array))))
+
 -- a head that counts does not begin as one over an array: what ends before a semicolon does not end before a parenthesis
-no_member : {d : ℕ} {o : Option Stmt} {i j : Input} → PlainSimply d o i j → kind j ≡ k.Semicolon → Members i → ⊥
+no_member : {d : ℕ} {o : Option Stmt} {i j : Input} → Simply d o i j → kind j ≡ k.Semicolon → Members i → ⊥
 no_member (no_part {d = d} {i = i}) e g = let no : k.Semicolon ≡ k.Name = sym e ∙ g.first.is_kind in cc
 no_member (part {d = d} {a = a} {i = i} {j = j} (print_record s)) e g = let no : k.Print ≡ k.Name = sym s.is_kind ∙ g.first.is_kind in cc
 no_member (part {d = d} {a = a} {i = i} {j = j} (print s h)) e g = let no : k.Print ≡ k.Name = sym s.is_kind ∙ g.first.is_kind in cc
@@ -374,7 +373,7 @@ no_member (part {d = d} {a = a} {i = i} {j = j} (printf s h)) e g = let no : k.P
 no_member (part {d = d} {a = a} {i = i} {j = j} (delete s t h)) e g = let no : k.Delete ≡ k.Name = sym s.is_kind ∙ g.first.is_kind in cc
 no_member (part {d = d} {a = a} {i = i} {j = j} (evaluate {e = y} h)) e g =
     let z = next (next (next i)) in
-    let other : Plain d (Whole false (expr.In (expr.Of (spot.Name (name_at i))) (name_at (next (next i)) ∷ []))) i z = contains (of_place (named g.first)) g.sign g.second in
+    let other : Derives d (Whole false (expr.In (expr.Of (spot.Name (name_at i))) (name_at (next (next i)) ∷ []))) i z = one_array d i g in
     let a = whole_complete d false y i j h (ap ends e) in
     let b = whole_complete d false (expr.In (expr.Of (spot.Name (name_at i))) (name_at (next (next i)) ∷ [])) i z other (ap ends g.close) in
     let same : j ≡ z = same_rest (expression (suc d) want.Whole i) (y, j) (expr.In (expr.Of (spot.Name (name_at i))) (name_at (next (next i)) ∷ []), z) a b in
@@ -388,7 +387,7 @@ no_members i never = go (x.sees_member i) refl
     go true e = absurd (never (members i e))
     go false e = e
 
-headed : {d : ℕ} {h : Head} {i j : Input} → PlainHeads d h i j → Headed d h i j
+headed : {d : ℕ} {h : Head} {i j : Input} → Heads d h i j → Headed d h i j
 headed (head {d = d} {first = first} {last = final} {e = e} {u = u} {v = v} {w = w} {i = i} {j = j} {l = l} {m = m} {n = n} {o = o} {p = p} {q = q} {r = r} f s ns t z nt g y) = record {
   less = (
       let a = part_less f in
@@ -416,10 +415,6 @@ an_else w m n o p ns s nt ne =
 none_else : (m : Input) → sees k.Else (newlines m) ≡ false → x.other m ≡ Ok (false, m)
 unfolding x.other
 none_else m h = on_false (sees k.Else (newlines m)) _ _ _ h refl
-
--- behind newlines stands a token that is no `else`
-clear_of : (i j : Input) → Newlines i j → kind j ≢ k.Newline → kind j ≢ k.Else → sees k.Else (newlines i) ≡ false
-clear_of i j ns ne other = ap (sees k.Else) (newlines_exact i j ne ns) ∙ not_seen k.Else j other
 
 -- ---- statements
 
@@ -469,11 +464,10 @@ opened_is c d a w i j r o s h =
 pub record Stated (c : Context) (d : ℕ) (s : Stmt) (i j : Input) : Type 0 where
   pub first : begins (kind i) ≡ true
   pub less : left j < left i
-  pub read : sees k.Else (newlines j) ≡ false → x.statement (suc d) c i ≡ Ok (s, j)
+  pub read : x.statement (suc d) c i ≡ Ok (s, j)
 
 pub record Filled (c : Context) (d : ℕ) (ss : List Stmt) (i j : Input) : Type 0 where
   pub less : left j ≤ left i
-  pub clear : kind j ≡ k.RightBrace → sees k.Else (newlines i) ≡ false
   pub read : (n : ℕ) (found : List Stmt) (w : List ℕ) (m : Input) → left i ≤ n → Spells k.RightBrace w j m → x.block_from (suc d) (x.statement (suc d)) c n found i ≡ Ok (found ++ ss, m)
 
 pub record Braced (c : Context) (d : ℕ) (ss : List Stmt) (i j : Input) : Type 0 where
@@ -484,10 +478,10 @@ pub record Braced (c : Context) (d : ℕ) (ss : List Stmt) (i j : Input) : Type 
 
 pub record Chained (c : Context) (d : ℕ) (bs : List Branch) (r : Option Stmt) (i j : Input) : Type 0 where
   pub less : left j < left i
-  pub stated : (w : List ℕ) (g : Input) → Spells k.If w g i → sees k.Else (newlines j) ≡ false → x.statement (suc d) c g ≡ Ok (tree.If bs r, j)
-  pub read : (n : ℕ) (found : List Branch) → left i ≤ n → sees k.Else (newlines j) ≡ false → x.chain_from d (x.statement d) c n found i ≡ Ok (tree.If (found ++ bs) r, j)
+  pub stated : (w : List ℕ) (g : Input) → Spells k.If w g i → x.statement (suc d) c g ≡ Ok (tree.If bs r, j)
+  pub read : (n : ℕ) (found : List Branch) → left i ≤ n → x.chain_from d (x.statement d) c n found i ≡ Ok (tree.If (found ++ bs) r, j)
 
--- what the parser does at a plain phrase
+-- what the parser does at a phrase
 Completes : Context → ℕ → Phrase → Input → Input → Type 0
 Completes c d (One s) i j = Stated c d s i j
 Completes c d (Many ss) i j = Filled c d ss i j
@@ -536,27 +530,7 @@ moved c d zero found s ss i j l m o w ns g r fuel b = absurd (let a = newlines_s
 moved c d (suc n) found s ss i j l m o w ns g r fuel b =
     let a = newlines_shrink i j ns in
     let e = g.less in
-    more_is c d n found s ss i j l o (newlines_exact i j (apart begins (kind j) k.Newline g.first refl) ns) (apart begins (kind j) k.RightBrace g.first refl) (g.read (r.clear b.is_kind)) (r.read n (found ++ s ∷ []) w o (omega arith) b)
-
--- the last statement, before the brace
-last_read : (c : Context) (d n : ℕ) (found : List Stmt) (s : Stmt) (i j l o : Input) (w : List ℕ) → Newlines i j → begins (kind j) ≡ true → left l < left j → x.statement (suc d) c j ≡ Ok (s, l) → left i ≤ n → Spells k.RightBrace w l o
-    → x.block_from (suc d) (x.statement (suc d)) c n found i ≡ Ok (found ++ s ∷ [], o)
-last_read c d zero found s i j l o w ns fr less h fuel b = absurd (let a = newlines_shrink i j ns in omega arith)
-last_read c d (suc n) found s i j l o w ns fr less h fuel b =
-    let a = newlines_shrink i j ns in
-    let e = spells_shrink k.RightBrace w l o (λ q. cc) b in
-    let no : kind l ≢ k.Newline = λ q. (let z : k.RightBrace ≡ k.Newline = sym b.is_kind ∙ q in cc) in
-    more_is c d n found s [] i j l o (newlines_exact i j (apart begins (kind j) k.Newline fr refl) ns) (apart begins (kind j) k.RightBrace fr refl) h
-    (closed_is c d n (found ++ s ∷ []) w l l o (omega arith) (newlines_exact l l no token.none) b)
-
-last_filled : (c : Context) (d : ℕ) (s : Stmt) (i j l : Input) → Newlines i j → begins (kind j) ≡ true → left l < left j → x.statement (suc d) c j ≡ Ok (s, l) → Filled c d (s ∷ []) i l
-last_filled c d s i j l ns fr less h =
-    let a = newlines_shrink i j ns in
-    record {
-      less = omega arith;
-      clear = λ _. clear_of i j ns (apart begins (kind j) k.Newline fr refl) (apart begins (kind j) k.Else fr refl);
-      read = λ n found w o fuel b. last_read c d n found s i j l o w ns fr less h fuel b;
-    }
+    more_is c d n found s ss i j l o (newlines_exact i j (apart begins (kind j) k.Newline g.first refl) ns) (apart begins (kind j) k.RightBrace g.first refl) g.read (r.read n (found ++ s ∷ []) w o (omega arith) b)
 
 braced : (c : Context) (d : ℕ) (ss : List Stmt) (v w : List ℕ) (i j l m : Input) → Spells k.LeftBrace v i j → Filled c d ss j l → Spells k.RightBrace w l m → Braced c (suc d) ss i m
 unfolding x.action x.block
@@ -572,117 +546,116 @@ braced c d ss v w i j l m s g t =
       stated = opened_is c d k.LeftBrace v i j _ refl s (go_on (x.block (suc d) (x.statement (suc d)) c j) (λ ss. pure (tree.Block ss)) ss m _ inside refl);
     }
 
-brace_front : (c : Context) (d : ℕ) (ss : List Stmt) (i j : Input) → Braced c d ss i j → kind i ≢ k.Newline
-brace_front c d ss i j g = λ q. (let no : k.LeftBrace ≡ k.Newline = sym g.first ∙ q in cc)
+no_newline : (c : Context) (d : ℕ) (s : Stmt) (i j : Input) → Stated c d s i j → kind i ≢ k.Newline
+no_newline c d s i j g = apart begins (kind i) k.Newline g.first refl
 
-branch_is : (c : Context) (d : ℕ) (t : Condition) (ss : List Stmt) (i j l m : Input) → Enclosed d t i j → Newlines j l → Braced c d ss l m → x.branch (suc d) (x.statement (suc d)) c i ≡ Ok (branch_of t (tree.Block ss), m)
+branch_is : (c : Context) (d : ℕ) (t : Condition) (st : Stmt) (i j l m : Input) → Enclosed d t i j → Newlines j l → Stated c d st l m → x.branch (suc d) (x.statement (suc d)) c i ≡ Ok (branch_of t st, m)
 unfolding x.branch
-branch_is c d t ss i j l m g ns b =
-    go_on (x.condition (suc d) i) _ t l _ (condition_is d t i j l g ns (brace_front c d ss l m b)) (go_on (x.statement (suc d) c l) (λ s. pure (branch_of t s)) (tree.Block ss) m _ b.stated refl)
+branch_is c d t st i j l m g ns b =
+    go_on (x.condition (suc d) i) _ t l _ (condition_is d t i j l g ns (no_newline c d st l m b)) (go_on (x.statement (suc d) c l) (λ s. pure (branch_of t s)) st m _ b.read refl)
 
 -- a chain whose reading is known, as a statement
 chained : (c : Context) (d : ℕ) (bs : List Branch) (r : Option Stmt) (i j : Input) → left j < left i
-    → ((n : ℕ) (found : List Branch) → left i ≤ suc n → sees k.Else (newlines j) ≡ false → x.chain_from (suc d) (x.statement (suc d)) c (suc n) found i ≡ Ok (tree.If (found ++ bs) r, j))
+    → ((n : ℕ) (found : List Branch) → left i ≤ suc n → x.chain_from (suc d) (x.statement (suc d)) c (suc n) found i ≡ Ok (tree.If (found ++ bs) r, j))
     → Chained c (suc d) bs r i j
 unfolding x.chain
 chained c d bs r i j less read = record {
   less = less;
-  stated = λ w g s clear. opened_is c d k.If w g i _ refl s (reads (left i) [] (omega arith) clear);
+  stated = λ w g s. opened_is c d k.If w g i _ refl s (reads (left i) [] (omega arith));
   read = reads;
 }
   where
-    reads : (n : ℕ) (found : List Branch) → left i ≤ n → sees k.Else (newlines j) ≡ false → x.chain_from (suc d) (x.statement (suc d)) c n found i ≡ Ok (tree.If (found ++ bs) r, j)
-    reads zero found fuel clear = absurd (omega arith)
-    reads (suc n) found fuel clear = read n found fuel clear
+    reads : (n : ℕ) (found : List Branch) → left i ≤ n → x.chain_from (suc d) (x.statement (suc d)) c n found i ≡ Ok (tree.If (found ++ bs) r, j)
+    reads zero found fuel = absurd (omega arith)
+    reads (suc n) found fuel = read n found fuel
 
-last_is : (c : Context) (d n : ℕ) (found : List Branch) (t : Condition) (ss : List Stmt) (i j l m : Input) → Enclosed d t i j → Newlines j l → Braced c d ss l m → sees k.Else (newlines m) ≡ false
-    → x.chain_from (suc d) (x.statement (suc d)) c (suc n) found i ≡ Ok (tree.If (found ++ branch_of t (tree.Block ss) ∷ []) None, m)
+last_is : (c : Context) (d n : ℕ) (found : List Branch) (t : Condition) (st : Stmt) (i j l m : Input) → Enclosed d t i j → Newlines j l → Stated c d st l m → sees k.Else (newlines m) ≡ false
+    → x.chain_from (suc d) (x.statement (suc d)) c (suc n) found i ≡ Ok (tree.If (found ++ branch_of t st ∷ []) None, m)
 unfolding x.chain_from
-last_is c d n found t ss i j l m g ns b clear =
-    go_on (x.branch (suc d) (x.statement (suc d)) c i) _ (branch_of t (tree.Block ss)) m _ (branch_is c d t ss i j l m g ns b) (go_on (x.other m) _ false m _ (none_else m clear) refl)
+last_is c d n found t st i j l m g ns b clear =
+    go_on (x.branch (suc d) (x.statement (suc d)) c i) _ (branch_of t st) m _ (branch_is c d t st i j l m g ns b) (go_on (x.other m) _ false m _ (none_else m clear) refl)
 
-otherwise_is : (c : Context) (d k' : ℕ) (found : List Branch) (t : Condition) (ss rs : List Stmt) (w : List ℕ) (i j l m n o p q : Input) → Enclosed d t i j → Newlines j l → Braced c d ss l m → Newlines m n → Spells k.Else w n o → Newlines o p → Braced c d rs p q
-    → x.chain_from (suc d) (x.statement (suc d)) c (suc k') found i ≡ Ok (tree.If (found ++ branch_of t (tree.Block ss) ∷ []) (Some (tree.Block rs)), q)
+otherwise_is : (c : Context) (d k' : ℕ) (found : List Branch) (t : Condition) (st so : Stmt) (w : List ℕ) (i j l m n o p q : Input) → Enclosed d t i j → Newlines j l → Stated c d st l m → Newlines m n → Spells k.Else w n o → Newlines o p → kind p ≢ k.If → Stated c d so p q
+    → x.chain_from (suc d) (x.statement (suc d)) c (suc k') found i ≡ Ok (tree.If (found ++ branch_of t st ∷ []) (Some so), q)
 unfolding x.chain_from
-otherwise_is c d k' found t ss rs w i j l m n o p q g ns b nt s nu h =
-    go_on (x.branch (suc d) (x.statement (suc d)) c i) _ (branch_of t (tree.Block ss)) m _ (branch_is c d t ss i j l m g ns b)
-    (go_on (x.other m) _ true p _ (an_else w m n o p nt s nu (brace_front c d rs p q h))
-    (leaves k.If p (x.chain_from (suc d) (x.statement (suc d)) c k' (found ++ branch_of t (tree.Block ss) ∷ [])) (x.statement (suc d) c >>= (λ s. pure (tree.If (found ++ branch_of t (tree.Block ss) ∷ []) (Some s)))) _ (λ y. (let no : k.LeftBrace ≡ k.If = sym h.first ∙ y in cc))
-    (go_on (x.statement (suc d) c p) (λ s. pure (tree.If (found ++ branch_of t (tree.Block ss) ∷ []) (Some s))) (tree.Block rs) q _ h.stated refl)))
+otherwise_is c d k' found t st so w i j l m n o p q g ns b nt s nu other h =
+    go_on (x.branch (suc d) (x.statement (suc d)) c i) _ (branch_of t st) m _ (branch_is c d t st i j l m g ns b)
+    (go_on (x.other m) _ true p _ (an_else w m n o p nt s nu (no_newline c d so p q h))
+    (leaves k.If p (x.chain_from (suc d) (x.statement (suc d)) c k' (found ++ branch_of t st ∷ [])) (x.statement (suc d) c >>= (λ s. pure (tree.If (found ++ branch_of t st ∷ []) (Some s)))) _ other
+    (go_on (x.statement (suc d) c p) (λ s. pure (tree.If (found ++ branch_of t st ∷ []) (Some s))) so q _ h.read refl)))
 
-else_if_is : (c : Context) (d k' : ℕ) (found : List Branch) (t : Condition) (ss : List Stmt) (bs : List Branch) (r : Option Stmt) (v w : List ℕ) (i j l m n o p q z : Input) → Enclosed d t i j → Newlines j l → Braced c d ss l m → Newlines m n → Spells k.Else v n o → Newlines o p → Spells k.If w p q
-    → x.chain_from (suc d) (x.statement (suc d)) c k' (found ++ branch_of t (tree.Block ss) ∷ []) q ≡ Ok (tree.If ((found ++ branch_of t (tree.Block ss) ∷ []) ++ bs) r, z)
-    → x.chain_from (suc d) (x.statement (suc d)) c (suc k') found i ≡ Ok (tree.If (found ++ branch_of t (tree.Block ss) ∷ bs) r, z)
+else_if_is : (c : Context) (d k' : ℕ) (found : List Branch) (t : Condition) (st : Stmt) (bs : List Branch) (r : Option Stmt) (v w : List ℕ) (i j l m n o p q z : Input) → Enclosed d t i j → Newlines j l → Stated c d st l m → Newlines m n → Spells k.Else v n o → Newlines o p → Spells k.If w p q
+    → x.chain_from (suc d) (x.statement (suc d)) c k' (found ++ branch_of t st ∷ []) q ≡ Ok (tree.If ((found ++ branch_of t st ∷ []) ++ bs) r, z)
+    → x.chain_from (suc d) (x.statement (suc d)) c (suc k') found i ≡ Ok (tree.If (found ++ branch_of t st ∷ bs) r, z)
 unfolding x.chain_from
-else_if_is c d k' found t ss bs r v w i j l m n o p q z g ns b nt s nu y rest =
-    go_on (x.branch (suc d) (x.statement (suc d)) c i) _ (branch_of t (tree.Block ss)) m _ (branch_is c d t ss i j l m g ns b)
+else_if_is c d k' found t st bs r v w i j l m n o p q z g ns b nt s nu y rest =
+    go_on (x.branch (suc d) (x.statement (suc d)) c i) _ (branch_of t st) m _ (branch_is c d t st i j l m g ns b)
     (go_on (x.other m) _ true p _ (an_else v m n o p nt s nu (λ a. (let no : k.If ≡ k.Newline = sym y.is_kind ∙ a in cc)))
-    (eats k.If w p q (x.chain_from (suc d) (x.statement (suc d)) c k' (found ++ branch_of t (tree.Block ss) ∷ [])) (x.statement (suc d) c >>= (λ s. pure (tree.If (found ++ branch_of t (tree.Block ss) ∷ []) (Some s)))) _ y
-    (rest ∙ ap (λ a. done (tree.If a r) z) (append_assoc found (branch_of t (tree.Block ss) ∷ []) bs))))
+    (eats k.If w p q (x.chain_from (suc d) (x.statement (suc d)) c k' (found ++ branch_of t st ∷ [])) (x.statement (suc d) c >>= (λ s. pure (tree.If (found ++ branch_of t st ∷ []) (Some s)))) _ y
+    (rest ∙ ap (λ a. done (tree.If a r) z) (append_assoc found (branch_of t st ∷ []) bs))))
 
-while_is : (c : Context) (d : ℕ) (t : Condition) (ss : List Stmt) (i j l m : Input) → Enclosed d t i j → Newlines j l → Braced (looped c) d ss l m → x.while_loop (suc d) (x.statement (suc d)) c i ≡ Ok (tree.While t (tree.Block ss), m)
+while_is : (c : Context) (d : ℕ) (t : Condition) (st : Stmt) (i j l m : Input) → Enclosed d t i j → Newlines j l → Stated (looped c) d st l m → x.while_loop (suc d) (x.statement (suc d)) c i ≡ Ok (tree.While t st, m)
 unfolding x.while_loop
-while_is c d t ss i j l m g ns b =
-    go_on (x.condition (suc d) i) _ t l _ (condition_is d t i j l g ns (brace_front (looped c) d ss l m b)) (go_on (x.statement (suc d) (looped c) l) (λ s. pure (tree.While t s)) (tree.Block ss) m _ b.stated refl)
+while_is c d t st i j l m g ns b =
+    go_on (x.condition (suc d) i) _ t l _ (condition_is d t i j l g ns (no_newline (looped c) d st l m b)) (go_on (x.statement (suc d) (looped c) l) (λ s. pure (tree.While t s)) st m _ b.read refl)
 
-do_is : (c : Context) (d : ℕ) (t : Condition) (ss : List Stmt) (w : List ℕ) (j l m n o p q : Input) → Newlines j l → Braced (looped c) d ss l m → Newlines m n → Spells k.While w n o → Enclosed d t o p → Separator p q → x.do_loop (suc d) (x.statement (suc d)) c j ≡ Ok (tree.Do (tree.Block ss) t, q)
+do_is : (c : Context) (d : ℕ) (t : Condition) (st : Stmt) (w : List ℕ) (j l m n o p q : Input) → Newlines j l → Stated (looped c) d st l m → Newlines m n → Spells k.While w n o → Enclosed d t o p → Ends p q → x.do_loop (suc d) (x.statement (suc d)) c j ≡ Ok (tree.Do st t, q)
 unfolding x.do_loop
-do_is c d t ss w j l m n o p q ns b nt s g e =
-    go_on (x.statement (suc d) (looped c) (newlines j)) _ (tree.Block ss) m _ (ap (x.statement (suc d) (looped c)) (newlines_exact j l (brace_front (looped c) d ss l m b) ns) ∙ b.stated)
+do_is c d t st w j l m n o p q ns b nt s g e =
+    go_on (x.statement (suc d) (looped c) (newlines j)) _ st m _ (ap (x.statement (suc d) (looped c)) (newlines_exact j l (no_newline (looped c) d st l m b) ns) ∙ b.read)
     (go_on (expect k.While (newlines m)) _ tt o _ (ap (expect k.While) (newlines_exact m n (λ a. (let no : k.While ≡ k.Newline = sym s.is_kind ∙ a in cc)) nt) ∙ expect_is k.While w n o s)
-    (go_on (x.enclosed (suc d) o) _ t p _ g.read (go_on (x.end p) (λ _. pure (tree.Do (tree.Block ss) t)) tt q _ (end_is p q e) refl)))
+    (go_on (x.enclosed (suc d) o) _ t p _ g.read (go_on (x.end p) (λ _. pure (tree.Do st t)) tt q _ (end_is p q e) refl)))
 
-count_is : (c : Context) (d place : ℕ) (h : Head) (ss : List Stmt) (w : List ℕ) (j l m n o : Input) → Spells k.LeftParen w j l → Headed d h l m → Newlines m n → Braced (looped c) d ss n o → x.for_loop (suc d) (x.statement (suc d)) c place j ≡ Ok (tree.For h (tree.Block ss), o)
+count_is : (c : Context) (d place : ℕ) (h : Head) (st : Stmt) (w : List ℕ) (j l m n o : Input) → Spells k.LeftParen w j l → Headed d h l m → Newlines m n → Stated (looped c) d st n o → x.for_loop (suc d) (x.statement (suc d)) c place j ≡ Ok (tree.For h st, o)
 unfolding x.for_loop x.count_loop
-count_is c d place h ss w j l m n o s g ns b =
+count_is c d place h st w j l m n o s g ns b =
     go_on (expect k.LeftParen j) _ tt l _ (expect_is k.LeftParen w j l s)
     (on_false (x.sees_member l) _ _ _ g.apart_in
     (go_on (x.head (suc d) l) _ h m _ g.read
-    (go_on (x.statement (suc d) (looped c) (newlines m)) (λ body. pure (tree.For h body)) (tree.Block ss) o _ (ap (x.statement (suc d) (looped c)) (newlines_exact m n (brace_front (looped c) d ss n o b) ns) ∙ b.stated) refl)))
+    (go_on (x.statement (suc d) (looped c) (newlines m)) (λ body. pure (tree.For h body)) st o _ (ap (x.statement (suc d) (looped c)) (newlines_exact m n (no_newline (looped c) d st n o b) ns) ∙ b.read) refl)))
 
-member_is : (c : Context) (d place : ℕ) (ss : List Stmt) (u v w t y : List ℕ) (j l m n o p q r : Input)
-    → Spells k.LeftParen u j l → Spells k.Name v l m → Spells k.In w m n → Spells k.Name t n o → Spells k.RightParen y o p → Newlines p q → Braced (looped c) d ss q r
-    → x.for_loop (suc d) (x.statement (suc d)) c place j ≡ Ok (tree.ForIn place (name_at l) (name_at n) (tree.Block ss), r)
+member_is : (c : Context) (d place : ℕ) (st : Stmt) (u v w t y : List ℕ) (j l m n o p q r : Input)
+    → Spells k.LeftParen u j l → Spells k.Name v l m → Spells k.In w m n → Spells k.Name t n o → Spells k.RightParen y o p → Newlines p q → Stated (looped c) d st q r
+    → x.for_loop (suc d) (x.statement (suc d)) c place j ≡ Ok (tree.ForIn place (name_at l) (name_at n) st, r)
 unfolding x.for_loop x.member_loop name
-member_is c d place ss u v w t y j l m n o p q r a b e f g ns h =
+member_is c d place st u v w t y j l m n o p q r a b e f g ns h =
     let second : next (next l) ≡ n = ap next b.is_next ∙ e.is_next in
     let behind : next (next (next (next l))) ≡ p = ap (λ z. next (next z)) second ∙ ap next f.is_next ∙ g.is_next in
     go_on (expect k.LeftParen j) _ tt l _ (expect_is k.LeftParen u j l a)
     (on_true (x.sees_member l) _ _ _ (member_seen v w t y l m n o p b e f g)
-    (go_on (x.statement (suc d) (looped c) (newlines (next (next (next (next l)))))) (λ body. pure (tree.ForIn place (name_at l) (name_at (next (next l))) body)) (tree.Block ss) r _
-    (ap (λ z. x.statement (suc d) (looped c) (newlines z)) behind ∙ ap (x.statement (suc d) (looped c)) (newlines_exact p q (brace_front (looped c) d ss q r h) ns) ∙ h.stated)
-    (ap (λ z. done (tree.ForIn place (name_at l) (name_at z) (tree.Block ss)) r) second)))
+    (go_on (x.statement (suc d) (looped c) (newlines (next (next (next (next l)))))) (λ body. pure (tree.ForIn place (name_at l) (name_at (next (next l))) body)) st r _
+    (ap (λ z. x.statement (suc d) (looped c) (newlines z)) behind ∙ ap (x.statement (suc d) (looped c)) (newlines_exact p q (no_newline (looped c) d st q r h) ns) ∙ h.read)
+    (ap (λ z. done (tree.ForIn place (name_at l) (name_at z) st) r) second)))
 
-complete : {c : Context} {d : ℕ} {f : Phrase} {i j : Input} → PlainStates c d f i j → Completes c d f i j
+complete : {c : Context} {d : ℕ} {f : Phrase} {i j : Input} → States c d f i j → Completes c d f i j
 unfolding Completes
 complete (empty {c = c} {d = d} {w = w} {i = i} {j = j} s) = record {
   first = ap begins s.is_kind;
   less = spells_shrink k.Semicolon w i j (λ q. cc) s;
-  read = λ _. statement_by c d i ∙ by_kind (x.one_by d (x.statement d) c (suc d)) k.Semicolon i s.is_kind ∙ ap (λ m. done tree.Empty m) s.is_next;
+  read = statement_by c d i ∙ by_kind (x.one_by d (x.statement d) c (suc d)) k.Semicolon i s.is_kind ∙ ap (λ m. done tree.Empty m) s.is_next;
 }
 complete (simple {c = c} {d = d} {a = a} {i = i} {j = j} {l = l} h s) =
     let g = acted h in
-    let e = separator_less j l s in
+    let e = ends_less j l s in
     let b = g.less in
     record {
       first = act_begins (kind i) g.first;
       less = omega arith;
-      read = λ _. statement_by c d i ∙ by_act d (x.statement d) c (suc d) (kind i) i g.first ∙ ended_is d a i j l g s;
+      read = statement_by c d i ∙ by_act d (x.statement d) c (suc d) (kind i) i g.first ∙ ended_is d a i j l g s;
     }
 complete (jump {c = c} {d = d} {x = y} {i = i} {j = j} {l = l} h s) =
     let g = jumped h in
-    let e = separator_less j l s in
+    let e = ends_less j l s in
     let b = g.less in
     record {
       first = jump_begins (kind i) g.first;
       less = omega arith;
-      read = λ _. statement_by c d i ∙ by_jump d (x.statement d) c (suc d) (kind i) i g.first ∙ placed_is c d y i j l g s;
+      read = statement_by c d i ∙ by_jump d (x.statement d) c (suc d) (kind i) i g.first ∙ placed_is c d y i j l g s;
     }
 complete (none {c = c} {d = d} {i = i} {j = j} ns) =
     let a = newlines_shrink i j ns in
     record {
       less = a;
-      clear = λ e. clear_of i j ns (λ q. (let no : k.RightBrace ≡ k.Newline = sym e ∙ q in cc)) (λ q. (let no : k.RightBrace ≡ k.Else = sym e ∙ q in cc));
       read = λ n found w m fuel s.
           let some = spells_shrink k.RightBrace w j m (λ q. cc) s in
           closed_is c d n found w i j m (omega arith) (newlines_exact i j (λ q. (let no : k.RightBrace ≡ k.Newline = sym s.is_kind ∙ q in cc)) ns) s;
@@ -695,32 +668,25 @@ complete (more {c = c} {d = d} {s = s} {ss = ss} {i = i} {j = j} {l = l} {m = m}
     let e = r.less in
     record {
       less = omega arith;
-      clear = λ _. clear_of i j ns (apart begins (kind j) k.Newline g.first refl) (apart begins (kind j) k.Else g.first refl);
       read = λ n found w o fuel y. moved c d n found s ss i j l m o w ns g r fuel y;
     }
-complete (last_simple {c = c} {d = d} {a = a} {i = i} {j = j} {l = l} ns h e) =
-    let g = acted h in
-    last_filled c d (tree.Simple (simple_at (left j) a)) i j l ns (act_begins (kind j) g.first) g.less (statement_by c d j ∙ by_act d (x.statement d) c (suc d) (kind j) j g.first ∙ ended_brace d a j l g e)
-complete (last_jump {c = c} {d = d} {x = y} {i = i} {j = j} {l = l} ns h e) =
-    let g = jumped h in
-    last_filled c d (tree.Jump (left j) y) i j l ns (jump_begins (kind j) g.first) g.less (statement_by c d j ∙ by_jump d (x.statement d) c (suc d) (kind j) j g.first ∙ placed_brace c d y j l g e)
 complete (action {c = c} {d = d} {ss = ss} {v = v} {w = w} {i = i} {j = j} {l = l} {m = m} s h t) = braced c d ss v w i j l m s (complete h) t
 complete (block {c = c} {d = d} {ss = ss} {i = i} {j = j} h) =
     let g = complete h in
-    record { first = ap begins g.first; less = g.less; read = λ _. g.stated }
+    record { first = ap begins g.first; less = g.less; read = g.stated }
 complete (choice {c = c} {d = d} {bs = bs} {r = r} {w = w} {i = i} {j = j} {l = l} s h) =
     let g = complete h in
     let a = spells_shrink k.If w i j (λ q. cc) s in
     let b = g.less in
-    record { first = ap begins s.is_kind; less = omega arith; read = λ clear. g.stated w i s clear }
-complete (last {c = c} {d = d} {t = t} {ss = ss} {i = i} {j = j} {l = l} {m = m} h ns b) =
+    record { first = ap begins s.is_kind; less = omega arith; read = g.stated w i s }
+complete (last {c = c} {d = d} {t = t} {s = st} {i = i} {j = j} {l = l} {m = m} h ns b free) =
     let g = enclosed h in
     let r = complete b in
     let a = g.less in
     let a' = newlines_shrink j l ns in
     let a'' = r.less in
-    chained c d (branch_of t (tree.Block ss) ∷ []) None i m (omega arith) (λ n found fuel clear. last_is c d n found t ss i j l m g ns r clear)
-complete (otherwise {c = c} {d = d} {t = t} {ss = ss} {rs = rs} {w = w} {i = i} {j = j} {l = l} {m = m} {n = n} {o = o} {p = p} {q = q} h ns b nt s nu e) =
+    chained c d (branch_of t st ∷ []) None i m (omega arith) (λ n found fuel. last_is c d n found t st i j l m g ns r (unseen m free))
+complete (otherwise {c = c} {d = d} {t = t} {s = st} {r = so} {w = w} {i = i} {j = j} {l = l} {m = m} {n = n} {o = o} {p = p} {q = q} h ns b nt s nu other e) =
     let g = enclosed h in
     let r = complete b in
     let z = complete e in
@@ -731,8 +697,8 @@ complete (otherwise {c = c} {d = d} {t = t} {ss = ss} {rs = rs} {w = w} {i = i} 
     let a5 = spells_shrink k.Else w n o (λ q. cc) s in
     let a6 = newlines_shrink o p nu in
     let a7 = z.less in
-    chained c d (branch_of t (tree.Block ss) ∷ []) (Some (tree.Block rs)) i q (omega arith) (λ k' found fuel clear. otherwise_is c d k' found t ss rs w i j l m n o p q g ns r nt s nu z)
-complete (else_if {c = c} {d = d} {t = t} {ss = ss} {bs = bs} {r = y} {v = v} {w = w} {i = i} {j = j} {l = l} {m = m} {n = n} {o = o} {p = p} {q = q} {z = z} h ns b nt s nu e f) =
+    chained c d (branch_of t st ∷ []) (Some so) i q (omega arith) (λ k' found fuel. otherwise_is c d k' found t st so w i j l m n o p q g ns r nt s nu other z)
+complete (else_if {c = c} {d = d} {t = t} {s = st} {bs = bs} {r = y} {v = v} {w = w} {i = i} {j = j} {l = l} {m = m} {n = n} {o = o} {p = p} {q = q} {z = z} h ns b nt s nu e f) =
     let g = enclosed h in
     let r = complete b in
     let rest = complete f in
@@ -744,17 +710,17 @@ complete (else_if {c = c} {d = d} {t = t} {ss = ss} {bs = bs} {r = y} {v = v} {w
     let a6 = newlines_shrink o p nu in
     let a7 = spells_shrink k.If w p q (λ q. cc) e in
     let a8 = rest.less in
-    chained c d (branch_of t (tree.Block ss) ∷ bs) y i z (omega arith)
-    (λ k' found fuel clear. else_if_is c d k' found t ss bs y v w i j l m n o p q z g ns r nt s nu e (rest.read k' (found ++ branch_of t (tree.Block ss) ∷ []) (omega arith) clear))
-complete (while_loop {c = c} {d = d} {t = t} {ss = ss} {w = w} {i = i} {j = j} {l = l} {m = m} {n = n} s h ns b) =
+    chained c d (branch_of t st ∷ bs) y i z (omega arith)
+    (λ k' found fuel. else_if_is c d k' found t st bs y v w i j l m n o p q z g ns r nt s nu e (rest.read k' (found ++ branch_of t st ∷ []) (omega arith)))
+complete (while_loop {c = c} {d = d} {t = t} {s = st} {w = w} {i = i} {j = j} {l = l} {m = m} {n = n} s h ns b) =
     let g = enclosed h in
     let r = complete b in
     let a1 = spells_shrink k.While w i j (λ q. cc) s in
     let a2 = g.less in
     let a3 = newlines_shrink l m ns in
     let a4 = r.less in
-    record { first = ap begins s.is_kind; less = omega arith; read = λ _. opened_is c d k.While w i j _ refl s (while_is c d t ss j l m n g ns r) }
-complete (do_loop {c = c} {d = d} {t = t} {ss = ss} {v = v} {w = w} {i = i} {j = j} {l = l} {m = m} {n = n} {o = o} {p = p} {q = q} s ns b nt e h f) =
+    record { first = ap begins s.is_kind; less = omega arith; read = opened_is c d k.While w i j _ refl s (while_is c d t st j l m n g ns r) }
+complete (do_loop {c = c} {d = d} {t = t} {s = st} {v = v} {w = w} {i = i} {j = j} {l = l} {m = m} {n = n} {o = o} {p = p} {q = q} s ns b nt e h f) =
     let g = enclosed h in
     let r = complete b in
     let a1 = spells_shrink k.Do v i j (λ q. cc) s in
@@ -763,9 +729,9 @@ complete (do_loop {c = c} {d = d} {t = t} {ss = ss} {v = v} {w = w} {i = i} {j =
     let a4 = newlines_shrink m n nt in
     let a5 = spells_shrink k.While w n o (λ q. cc) e in
     let a6 = g.less in
-    let a7 = separator_less p q f in
-    record { first = ap begins s.is_kind; less = omega arith; read = λ _. opened_is c d k.Do v i j _ refl s (do_is c d t ss w j l m n o p q ns r nt e g f) }
-complete (count_loop {c = c} {d = d} {h = h} {ss = ss} {v = v} {w = w} {i = i} {j = j} {l = l} {m = m} {n = n} {o = o} s e f ns b) =
+    let a7 = ends_less p q f in
+    record { first = ap begins s.is_kind; less = omega arith; read = opened_is c d k.Do v i j _ refl s (do_is c d t st w j l m n o p q ns r nt e g f) }
+complete (count_loop {c = c} {d = d} {h = h} {s = st} {v = v} {w = w} {i = i} {j = j} {l = l} {m = m} {n = n} {o = o} s e f ns b) =
     let g = headed f in
     let r = complete b in
     let a1 = spells_shrink k.For v i j (λ q. cc) s in
@@ -773,8 +739,8 @@ complete (count_loop {c = c} {d = d} {h = h} {ss = ss} {v = v} {w = w} {i = i} {
     let a3 = g.less in
     let a4 = newlines_shrink m n ns in
     let a5 = r.less in
-    record { first = ap begins s.is_kind; less = omega arith; read = λ _. opened_is c d k.For v i j _ refl s (count_is c d (left i) h ss w j l m n o e g ns r) }
-complete (member_loop {c = c} {d = d} {ss = ss} {t = t} {u = u} {v = v} {w = w} {x = z} {y = y} {i = i} {j = j} {l = l} {m = m} {n = n} {o = o} {p = p} {q = q} {r = r} s a b e f g ns h) =
+    record { first = ap begins s.is_kind; less = omega arith; read = opened_is c d k.For v i j _ refl s (count_is c d (left i) h st w j l m n o e g ns r) }
+complete (member_loop {c = c} {d = d} {s = st} {t = t} {u = u} {v = v} {w = w} {x = z} {y = y} {i = i} {j = j} {l = l} {m = m} {n = n} {o = o} {p = p} {q = q} {r = r} s a b e f g ns h) =
     let body = complete h in
     let a1 = spells_shrink k.For t i j (λ q. cc) s in
     let a2 = spells_shrink k.LeftParen u j l (λ q. cc) a in
@@ -784,8 +750,8 @@ complete (member_loop {c = c} {d = d} {ss = ss} {t = t} {u = u} {v = v} {w = w} 
     let a6 = spells_shrink k.RightParen y o p (λ q. cc) g in
     let a7 = newlines_shrink p q ns in
     let a8 = body.less in
-    record { first = ap begins s.is_kind; less = omega arith; read = λ _. opened_is c d k.For t i j _ refl s (member_is c d (left i) ss u v w z y j l m n o p q r a b e f g ns body) }
+    record { first = ap begins s.is_kind; less = omega arith; read = opened_is c d k.For t i j _ refl s (member_is c d (left i) st u v w z y j l m n o p q r a b e f g ns body) }
 
-pub action_complete : (c : Context) (d : ℕ) (ss : List Stmt) (i j : Input) → PlainStates c d (Action ss) i j → (kind i ≡ k.LeftBrace) × (left j < left i) × (x.action d c i ≡ Ok (ss, j))
+pub action_complete : (c : Context) (d : ℕ) (ss : List Stmt) (i j : Input) → States c d (Action ss) i j → (kind i ≡ k.LeftBrace) × (left j < left i) × (x.action d c i ≡ Ok (ss, j))
 unfolding Completes
 action_complete c d ss i j h = let g = complete h in (g.first, g.less, g.alone)

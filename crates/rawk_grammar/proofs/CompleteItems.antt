@@ -1,5 +1,5 @@
--- The parser of programs reads all that is derived by plain rules.
-use Rattle.std.proofs.Common.{◌≡◌, ◌≢◌, ℕ, zero, suc, ◌<◌, ◌≤◌, Bool, true, false, cond, ◌⊎◌, inl, inr, List, [], ◌∷◌, ◌++◌, length, Result, Ok, Err, refl, sym, ap, ◌∙◌, append_assoc, append-nil, arith}
+-- The parser of programs reads all that is derived.
+use Rattle.std.proofs.Common.{◌≡◌, ◌≢◌, ℕ, zero, suc, ◌+◌, ◌<◌, ◌≤◌, Bool, true, false, cond, ◌⊎◌, inl, inr, List, [], ◌∷◌, ◌++◌, length, Result, Ok, Err, refl, sym, ap, ◌∙◌, append_assoc, append-nil, arith}
 use Rattle.rawk_lexer.specs.declared.token.Kind.{Kind}
 use Rattle.rawk_lexer.specs.declared.token.Kind.TheVariants as k
 use Rattle.rawk_lexer.specs.Moves.{some_left}
@@ -12,8 +12,7 @@ use Rattle.rawk_parsing.specs.declared.tree.Name.{Name}
 use Rattle.rawk_parsing.specs.Parser.{Input, Outcome, Parses, and_then, ◌>>=◌, ◌>>◌, pure, expect, sees, newlines, name, name_at, bare_name}
 use Rattle.rawk_expression.specs.Expression.{expression}
 use Rattle.rawk_parsing.specs.Tokens.{Spells, Newlines}
-use Rattle.rawk_expression.specs.Grammar.{Whole}
-use Rattle.rawk_expression.specs.Plain.{Plain}
+use Rattle.rawk_expression.specs.Grammar.{Whole, Derives}
 use Rattle.rawk_expression.specs.Follow.{ends, apart, not_seen, seen, expect_is, bare_name_is, by_kind, newlines_exact}
 use Rattle.rawk_expression.specs.Fronts.{begins as starts_expression, spells_shrink, shrinks, newlines_shrink, not_newline, fronts}
 use Rattle.rawk_expression.specs.Complete.{whole_complete}
@@ -29,26 +28,26 @@ use Rattle.rawk_grammar.specs.declared.tree.Stmt.{Stmt}
 use Rattle.rawk_grammar.specs.Context.{of}
 use Rattle.rawk_grammar.specs.Items as x
 use Rattle.rawk_grammar.specs.Statement as statement
-use Rattle.rawk_grammar.specs.Programs.{Names, one, several, Parameters, no_parameter, parameters, Separates, nothing, a_semicolon, a_newline}
-use Rattle.rawk_grammar.specs.Plain.{Separator, PlainPatterns, when, range, PlainParts, begin, ending, always, rule, function, PlainTexts, finish, part, pattern, last_pattern, IsPlainText}
-use Rattle.rawk_grammar.specs.Texts.{IsItems}
+use Rattle.rawk_grammar.specs.Programs.{Patterns, when, range, Names, one, several, Parameters, no_parameter, parameters, Parts, begin, ending, always, rule, bare_rule, function, Separates, nothing, a_semicolon, a_newline, Texts, finish, part}
+use Rattle.rawk_grammar.specs.Texts.{IsText, IsItems}
 use Rattle.rawk_grammar.proofs.Steps.{go_on, on_true, on_false, eats, leaves}
-use Rattle.rawk_grammar.proofs.Complete.{separator_less, action_complete}
+use Rattle.rawk_grammar.proofs.Complete.{action_complete}
+use Rattle.rawk_grammar.proofs.Depths.{within}
 
 -- ---- rules
 
 pub record Patterned (d : ℕ) (p : Pattern) (i j : Input) : Type 0 where
   pub first : starts_expression (kind i) ≡ true
-  pub less : left j ≤ left i
+  pub less : left j < left i
   pub read : ends (kind j) ≡ true → kind j ≢ k.Comma → x.pattern (suc d) i ≡ Ok (p, j)
 
-when_is : (d : ℕ) (e : Expr) (i j : Input) → Plain d (Whole false e) i j → ends (kind j) ≡ true → kind j ≢ k.Comma → x.pattern (suc d) i ≡ Ok (guard.When (left i) e, j)
+when_is : (d : ℕ) (e : Expr) (i j : Input) → Derives d (Whole false e) i j → ends (kind j) ≡ true → kind j ≢ k.Comma → x.pattern (suc d) i ≡ Ok (guard.When (left i) e, j)
 unfolding x.pattern
 when_is d e i j h en ne =
     go_on (expression (suc d) want.Whole i) _ e j _ (whole_complete d false e i j h en)
     (leaves k.Comma j (λ m. and_then (expression (suc d) want.Whole (newlines m)) (λ f. pure (guard.Range (left i) e f))) (pure (guard.When (left i) e)) _ ne refl)
 
-range_is : (d : ℕ) (e f : Expr) (w : List ℕ) (i j l m n : Input) → Plain d (Whole false e) i j → Spells k.Comma w j l → Newlines l m → Plain d (Whole false f) m n → ends (kind n) ≡ true
+range_is : (d : ℕ) (e f : Expr) (w : List ℕ) (i j l m n : Input) → Derives d (Whole false e) i j → Spells k.Comma w j l → Newlines l m → Derives d (Whole false f) m n → ends (kind n) ≡ true
     → x.pattern (suc d) i ≡ Ok (guard.Range (left i) e f, n)
 unfolding x.pattern
 range_is d e f w i j l m n h s ns g en =
@@ -56,7 +55,7 @@ range_is d e f w i j l m n h s ns g en =
     (eats k.Comma w j l (λ m. and_then (expression (suc d) want.Whole (newlines m)) (λ f. pure (guard.Range (left i) e f))) (pure (guard.When (left i) e)) _ s
     (go_on (expression (suc d) want.Whole (newlines l)) (λ f. pure (guard.Range (left i) e f)) f n _ (ap (expression (suc d) want.Whole) (newlines_exact l m (not_newline _ (fronts g)) ns) ∙ whole_complete d false f m n g en) refl))
 
-patterned : {d : ℕ} {p : Pattern} {i j : Input} → PlainPatterns d p i j → Patterned d p i j
+patterned : {d : ℕ} {p : Pattern} {i j : Input} → Patterns d p i j → Patterned d p i j
 patterned (when {d = d} {e = e} {i = i} {j = j} h) = (let a = shrinks h in record { first = fronts h; less = omega arith; read = λ en ne. when_is d e i j h en ne })
 patterned (range {d = d} {e = e} {f = f} {w = w} {i = i} {j = j} {l = l} {m = m} {n = n} h s ns g) =
     let a = shrinks h in
@@ -211,7 +210,7 @@ ruled_is : (d : ℕ) (p : Pattern) (a : Action) (i j l : Input) → Patterned d 
 unfolding x.item
 ruled_is d p a i j l g en ne h = by_rule (suc d) d (left i) (kind i) i g.first ∙ rule_is d p a i j l (g.read en ne) h
 
-parted : {d : ℕ} {y : Item} {i j : Input} → PlainParts d y i j → Parted d y i j
+parted : {d : ℕ} {y : Item} {i j : Input} → Parts d y i j → Parted d y i j
 parted (begin {d = d} {ss = ss} {w = w} {i = i} {j = j} {l = l} s h) =
     let g = action_complete (of owner.BeginOrEnd) d ss j l h in
     record {
@@ -234,6 +233,12 @@ parted (rule {d = d} {p = p} {ss = ss} {i = i} {j = j} {l = l} h t) =
       first = rule_begins (kind i) g.first;
       read = ruled_is d p (does.Given ss) i j l g (ap ends r.0) (λ q. (let no : k.LeftBrace ≡ k.Comma = sym r.0 ∙ q in cc)) (given_is d ss j l r.0 r.2);
     }
+parted (bare_rule {d = d} {p = p} {i = i} {j = j} h e) =
+    let g = patterned h in
+    record {
+      first = rule_begins (kind i) g.first;
+      read = ruled_is d p (does.Missing (length j)) i j j g (pattern_ends (kind j) e) (apart x.ends_pattern (kind j) k.Comma e refl) (missing_is d j e);
+    }
 parted (function {d = d} {ns = ns} {ss = ss} {v = v} {w = w} {i = i} {j = j} {l = l} {m = m} {n = n} {o = o} s t p nl h) =
     let r = action_complete (of owner.Function) d ss n o h in
     record {
@@ -241,7 +246,7 @@ parted (function {d = d} {ns = ns} {ss = ss} {v = v} {w = w} {i = i} {j = j} {l 
       read = keyword_is d k.Function (item.Function (left i) (name_at j) ns ss) v i j _ s (ap (x.definition d (left i)) s.is_next ∙ definition_is d (left i) ns ss w j l m n o t (bound p) nl r.0 r.2);
     }
 
-part_less : {d : ℕ} {y : Item} {i j : Input} → PlainParts d y i j → left j < left i
+part_less : {d : ℕ} {y : Item} {i j : Input} → Parts d y i j → left j < left i
 part_less (begin {d = d} {ss = ss} {w = w} {i = i} {j = j} {l = l} s h) =
     let a = spells_shrink k.BeginKeyword w i j (λ q. cc) s in
     let b = (action_complete (of owner.BeginOrEnd) d ss j l h).1 in
@@ -255,6 +260,7 @@ part_less (rule {d = d} {p = p} {ss = ss} {i = i} {j = j} {l = l} h t) =
     let a = (patterned h).less in
     let b = (action_complete (of owner.Rule) d ss j l t).1 in
     omega arith
+part_less (bare_rule h e) = (patterned h).less
 part_less (function {d = d} {ns = ns} {ss = ss} {v = v} {w = w} {i = i} {j = j} {l = l} {m = m} {n = n} {o = o} s t p nl h) =
     let a1 = spells_shrink k.Function v i j (λ q. cc) s in
     let a2 = name_less w j l t in
@@ -262,15 +268,6 @@ part_less (function {d = d} {ns = ns} {ss = ss} {v = v} {w = w} {i = i} {j = j} 
     let a4 = newlines_shrink m n nl in
     let a5 = (action_complete (of owner.Function) d ss n o h).1 in
     omega arith
-
--- a pattern with no action
-bare : {d : ℕ} {p : Pattern} {i j : Input} → PlainPatterns d p i j → x.ends_pattern (kind j) ≡ true → Parted d (item.Rule p (does.Missing (length j))) i j
-bare {d = d} {p = p} {i = i} {j = j} h e =
-    let g = patterned h in
-    record {
-      first = rule_begins (kind i) g.first;
-      read = ruled_is d p (does.Missing (length j)) i j j g (pattern_ends (kind j) e) (apart x.ends_pattern (kind j) k.Comma e refl) (missing_is d j e);
-    }
 
 -- ---- programs
 
@@ -283,14 +280,6 @@ joined : {i j l : Input} → Separates i j → Separates j l → Separates i l
 joined nothing t = t
 joined (a_semicolon s r) t = a_semicolon s (joined r t)
 joined (a_newline s r) t = a_newline s (joined r t)
-
-separated : (i j : Input) → Separator i j → Separates i j
-separated i j (w, inl s) = a_semicolon s nothing
-separated i j (w, inr s) = a_newline s nothing
-
-separator_parts : (i j : Input) → Separator i j → x.ends_pattern (kind i) ≡ true
-separator_parts i j (w, inl s) = ap x.ends_pattern s.is_kind
-separator_parts i j (w, inr s) = ap x.ends_pattern s.is_kind
 
 one_more : (n : ℕ) (c : Kind) (w : List ℕ) (i j l : Input) → x.separates c ≡ true → c ≢ k.EndOfText → left i ≤ n → Spells c w i j → ((n : ℕ) → left j ≤ n → x.separators_from n j ≡ l) → x.separators_from n i ≡ l
 unfolding x.separators_from
@@ -344,22 +333,14 @@ further d (suc n) found y ys i j l s g le rest =
     (r.0, item_is d n found y i j l _ (separators_exact i j (item_parts (kind j) g.first) s) (apart begins_item (kind j) k.EndOfText g.first refl) g.read (r.1 ∙ ap (λ v. done v r.0) (append_assoc found (y ∷ []) ys)))
 
 -- the number counts the turns from behind the separators on
-whole_from : {d : ℕ} {ys : List Item} {i : Input} → PlainTexts d ys i → (g : Input) → Separates g i → (n : ℕ) (found : List Item) → left i ≤ n → Found d n found ys g
+whole_from : {d : ℕ} {ys : List Item} {i : Input} → Texts d ys i → (g : Input) → Separates g i → (n : ℕ) (found : List Item) → left i ≤ n → Found d n found ys g
 whole_from (finish {d = d} {i = i} {j = j} s e) g t n found le = ended d n found g j (joined t s) e
 whole_from (part {d = d} {x = y} {xs = ys} {i = i} {j = j} {l = l} s h r) g t n found le =
     let a = separates_shrink i j s in
     let b = part_less h in
     further d n found y ys g j l (joined t s) (parted h) (omega arith) (λ m le'. whole_from r l nothing m (found ++ y ∷ []) (omega arith))
-whole_from (pattern {d = d} {p = p} {xs = ys} {i = i} {j = j} {l = l} {m = m} s h e r) g t n found le =
-    let a = separates_shrink i j s in
-    let b = (patterned h).less in
-    let c = separator_less l m e in
-    further d n found (item.Rule p (does.Missing (length l))) ys g j l (joined t s) (bare h (separator_parts l m e)) (omega arith) (λ q le'. whole_from r l (separated l m e) q (found ++ item.Rule p (does.Missing (length l)) ∷ []) (omega arith))
-whole_from (last_pattern {d = d} {p = p} {i = i} {j = j} {l = l} s h e) g t n found le =
-    let a = separates_shrink i j s in
-    further d n found (item.Rule p (does.Missing (length l))) [] g j l (joined t s) (bare h (ap x.ends_pattern e)) (omega arith) (λ q le'. ended d q (found ++ item.Rule p (does.Missing (length l)) ∷ []) l l nothing e)
 
-whole_program : (depth : ℕ) (ys : List Item) (i : Input) → IsPlainText depth ys i → (j : Input) × (x.program depth i ≡ Ok (ys, j))
+whole_program : (depth : ℕ) (ys : List Item) (i : Input) → IsText depth ys i → (j : Input) × (x.program depth i ≡ Ok (ys, j))
 unfolding x.program x.items
 whole_program zero ys i h = absurd h
 whole_program (suc d) ys i h = whole_from h i nothing (left i) [] (omega arith)
@@ -367,10 +348,16 @@ whole_program (suc d) ys i h = whole_from h i nothing (left i) [] (omega arith)
 same_first : (o : Outcome (List Item)) (p q : List Item × Input) → o ≡ Ok p → o ≡ Ok q → p.0 ≡ q.0
 same_first o p q h g = let e : p ≡ q = cc in ap (λ r. r.0) e
 
-pub plain_from : (depth : ℕ) (r : Result (List Item) ParseError) (text new : Input) → Parses (x.program depth text) r new → (items : List Item) → IsPlainText depth items text → IsItems items r
-plain_from depth (Ok found) text new h items t = let g = whole_program depth items text t in same_first (x.program depth text) (found, new) (items, g.0) h g.1
-plain_from depth (Err refused.OutOfMemory) text new h items t = refl
-plain_from depth (Err (refused.Here kind place)) text new h items t =
+pub read_from : (depth : ℕ) (r : Result (List Item) ParseError) (text new : Input) → Parses (x.program depth text) r new → (items : List Item) → IsText depth items text → IsItems items r
+read_from depth (Ok found) text new h items t = let g = whole_program depth items text t in same_first (x.program depth text) (found, new) (items, g.0) h g.1
+read_from depth (Err refused.OutOfMemory) text new h items t = refl
+read_from depth (Err (refused.Here kind place)) text new h items t =
     let g = whole_program depth items text t in
     let no : x.program depth text ≡ Err (refused.Here kind place) = h (λ q. cc) in
     cc
+
+pub one_program : (depth other : ℕ) (a b : List Item) (text : List ℕ) → IsText depth a text → IsText other b text → a ≡ b
+one_program depth other a b text g h =
+    let p = whole_program (depth + other) a text (within depth (depth + other) a text (omega arith) g) in
+    let q = whole_program (depth + other) b text (within other (depth + other) b text (omega arith) h) in
+    same_first (x.program (depth + other) text) (a, p.0) (b, q.0) p.1 q.1

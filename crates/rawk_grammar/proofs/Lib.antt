@@ -3,4 +3,5 @@ mod Sound
 mod SoundItems
 mod Complete
 mod CompleteItems
+mod Depths
 mod NoElse

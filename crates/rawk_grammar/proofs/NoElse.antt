@@ -135,7 +135,7 @@ no_else_behind (do_loop a b s e f g n) h = never _ (dangles-Do _ _) h
 no_else_behind (count_loop a b e f r) h = no_else_behind r (sym (dangles-For _ _) ∙ h)
 no_else_behind (member_loop a b e f g n o r) h = no_else_behind r (sym (dangles-ForIn _ _ _ _) ∙ h)
 
-unseen : (i : Input) → NoElse i → sees k.Else (newlines i) ≡ false
+pub unseen : (i : Input) → NoElse i → sees k.Else (newlines i) ≡ false
 unseen i n = false_from_ne_true (sees k.Else (newlines i)) (λ q. n (newlines i) (newlines_are i) (sees_kind k.Else (newlines i) q))
 
 no_branch_at_zero : (c : Context) (i : Input) (r : Branch × Input) {X : Type 0} → x.branch zero (x.statement zero) c i ≡ Ok r → X

@@ -5,5 +5,4 @@ pub mod Items
 pub mod Grammar
 pub mod Programs
 pub mod Texts
-pub mod Plain
 pub mod Dangling

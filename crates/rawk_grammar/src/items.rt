@@ -4,7 +4,6 @@ ghost use Rattle.std.specs.Prelude.{◌≡◌, IfOk, List};
 ghost use Rattle.rawk_parsing.specs.Parser.{Parses};
 ghost use Rattle.rawk_grammar.specs.Items as spec;
 ghost use Rattle.rawk_grammar.specs.Texts.{IsText, IsItems};
-ghost use Rattle.rawk_grammar.specs.Plain.{IsPlainText};
 
 use crate::context::{Context, Owner};
 use crate::statements::action;
@@ -230,8 +229,8 @@ pub fn program(
     ensures exact { Parses (spec.program depth tokens.old) result tokens.new }
     // What is read is derived from the text by the grammar, within the limit.
     ensures found { IfOk result (λ items. IsText depth items tokens.old) }
-    // What is derived by plain rules, within the limit, is read, unless memory is refused.
-    ensures plain { (items : List Item) → IsPlainText depth items tokens.old → IsItems items result }
+    // What is derived within the limit is read, unless memory is refused.
+    ensures derived { (items : List Item) → IsText depth items tokens.old → IsItems items result }
 {
     whole(alloc, tokens, depth)
 }

@@ -5,6 +5,7 @@ pub mod context;
 mod dangling;
 mod heads;
 mod items;
+pub mod laws;
 mod simple;
 mod statements;
 pub mod tree;

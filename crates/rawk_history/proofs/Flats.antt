@@ -1,9 +1,10 @@
 -- Steps that are kept behind one another.
-use Rattle.std.proofs.Common.{◌≡◌, ℕ, suc, zero, ◌+◌, ◌-◌, ◌≤◌, Bool, true, false, List, [], ◌∷◌, ◌++◌, get_or, length, take, drop, reverse, Option, Some, None, option_to_list, is_some, if◌then◌else◌, refl, sym, ap, ◌∙◌, subst, arith, append-nil}
+use Rattle.std.proofs.Common.{◌≡◌, ℕ, suc, zero, ◌+◌, ◌-◌, ◌<◌, ◌≤◌, List, [], ◌∷◌, ◌++◌, get_or, length, take, drop, reverse, Option, Some, None, MatchOption, option_copied, Bor, option_to_list, is_some, if◌then◌else◌, refl, sym, ap, ◌∙◌, subst, arith, append-nil}
 use Rattle.std.specs.Global.{Vec}
 use Rattle.std.specs.Option.{unwrap_or}
-use Rattle.std.proofs.lemmas.List.{reverse-append, take_all, drop_at, take_at, length-append, length-take-le, length-drop}
-use Rattle.std.proofs.lemmas.List.Sums.{sum_by-cons}
+use Rattle.std.proofs.lemmas.List.{reverse-append, take_all, drop_at, take_at, take_more, length-append, length-take-le, length-drop}
+use Rattle.std.specs.List.{slice_get}
+use Rattle.std.proofs.lemmas.Option.{slice_get-get_or}
 use Rattle.std.proofs.lemmas.List.Sorted.{sum_by-IsPermutation, IsPermutation-reverse}
 use Rattle.rawk_value.specs.declared.value.Value.{Value}
 use Rattle.rawk_slots.specs.declared.saved.Saved.{Saved}
@@ -14,8 +15,8 @@ use Rattle.rawk_history.specs.declared.full.Mark.{Mark}
 use Rattle.rawk_history.specs.declared.full.Slow.{Slow}
 use Rattle.rawk_store.specs.Groups.{Group}
 use Rattle.rawk_history.specs.Steps.{Kept}
-use Rattle.rawk_store.specs.Saving.{one_if_some, saved_elements}
-use Rattle.rawk_history.specs.Saving.{saved_in_groups, saved_by, saved_by_all, saved_in_others, saved_in_sets}
+use Rattle.rawk_store.specs.Saving.{ElementsOnce}
+use Rattle.rawk_history.specs.Saving.{saved_in_groups, saved_in_others, saved_in_sets}
 use Rattle.rawk_history.specs.Flat.{first_if, rest_if, items_of, step_by, step_of, kept_of, newest_slow, registers_by, slow_of, AreMarked, EndsBehind, IsFull}
 use Rattle.rawk_store.specs.Layout.{Layout}
 use Rattle.rawk_history.specs.Keeping.{IsPutBack, KeepsStep}
@@ -98,32 +99,10 @@ full_added marks marks2 m globals list globals2 entries live n others others2 re
           (subst (λ (ms : List Mark). AreMarked ms globals2 (reverse others2) (reverse records2) (reverse sets2)) (sym (ap (λ (ms : List Mark). reverse ms) marked ∙ reverse-append marks (m ∷ []))) all);
     }
 
--- how many old values the steps hold
-count_if : {T : Type 0} (b : Bool) (xs : List T) → one_if_some (first_if b xs) + length (rest_if b xs) ≡ length xs
-count_if false xs = omega arith
-count_if true [] = omega arith
-count_if true (x ∷ xs) = omega arith
-
-others_if : (b : Bool) (xs : List Others) → saved_elements (first_if b xs) + saved_in_others (rest_if b xs) ≡ saved_in_others xs
-others_if false xs = omega arith
-others_if true [] = omega arith
-others_if true (x ∷ xs) = sym (sum_by-cons (λ (o : Others). length o.arrays.slots.entries.items) x xs)
-
-sets_if : (b : Bool) (xs : List (Vec Group)) → saved_in_groups (items_of (first_if b xs)) + saved_in_sets (rest_if b xs) ≡ saved_in_sets xs
-sets_if false xs = omega arith
-sets_if true [] = omega arith
-sets_if true (x ∷ xs) = sym (sum_by-cons (λ (v : Vec Group). saved_in_groups v.items) x xs)
-
-pub saved_flat : (marks : List Mark) (slows : List Slow) (globals : List (Saved Value)) (others : List Others) (records : List Shown) (sets : List (Vec Group)) → AreMarked marks globals others records sets →
-    saved_by_all (kept_of marks slows globals others records sets) ≡ length globals + length records + saved_in_others others + saved_in_sets sets
-saved_flat [] slows globals others records sets (g, o, r, s) = rw (g, o, r, s) refl
-saved_flat (m ∷ ms) slows globals others records sets (le, d, h) =
-    let rest = saved_flat ms (rest_if m.has_state slows) (take m.globals globals) (rest_if m.has_others others) (rest_if m.has_record records) (rest_if m.has_sets sets) h in
-    let item : Kept = record { step = step_of m (newest_slow slows) globals (first_if m.has_others others) (first_if m.has_record records); sets = items_of (first_if m.has_sets sets) } in
-    let whole = sum_by-cons saved_by item (kept_of ms (rest_if m.has_state slows) (take m.globals globals) (rest_if m.has_others others) (rest_if m.has_record records) (rest_if m.has_sets sets)) in
-    let first = length-take-le m.globals globals le in
-    let last = length-drop m.globals globals in
-    whole ∙ omega (arith, rest, first, last, le, count_if m.has_record records, others_if m.has_others others, sets_if m.has_sets sets)
+-- old values of elements carry that no slot stands twice
+pub elements_once : (others : Option Others) → ElementsOnce others
+elements_once None = tt
+elements_once (Some o) = o.arrays.slots.distinct
 
 -- the step with its sets, in front of what was kept
 pub is_added : (start now : Layout) (list longer : List (Saved Value)) (others fo : Option Others) (current fr : Option Shown) (output out : ℕ) (registers regs : Registers) (taken fs : Option (Vec Group)) (here : List Group) (old old2 new : List Kept) →
@@ -137,6 +116,7 @@ is_added start now list longer others fo current fr output out registers regs ta
       item = item;
       back = e.back;
       fits = e.fits;
+      once = record { globals = e.distinct; elements = elements_once others };
       sets = refl;
       front = record { rest = []; is = sym (append-nil new ∙ is) };
       count = omega (arith, ap length is);
@@ -189,6 +169,22 @@ newest_is marks m slows globals others records sets ms is = (
   refl,
   refl,
 )
+
+-- the last is the newest, or there is none
+pub taken : {T : Type 0} (xs : List T) → MatchOption (slice_get xs (length xs - 1)) ((reverse xs ≡ []) × (reverse (take (length xs - 1) xs) ≡ [])) (λ e. reverse xs ≡ e ∷ reverse (take (length xs - 1) xs))
+taken [] = (refl, refl)
+taken {T} (y ∷ ys) =
+    let xs = y ∷ ys in
+    let n = length xs - 1 in
+    let lt : n < length xs = omega arith in
+    let all : xs ≡ take n xs ++ get_or xs n y ∷ [] = sym (take_all (n + 1) xs (omega arith)) ∙ take_more xs n y lt in
+    rw (slice_get-get_or xs n y lt) (ap (reverse {A = T}) all ∙ reverse-append (take n xs) (get_or xs n y ∷ []))
+
+-- the last, lent, where there is one
+pub lent_some : {T : Type 0} (xs : List T) (o : Option (Bor T)) (r : Bor T) → option_copied o ≡ slice_get xs (length xs - 1) → o ≡ Some r → (rest : List T) × (reverse xs ≡ r.now ∷ rest)
+lent_some {T} xs o r last is =
+    let some : slice_get xs (length xs - 1) ≡ Some r.now = sym last ∙ ap (λ (x : Option (Bor T)). option_copied x) is in
+    (reverse (take (length xs - 1) xs), rw some at (taken xs))
 
 pub popped_is : (marks rest : List Mark) (o : Option Mark) (m : Mark) → marks ≡ rest ++ option_to_list o → o ≡ Some m → marks ≡ rest ++ m ∷ []
 popped_is marks rest o m all is = all ∙ ap (λ (x : Option Mark). rest ++ option_to_list x) is

@@ -1,2 +1,3 @@
-mod RingLemmas
 pub mod Flats
+pub mod Saved
+mod Parts

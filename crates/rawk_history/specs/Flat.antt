@@ -29,6 +29,11 @@ abbrev pub items_of : Option (Vec Group) → List Group
 items_of None = []
 items_of (Some groups) = groups.items
 
+-- how many old values of globals stand before those of these steps, the newest first, of so many in all
+abbrev pub began_by : List Mark → ℕ → ℕ
+began_by [] live = live
+began_by (m ∷ ms) live = began_by ms m.globals
+
 -- what few steps change of these registers, with the bytes of output
 abbrev pub slow_of : ℕ → Registers → Slow
 slow_of output r = record { output = output; phase = r.phase; status = r.status; ending = r.ending }

@@ -6,6 +6,7 @@ use Rattle.rawk_store.specs.Layout.{Layout}
 use Rattle.rawk_store.specs.Groups.{Group}
 use Rattle.rawk_history.specs.Steps.{Kept, Forth}
 use Rattle.rawk_store.specs.GroupBack.{ArraysFit, FitsIn, arrays_in, put_back}
+use Rattle.rawk_store.specs.Saving.{SavesOnce}
 
 -- the first part of a list
 pub record IsFront {T : Type 0} (xs ys : List T) : Type 0 where
@@ -21,11 +22,12 @@ abbrev pub keeps_any : Option ℕ → Bool
 keeps_any None = true
 keeps_any (Some h) = nat_lt 0 h
 
--- the step is kept, with the groups of the sets made at the point that it left
+-- the step is kept, of each global and each element one old value at most, with the groups of the sets made at the point that it left
 pub record KeepsStep (start now : Layout) (old new : List Kept) (here : List Group) (limit : Option ℕ) : Type 0 where
   pub item : Kept
   pub back : put_back now item.step ≡ start
   pub fits : FitsIn item.step now
+  pub once : SavesOnce item.step
   pub sets : item.sets ≡ here
   pub front : IsFront new (item ∷ old)
   pub count : length new ≡ room limit (length old + 1)

@@ -1,16 +1,16 @@
 //! A keeper of every step, whose old values lie behind one another.
 
-ghost use Rattle.std.specs.Prelude.{◌≡◌, ◌<◌, ◌≤◌, [], IfOk, None, OnErr, OnOk, drop, length, reverse, take, vec_len};
+ghost use Rattle.std.specs.Prelude.{◌≡◌, ◌<◌, ◌≤◌, [], IfOk, None, OnErr, OnOk, count_by, drop, length, reverse, take, vec_len};
 ghost use Rattle.std.specs.Bool.{OnTrue};
 ghost use Rattle.std.specs.Option.{option_copied};
 ghost use Rattle.std.specs.Vec.{vec_capacity};
 ghost use Rattle.rawk_slots.specs.Back.{AreDistinctFrom, back};
 ghost use Rattle.rawk_record.specs.Shown.{record_back};
-ghost use Rattle.rawk_history.specs.Flat.{EndsBehind, first_if, items_of, newest_slow, registers_by, rest_if, slow_of, step_by};
+ghost use Rattle.rawk_history.specs.Flat.{EndsBehind, began_by, first_if, items_of, newest_slow, registers_by, rest_if, slow_of, step_by};
 ghost use Rattle.rawk_store.specs.GroupBack.{ArraysFit, FitsIn, arrays_in, put_back};
 ghost use Rattle.rawk_store.specs.Layout.{IsSound};
-ghost use Rattle.rawk_store.specs.Stores.{now_of, start_of};
-ghost use Rattle.rawk_history.specs.Saving.{Counts, saved_in_sets};
+ghost use Rattle.rawk_store.specs.Stores.{BeganNested, now_of, start_of};
+ghost use Rattle.rawk_history.specs.Saving.{Counts, saved_by_all, saved_in_sets};
 
 use crate::keeper::{Keeper, StepRef};
 use crate::saving::{saved_in_groups, saved_in_others};
@@ -102,6 +102,66 @@ impl Full {
             newer_sets: Vec::new(alloc),
         }
     }
+
+    /// How many steps it keeps.
+    #[inline]
+    pub(crate) fn len(&self) -> usize
+        ensures { result ≡ length self.now.kept }
+    {
+        self.marks.len()
+    }
+
+    /// How many old values of globals, elements and records the newest steps hold, so many or all. It takes no memory, looks at each of these steps, and stays
+    /// at the greatest number of 128 bits.
+    pub(crate) fn saved_in_newest(&self, count: usize) -> u128
+        ensures { Counts (saved_by_all (take count self.now.kept)) result }
+    {
+        let marks = newest_of(&self.marks, count);
+        let globals = self.live.saturating_sub(first_global(marks, self.live));
+        let records = newest_of(&self.records, records_in(marks)).len();
+        let others = saved_in_others(newest_of(&self.others, others_in(marks)));
+        let sets = saved_in_sets(newest_of(&self.sets, sets_in(marks)));
+        let saved = (globals as u128).saturating_add(records as u128);
+        saved.saturating_add(others).saturating_add(sets)
+    }
+}
+
+/// The last items, so many or all.
+fn newest_of<T>(list: &[T], count: usize) -> &[T]
+    ensures { reverse result.now ≡ take count (reverse list.now) }
+{
+    &list[list.len().saturating_sub(count)..]
+}
+
+/// How many old values of globals stand before those of these steps, the oldest first: all, where there is no step.
+fn first_global(marks: &[Mark], live: usize) -> usize
+    ensures { result ≡ began_by (reverse marks.now) live }
+{
+    match marks.first() {
+        Some(mark) => mark.globals,
+        None => live,
+    }
+}
+
+/// How many of these steps changed other parts.
+fn others_in(marks: &[Mark]) -> usize
+    ensures { result ≡ count_by (λ m. m.has_others) marks.now }
+{
+    marks.iter().filter(|mark| mark.has_others).count()
+}
+
+/// How many of these steps have a record.
+fn records_in(marks: &[Mark]) -> usize
+    ensures { result ≡ count_by (λ m. m.has_record) marks.now }
+{
+    marks.iter().filter(|mark| mark.has_record).count()
+}
+
+/// How many of these steps have groups of sets.
+fn sets_in(marks: &[Mark]) -> usize
+    ensures { result ≡ count_by (λ m. m.has_sets) marks.now }
+{
+    marks.iter().filter(|mark| mark.has_sets).count()
 }
 
 /// Adds an item, if there is one, and answers whether there was.
@@ -300,6 +360,7 @@ fn finish_behind(
     others: &mut Vec<Others>,
     records: &mut Vec<Record>,
 ) -> Result<Rest, AllocError>
+    requires nested { BeganNested store.old }
     requires others { vec_len others.old < vec_capacity others.old }
     requires records { vec_len records.old < vec_capacity records.old }
     ensures did { IfOk result (λ rest. EndsBehind (first_if rest.has_others (reverse others.new.items)) (first_if rest.has_record (reverse records.new.items)) rest.output rest.registers (start_of store.old) (now_of store.old) (take count globals.old.items) globals.new.items) }
@@ -445,9 +506,7 @@ impl Keeper for Full {
     }
 
     fn saved(&self) -> u128 {
-        let mut count = (self.live as u128).saturating_add(self.records.len() as u128);
-        count = count.saturating_add(saved_in_others(&self.others));
-        count.saturating_add(saved_in_sets(&self.sets))
+        self.saved_in_newest(self.len())
     }
 
     fn newest(&self) -> Option<StepRef<'_>> {

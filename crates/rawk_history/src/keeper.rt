@@ -8,7 +8,7 @@ ghost use Rattle.rawk_store.specs.GroupBack.{FitsIn};
 ghost use Rattle.rawk_history.specs.Keeping.{IsPutBack, KeepsStep, keeps_any};
 ghost use Rattle.rawk_store.specs.Layout.{IsSound};
 ghost use Rattle.rawk_history.specs.Saving.{Counts, saved_by_all};
-ghost use Rattle.rawk_store.specs.Stores.{now_of, start_of};
+ghost use Rattle.rawk_store.specs.Stores.{BeganNested, now_of, start_of};
 
 use rawk_store::{Group, Others, Record, Saved, Store};
 use rawk_value::Value;
@@ -46,6 +46,7 @@ pub trait Keeper: Drop {
         store: &mut Store,
         sets: &mut Vec<Group>,
     ) -> Result<(), AllocError>
+        requires nested { BeganNested store.old }
         ensures did { OnOk result (KeepsStep (start_of store.old) (now_of store.old) (kept self.old) (kept self.new) sets.old.items (limit self.old)) }
         ensures now { now_of store.new ≡ now_of store.old }
         ensures sound { IsSound (now_of store.old) }

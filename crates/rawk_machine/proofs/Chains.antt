@@ -1,5 +1,5 @@
 -- The groups that are kept lead back from point to point.
-use Rattle.std.proofs.Common.{◌≡◌, ℕ, suc, ◌+◌, ◌-◌, ◌≤◌, List, [], ◌∷◌, ◌++◌, length, refl, sym, ap, ◌∙◌, subst, arith}
+use Rattle.std.proofs.Common.{◌≡◌, ℕ, suc, ◌+◌, ◌-◌, ◌≤◌, List, [], ◌∷◌, ◌++◌, length, reverse, take, refl, sym, ap, ◌∙◌, subst, arith}
 use Rattle.rawk_value.specs.Values.{Bytes}
 use Rattle.rawk_value.specs.declared.value.Value.{Value}
 use Rattle.rawk_store.specs.declared.registers.Registers.{Registers}
@@ -11,14 +11,14 @@ use Rattle.rawk_store.specs.Saving.{saved_in}
 use Rattle.rawk_store.specs.GroupBack.{FitsIn, put_back}
 use Rattle.rawk_store.specs.Growth.{state-grown, operands-grown, keys-grown, Grown-put_back, FitsIn-grown, IsSound-put_back}
 use Rattle.rawk_history.specs.Keeping.{IsFront}
-use Rattle.std.proofs.lemmas.List.{append-nil}
+use Rattle.std.proofs.lemmas.List.{append-nil, length-reverse}
 use Rattle.rawk_code.specs.Actions.{SetAt, sets_at}
 use Rattle.rawk_frames.specs.LaidFrames.{returns_of}
 use Rattle.rawk_frames.specs.FramesLaws.{returns_of-grown}
 use Rattle.rawk_machine.specs.Arrival.{site_for}
 use Rattle.rawk_machine.specs.Standing.{Moment, Earlier, Past, LastMade}
 use Rattle.rawk_machine.specs.Kept.{moment_in, newest_first, but_last, below, all_back, unsets, back_in, pasts, IsPlaced, FitHere, EndsWith, Chain}
-use Rattle.rawk_machine.proofs.SetLists.{ends_next, below_next, ends_push, below_push, LastSet, last_set, below_but_last, take_front, none_at}
+use Rattle.rawk_machine.proofs.SetLists.{own_dropped, ends_next, below_next, ends_push, below_push, LastSet, last_set, below_but_last, take_front, none_at}
 
 abbrev moment_by : State → List Value → List (List Bytes) → List ℕ → Registers → Moment
 moment_by s vs ks rs r = record {
@@ -74,6 +74,12 @@ fit_here l point size sets here (item ∷ items) h = h.0
 pub ends_with : (l : Layout) (point size : ℕ) (sets : List SetAt) (here : List Group) (items : List Kept) → Chain l point size sets here items → EndsWith point (length here) sets
 ends_with l point size sets here [] h = h.1
 ends_with l point size sets here (item ∷ items) h = h.1
+
+-- without the sets of the point, which are as many as their groups, those of the points before
+pub own_below : (l : Layout) (point size : ℕ) (sets : List SetAt) (here : List Group) (items : List Kept)
+    → Chain l point size sets (reverse here) items → take (length sets - length here) sets ≡ below point sets
+own_below l point size sets here items h =
+    own_dropped point (length here) sets (subst (λ n. EndsWith point n sets) (length-reverse here) (ends_with l point size sets (reverse here) items h))
 
 back_in-grown : (l m : Layout) (point size : ℕ) (here : List Group) (item : Kept) → Grown l m → FitHere l point size here → FitsIn item.step (all_back l here) → Grown (back_in l here item) (back_in m here item)
 back_in-grown l m point size here item grew h f = Grown-put_back (all_back l here) (all_back m here) item.step (all_back-grown l m point size here grew h) f

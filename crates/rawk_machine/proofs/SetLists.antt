@@ -3,6 +3,7 @@ use Rattle.std.proofs.Common.{◌≡◌, ℕ, suc, ◌+◌, ◌-◌, ◌<◌, Bo
 use Rattle.std.specs.Prelude.{nat_lt, nat_eq}
 use Rattle.std.proofs.lemmas.Bool.{lt-ltb, le-ltb, eq-eqb, ne_eqb}
 use Rattle.std.proofs.lemmas.List.{append-nil, length-append}
+use Rattle.std.proofs.Math.Seq.{take-append_seam}
 use Rattle.rawk_code.specs.Actions.{SetAt, sets_at}
 use Rattle.rawk_machine.specs.Kept.{below, but_last, AllBelow, AllOf, EndsWith}
 
@@ -51,6 +52,17 @@ ends_next k n sets h = record { earlier = sets; own = []; is = sym (append-nil s
 
 pub below_next : (k n : ℕ) (sets : List SetAt) → EndsWith k n sets → below (k + 1) sets ≡ sets
 below_next k n sets h = below_all (k + 1) sets (ends_below k n sets h)
+
+-- without those of the point, the sets are those of the points before
+pub own_dropped : (k n : ℕ) (sets : List SetAt) → EndsWith k n sets → take (length sets - n) sets ≡ below k sets
+own_dropped k n sets h =
+    let all : length sets ≡ length h.earlier + length h.own = ap length h.is ∙ length-append h.earlier h.own in
+    let own : length h.own ≡ n = h.count_is in
+    let count : length sets - n ≡ length h.earlier = omega (arith, all, own) in
+    ap (λ m. take m sets) count
+    ∙ ap (take (length h.earlier)) h.is
+    ∙ take-append_seam h.earlier h.own
+    ∙ sym (ap (below k) h.is ∙ below_append k h.earlier h.own ∙ ap (λ (xs : List SetAt). xs ++ below k h.own) (below_all k h.earlier h.before) ∙ ap (λ (xs : List SetAt). h.earlier ++ xs) (below_none k h.own h.now) ∙ append-nil h.earlier)
 
 -- one more set at the point
 pub ends_push : (k n : ℕ) (sets : List SetAt) (e : SetAt) → EndsWith k n sets → e.point ≡ k → EndsWith k (suc n) (sets ++ e ∷ [])

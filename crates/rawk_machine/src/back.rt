@@ -1,6 +1,6 @@
 //! The way back, over the parts.
 
-ghost use Rattle.std.specs.Prelude.{◌≡◌, ◌∷◌, ◌<◌, List, IfNone, IfOk, OnOk, OnErr, reverse, vec_capacity, vec_len};
+ghost use Rattle.std.specs.Prelude.{◌≡◌, ◌∷◌, ◌<◌, ◌-◌, List, IfNone, IfOk, OnOk, OnErr, length, reverse, take, vec_capacity, vec_len};
 ghost use Rattle.rawk_code.specs.Actions.{SetAt, fault_of};
 ghost use Rattle.rawk_store.specs.Groups.{Group};
 ghost use Rattle.rawk_history.specs.Steps.{Kept};
@@ -9,7 +9,7 @@ ghost use Rattle.rawk_store.specs.Layout.{Grown, IsSound, state};
 ghost use Rattle.rawk_store.specs.State.{assigned};
 ghost use Rattle.rawk_store.specs.Stores.{now_of, start_of};
 ghost use Rattle.rawk_machine.specs.Closing.{FitAll, HasGoneBack};
-ghost use Rattle.rawk_machine.specs.Kept.{all_back, below};
+ghost use Rattle.rawk_machine.specs.Kept.{all_back};
 ghost use Rattle.rawk_machine.specs.Written.{StandsBehind, WrittenOr};
 
 use crate::journal::undo_all;
@@ -34,11 +34,11 @@ pub fn go_back<K: Keeper>(store: &mut Store, keeper: &mut K, here: &mut Vec<Grou
     keeper.put_back(store, here);
 }
 
-/// Drops the sets of a point and of later ones.
-pub fn keep_below(sets: &mut Vec<SetAt>, point: u64)
-    ensures { sets.new.items ≡ below point sets.old.items }
+/// Drops the newest sets, so many.
+pub fn drop_newest(sets: &mut Vec<SetAt>, count: usize)
+    ensures { sets.new.items ≡ take (length sets.old.items - count) sets.old.items }
 {
-    sets.retain(|set| set.point < point);
+    sets.truncate(sets.len().saturating_sub(count));
 }
 
 /// Assigns a place as a change of its own, whose group stands behind the others, or answers the fault of that, and then nothing has changed. It fails where memory is
@@ -61,7 +61,8 @@ fn write(
     ensures rest { start_of store.new ≡ now_of store.new }
 {
     here.reserve(1)?;
-    match store.assign(alloc, target, value) {
+    store.known();
+    match store.assign::<true>(alloc, target, value) {
         Ok(None) => {}
         Ok(Some(fault)) => {
             store.forget();

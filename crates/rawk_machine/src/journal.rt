@@ -6,10 +6,10 @@ ghost use Rattle.rawk_tape.specs.Tapes.{MayBe};
 ghost use Rattle.rawk_tape.specs.declared.source.Ending.{Ending as End};
 ghost use Rattle.rawk_history.specs.Keeping.{keeps_any};
 ghost use Rattle.rawk_store.specs.Layout.{Layout, Grown, IsSound};
-ghost use Rattle.rawk_store.specs.Stores.{now_of, start_of};
+ghost use Rattle.rawk_store.specs.Stores.{BeganNested, now_of, start_of};
 ghost use Rattle.rawk_travel.specs.Asking.{Asks, Draws};
 ghost use Rattle.rawk_travel.specs.Moving.{moving};
-ghost use Rattle.rawk_machine.specs.Arrival.{Arrives, ends_quietly, EndsByRead, HasReach, IsSettled};
+ghost use Rattle.rawk_machine.specs.Arrival.{Arrives, ends_quietly, EndsByRead, IsSettled};
 ghost use Rattle.rawk_machine.specs.Closing.{Closes, FitAll};
 ghost use Rattle.rawk_machine.specs.Kept.{all_back, AllArraysFit, arrays_forth, globals_forth, record_forth};
 
@@ -20,7 +20,6 @@ use rawk_patterns::Expressions;
 use rawk_store::{Group, Store};
 use rawk_tape::{Source, Tape};
 use rawk_travel::count::Count;
-use rawk_travel::reach::Reach;
 use std::alloc::{AllocError, Global};
 
 /// Ends a step, and keeps what it changed with what the sets changed that were made at the point that it left. Where memory is
@@ -31,9 +30,8 @@ pub fn close<K: Keeper>(
     store: &mut Store,
     keeper: &mut K,
     here: &mut Vec<Group>,
-    reach: Reach,
 ) -> Result<(), AllocError>
-    requires { HasReach reach store.old }
+    requires nested { BeganNested store.old }
     ensures kept { OnOk result (Closes (keeps_any (K.limit keeper.old)) (start_of store.old) (now_of store.old) (K.kept keeper.old) (K.kept keeper.new) here.old.items (K.limit keeper.old)) }
     ensures now { OnOk result (now_of store.new ≡ now_of store.old) }
     ensures here { OnOk result (here.new.items ≡ []) }
@@ -46,11 +44,7 @@ pub fn close<K: Keeper>(
     ensures limit { K.limit keeper.new ≡ K.limit keeper.old }
 {
     if !keeper.keeps() {
-        match reach {
-            Reach::Narrow => store.forget_narrow(),
-            Reach::Plain => store.forget_plain(),
-            Reach::Wide => store.forget(),
-        }
+        store.forget();
         here.clear();
         return Ok(());
     }
@@ -63,7 +57,7 @@ pub fn close<K: Keeper>(
     }
 }
 
-/// One step, kept. It tells what the step may have changed. Where memory is refused, the parts are put back as they were; bytes may be read ahead then.
+/// One step, kept. Where memory is refused, the parts are put back as they were; bytes may be read ahead then.
 #[inline(always)]
 pub fn journaled<R: Source + Drop, K: Keeper>(
     alloc: Global,
@@ -71,7 +65,6 @@ pub fn journaled<R: Source + Drop, K: Keeper>(
     code: &Code,
     store: &mut Store,
     tape: &mut Tape<R>,
-    reach: &mut Reach,
     executed: &mut Count,
     keeper: &mut K,
     here: &mut Vec<Group>,
@@ -109,12 +102,11 @@ pub fn journaled<R: Source + Drop, K: Keeper>(
         code,
         store,
         tape,
-        reach,
         executed,
         count,
         limit,
     )?;
-    match close(alloc, store, keeper, here, *reach) {
+    match close(alloc, store, keeper, here) {
         Ok(()) => Ok(()),
         Err(refused) => {
             tape.consume(consumed);

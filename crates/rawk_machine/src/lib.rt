@@ -8,9 +8,11 @@ mod getters;
 mod journal;
 mod last_move;
 mod machine;
+mod runner;
 mod start;
 mod step;
 
 pub use machine::Machine;
 pub use rawk_history::{Full, Keeper, Off};
+pub use runner::Runner;
 pub use step::Step;

@@ -1,7 +1,6 @@
 //! A machine that runs a code from point to point.
 
 ghost use Rattle.std.specs.Prelude.{◌≡◌, ◌↔◌, ◌≤◌, ◌<◌, ◌+◌, ◌-◌, ◌*◌, ◌^◌, [], ◌++◌, ℕ, nat_lt, List, None, Some, IsSome, IsTrue, length, take, drop, IfOk, IfErr, OnOk, OnErr};
-ghost use Rattle.std.specs.Bool.{OnFalse};
 ghost use Rattle.std.specs.Option.{option_map};
 ghost use Rattle.rawk_value.specs.Values.{Bytes};
 ghost use Rattle.rawk_tape.specs.Inputs.{CountsUp};
@@ -17,7 +16,7 @@ ghost use Rattle.rawk_machine.specs.Asked.{AskedBy, Unstood};
 ghost use Rattle.rawk_travel.specs.Asking.{Draws};
 
 use crate::arrival::{site_at, step};
-use crate::back::{go_back, keep_below, write_copy};
+use crate::back::{drop_newest, go_back, write_copy};
 use crate::journal::journaled;
 use crate::last_move::LastMove;
 use crate::start::{copy_settings, fill_first};
@@ -28,7 +27,6 @@ use rawk_patterns::Expressions;
 use rawk_store::{Ending, Group, Phase, Registers, Store, Target};
 use rawk_tape::{Source, Tape};
 use rawk_travel::count::Count;
-use rawk_travel::reach::Reach;
 use rawk_value::{Fault, Value};
 use std::alloc::{AllocError, Global};
 use std::marker::Model;
@@ -51,8 +49,6 @@ pub struct Machine<R: Source + Drop, K: Keeper> {
     pub(crate) steps: u64,
     pub(crate) point: u64,
     pub(crate) executed: Count,
-    // What the last step may have changed.
-    pub(crate) reach: Reach,
     // The expressions of texts that were sought last. No contract sees them, since no answer depends on them.
     pub(crate) expressions: Expressions,
 }
@@ -81,7 +77,7 @@ impl<R: Source + Drop, K: Keeper> Model for Machine<R, K> {
 }
 
 /// What registers answer: at a point, or how the run ended.
-fn answer(registers: &Registers) -> Step
+pub(crate) fn answer(registers: &Registers) -> Step
     ensures { result ≡ step_of registers.now.ending registers.now.status }
 {
     match registers.ending {
@@ -132,7 +128,7 @@ fn first_store(alloc: Global, code: &Code, settings: &Settings) -> Result<Store,
 }
 
 /// A copy of the first values, and the parts before the first instruction. It fails where memory is refused.
-fn first_parts(
+pub(crate) fn first_parts(
     alloc: Global,
     code: &Code,
     settings: &Settings,
@@ -184,7 +180,6 @@ impl<R: Source + Drop, K: Keeper> Machine<R, K> {
         };
         let mut tape = Tape::new(alloc, source);
         let mut executed = Count::new();
-        let mut reach = Reach::Wide;
         let mut expressions = Expressions::new();
         match step(
             alloc,
@@ -192,7 +187,6 @@ impl<R: Source + Drop, K: Keeper> Machine<R, K> {
             &code,
             &mut store,
             &mut tape,
-            &mut reach,
             &mut executed,
             0,
             steps,
@@ -220,7 +214,6 @@ impl<R: Source + Drop, K: Keeper> Machine<R, K> {
             steps,
             point: 0,
             executed,
-            reach,
             expressions,
         })
     }
@@ -272,6 +265,7 @@ impl<R: Source + Drop, K: Keeper> Machine<R, K> {
         ensures within { self.new.point ≤ self.new.steps }
         ensures answer { IfOk result (λ s. s ≡ step_of self.new.ending self.new.state.status) }
         ensures counted { self.old.ending ≡ None → self.old.executed + 1 < 2 ^ 128 → self.old.executed < self.new.executed }
+        ensures ran { self.old.executed ≤ self.new.executed }
         ensures quiet { IfOk result IsQuietStep }
         ensures read_failed { IfOk result (λ s. s ≡ Step.Faulted Fault.ReadFailed → R.over self.new.tape.source ≡ Some End.Failed) }
     {
@@ -283,7 +277,6 @@ impl<R: Source + Drop, K: Keeper> Machine<R, K> {
                     &self.code,
                     &mut self.store,
                     &mut self.tape,
-                    &mut self.reach,
                     &mut self.executed,
                     &mut self.keeper,
                     &mut self.here,
@@ -313,8 +306,9 @@ impl<R: Source + Drop, K: Keeper> Machine<R, K> {
             None => return false,
             Some(_) => {}
         }
+        let made_here = self.here.len();
         go_back(&mut self.store, &mut self.keeper, &mut self.here);
-        keep_below(&mut self.sets, self.point);
+        drop_newest(&mut self.sets, made_here);
         self.tape.consume(self.store.registers.now.consumed);
         self.last = LastMove::Back;
         self.point -= 1;
@@ -417,8 +411,8 @@ impl<R: Source + Drop, K: Keeper> Machine<R, K> {
         self.executed.total()
     }
 
-    /// How many old values of globals and records are kept that lead back: for each step and each set one for each of them that it wrote. It
-    /// takes no memory, looks at each step that is kept, and stays at the greatest number of 128 bits.
+    /// How many old values of globals, elements and records are kept that lead back: for each step and each set one for each of them that it wrote. No
+    /// clause says that others have none. It takes no memory, looks at each step that is kept, and stays at the greatest number of 128 bits.
     pub fn kept(&self) -> u128
         ensures { old_values self.now < 2 ^ 128 → result ≡ old_values self.now }
     {
@@ -451,18 +445,6 @@ impl<R: Source + Drop, K: Keeper> Machine<R, K> {
 }
 
 impl<R: Source + Drop> Machine<R, Off> {
-    /// Whether there may be output to give, or bytes or slots of arrays that `drop_consumed` lets go: not where the last step changed only globals, and
-    /// all output was given before.
-    #[inline(always)]
-    pub fn has_news(&self) -> bool
-        ensures { OnFalse result (self.now.state.output ≡ []) }
-    {
-        match self.reach {
-            Reach::Narrow => !self.output().is_empty(),
-            _ => true,
-        }
-    }
-
     /// Gives the output that was not given yet into a buffer, whose room is used for the next output: a step so costs no
     /// allocation. What the buffer held is dropped. It takes no memory.
     pub fn give_into(&mut self, buffer: &mut Vec<u8>)

@@ -56,7 +56,7 @@ fn settle_one(
 {
     match global_number(names, first.name.as_slice()) {
         None => Ok(()),
-        Some(number) => globals.set(number, Value::Input(first.text.copy()?)),
+        Some(number) => globals.set::<true>(number, Value::Input(first.text.copy()?)),
     }
 }
 
@@ -107,7 +107,7 @@ pub fn fill_first(
     ensures ranges { OnOk result (ranges.new.now ≡ replicate code.now.ranges false) }
 {
     fill_globals(alloc, globals, code.names(), settings.as_slice())?;
-    arrays.add_empty(code.names().len())?;
+    arrays.add_empty::<true>(code.names().len())?;
     add_ranges(ranges, code.ranges())
 }
 

@@ -1,4 +1,5 @@
 pub mod Cuts
+pub mod Counts
 pub mod Values
 pub mod Masks
 pub mod Newlines

@@ -10,3 +10,4 @@ pub mod Drafts
 pub mod Laws
 pub mod ShortPieces
 pub mod Helds
+pub mod Uncuts

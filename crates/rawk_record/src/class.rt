@@ -48,7 +48,7 @@ impl Class for Blank {
 }
 
 /// One byte, and a newline too where `newline` says so.
-#[derive(Drop)]
+#[derive(Clone, Copy)]
 pub struct ByteClass {
     pub byte: u8,
     pub newline: bool,

@@ -8,14 +8,16 @@ ghost use Rattle.rawk_record.specs.Shown.{split_record};
 use crate::parts::{Parts, no_parts};
 use crate::pieces::{Separator, cut};
 use crate::short::Short;
+use crate::uncut::Uncut;
 use std::alloc::{AllocError, Global};
 use std::mem;
 
-/// Parts in buffers of their own, or a short record in place.
+/// Parts in buffers of their own, a short record in place, or a text that is not cut.
 #[derive(Drop)]
 pub enum Held {
     Wide(Parts),
     InPlace(Short),
+    Uncut(Uncut),
 }
 
 /// Makes of the parts a text with its fields; `newline` says whether a newline separates too. It fails where memory is refused.
@@ -66,5 +68,6 @@ pub(crate) fn buffers_of(alloc: Global, held: &mut Held) -> Parts
     match mem::replace(held, Held::Wide(no_parts(alloc))) {
         Held::Wide(parts) => parts,
         Held::InPlace(_) => no_parts(alloc),
+        Held::Uncut(_) => no_parts(alloc),
     }
 }

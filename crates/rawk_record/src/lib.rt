@@ -11,6 +11,7 @@ pub mod parts;
 pub mod pieces;
 pub mod record;
 pub mod short;
+pub mod uncut;
 
 pub use change::RecordChange;
 pub use class::Class;

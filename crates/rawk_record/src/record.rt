@@ -5,15 +5,41 @@ ghost use Rattle.std.specs.Option.{option_map};
 ghost use Rattle.rawk_record.specs.Changed.{rebuilt, resized, with_value};
 ghost use Rattle.rawk_record.specs.Shown.{no_record, split_record};
 ghost use Rattle.rawk_record.specs.FieldRefs.{ref_value};
+ghost use Rattle.rawk_record.specs.Helds.{IsHeld, shown_in};
+ghost use Rattle.rawk_record.specs.Uncuts.{divided_record};
 
 use crate::build::{build_with_count, build_with_value};
 use crate::held::{Held, buffers_of, new_parts, refill_parts};
 use crate::parts::{FieldRef, field_in, no_parts};
 use crate::pieces::Separator;
 use crate::short::Short;
+use crate::uncut::{Divider, Uncut, divider_of};
 use rawk_value::Value;
 use std::alloc::{AllocError, Global};
 use std::marker::Model;
+
+/// A text of so many bytes, or more, is always cut, so that its fields can be counted.
+const LONG: usize = 1 << 62;
+
+/// A text that is not cut comes in the place of a record, whose buffer is used again where it is one too. It fails where memory is refused, and then it may be any record.
+#[inline(always)]
+fn leave_uncut(
+    alloc: Global,
+    held: &mut Held,
+    text: &[u8],
+    divider: Divider,
+) -> Result<(), AllocError>
+    requires short { length text.now < 2 ^ 62 }
+    requires held { IsHeld held.old }
+    ensures did { OnOk result (shown_in held.new ≡ divided_record divider text.now) }
+    ensures held { IsHeld held.new }
+{
+    if let Held::Uncut(uncut) = held {
+        return uncut.refill(text, divider);
+    }
+    *held = Held::Uncut(Uncut::new(alloc, text, divider)?);
+    Ok(())
+}
 
 /// A record and its fields.
 #[derive(Drop)]
@@ -55,6 +81,7 @@ impl Record {
                 None => None,
             },
             Held::InPlace(_) => None,
+            Held::Uncut(_) => None,
         }
     }
 
@@ -66,6 +93,7 @@ impl Record {
         match &self.held {
             Held::Wide(parts) => &parts.text,
             Held::InPlace(short) => short.text(),
+            Held::Uncut(uncut) => uncut.text(),
         }
     }
 
@@ -78,6 +106,7 @@ impl Record {
         match &self.held {
             Held::Wide(parts) => parts.pieces.len(),
             Held::InPlace(short) => short.field_count(),
+            Held::Uncut(uncut) => uncut.field_count(),
         }
     }
 
@@ -89,6 +118,7 @@ impl Record {
         match &self.held {
             Held::Wide(parts) => field_in(parts, number),
             Held::InPlace(short) => short.field(number),
+            Held::Uncut(uncut) => uncut.field(number),
         }
     }
 
@@ -106,11 +136,30 @@ impl Record {
     {
         match &mut self.held {
             Held::Wide(parts) => refill_parts(alloc, parts, text, separator, newline),
-            Held::InPlace(_) => {
+            _ => {
                 self.held = Held::Wide(new_parts(alloc, text, separator, newline)?);
                 Ok(())
             }
         }
+    }
+
+    /// The same, but the text is not cut where that can wait: its fields are sought each time that they are asked for. It is for texts whose fields nobody asks for.
+    #[inline(always)]
+    pub fn refill_uncut(
+        &mut self,
+        alloc: Global,
+        text: &[u8],
+        separator: Separator<'_>,
+        newline: bool,
+    ) -> Result<(), AllocError>
+        ensures { OnOk result (self.new ≡ split_record separator.entry newline text.now) }
+    {
+        if text.len() < LONG {
+            if let Some(divider) = divider_of(separator, newline) {
+                return leave_uncut(alloc, &mut self.held, text, divider);
+            }
+        }
+        self.refill(alloc, text, separator, newline)
     }
 
     /// Becomes another record with a value for the field of a number, from 1, and `$0` built anew: the fields between become uninitialised.

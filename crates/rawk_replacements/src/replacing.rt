@@ -143,7 +143,7 @@ fn with_first(
     requires within { IsWithin 0 text.now first }
     ensures { IfOk result (λ r. Some r ≡ made by.now text.now (taken Extent.First (cuts text.now ere.now))) }
 {
-    let mut out = Vec::new(alloc);
+    let mut out = Vec::with_capacity(alloc, text.len().saturating_add(by.len()))?;
     push_match(&mut out, by, text, 0, first)?;
     out.extend_from_slice(&text[first.end..])?;
     let text = Bytes::from_vec(alloc, out)?;
@@ -161,7 +161,7 @@ fn with_all(
     requires { Some first ≡ next_cut text.now ere.now 0 None }
     ensures { IfOk result (λ r. Some r ≡ made by.now text.now (taken Extent.All (cuts text.now ere.now))) }
 {
-    let mut out = Vec::new(alloc);
+    let mut out = Vec::with_capacity(alloc, text.len().saturating_add(by.len()))?;
     let count = push_cuts(alloc, &mut out, ere, by, text, first)?;
     let text = Bytes::from_vec(alloc, out)?;
     Ok(Replaced { text, count })

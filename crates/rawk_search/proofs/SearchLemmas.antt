@@ -1,12 +1,18 @@
 -- What a search has found.
-use Rattle.std.proofs.Common.{◌≡◌, ℕ, ◌+◌, ◌<◌, ◌≤◌, inl, inr, true, List, length, Option, Some, None, sym, ◌∙◌, subst, arith}
-use Rattle.std.specs.Option.{IfSome}
+use Rattle.std.proofs.Common.{◌≡◌, ℕ, ◌+◌, ◌<◌, ◌≤◌, inl, inr, Bool, true, false, true≢false, List, length, Option, Some, None, refl, ap, sym, ◌∙◌, subst, arith}
+use Rattle.std.specs.Prelude.{IsTrue, ◌↔◌}
+use Rattle.std.specs.Option.{IfSome, option_map, is_some}
 use Rattle.std.proofs.lemmas.Bool.{cases_eq}
 use Rattle.rawk_ere_tree.specs.Tree.{Tree}
-use Rattle.rawk_ere_tree.specs.Ends.{Ends, IsMatch}
+use Rattle.rawk_ere_tree.specs.Ends.{Ends, IsMatch, HasMatch}
 use Rattle.rawk_ere.specs.Search.{AreBetween}
 use Rattle.rawk_search.specs.declared.span.Span.{Span}
-use Rattle.rawk_search.specs.Matches.{first_match, first_nonempty, open_match}
+use Rattle.rawk_search.specs.Matches.{ends, greatest, span_to, places_from, first_match, first_nonempty, open_match}
+use Rattle.rawk_search.specs.Expressions.{ere_of}
+use Rattle.rawk_search.specs.Patterns.{is_found}
+use Rattle.rawk_search.specs.Repeats.{IsAmong}
+use Rattle.rawk_search.specs.EndsOf.{ends_in}
+use Rattle.rawk_search.specs.Spans.{IsGreatest, greatest_is, spans_none}
 use Rattle.rawk_search.specs.Found.{IsWithin, span_of, spans_of, begins_within, is_nonempty, is_none, match_none, match_some}
 use Rattle.rawk_search.specs.Laws.{IsSpan, nonempty_from, open_within}
 
@@ -43,3 +49,24 @@ between_within s p (Some m) b = b
 pub open_spans : (s : List ℕ) (e : Tree) (p : ℕ) (o : Option Span) → o ≡ open_match s e p → IfSome o (IsSpan p s)
 open_spans s e p None is = tt
 open_spans s e p (Some m) is = open_within s e p m (sym is)
+
+no_span : (i : ℕ) (js : List ℕ) (o : Option ℕ) → IsGreatest js o → span_to i o ≡ None → (j : ℕ) → IsAmong js j → ⊥
+no_span i js None h none j a = h j a
+no_span i js (Some g) h none j a = cc
+
+-- where a text has a match, one is the leftmost
+pub first_has : (s : List ℕ) (e : Tree) → first_match s e 0 ≡ None → HasMatch s e → ⊥
+unfolding first_match
+first_has s e none m =
+    let at_none = spans_none (λ i. span_to i (greatest (ends true s e i))) 0 (places_from 0 s) none m.0 (omega arith) (omega (arith, m.2)) in
+    no_span m.0 (ends true s e m.0) (greatest (ends true s e m.0)) (greatest_is (ends true s e m.0)) at_none m.1 (ends_in true s e m.0 m.1 m.3)
+
+found_tells : (s : List ℕ) (e : Tree) (b : Bool) (o : Option Span) → first_match s e 0 ≡ o → IsTrue b ↔ HasMatch s e → b ≡ is_some o
+found_tells s e true None none f = absurd (first_has s e none (f.0 refl))
+found_tells s e true (Some m) is f = refl
+found_tells s e false None none f = refl
+found_tells s e false (Some m) is f = absurd (true≢false (ap is_some (sym is ∙ match_none s e 0 (λ i j le end h. absurd (true≢false (sym (f.1 (i, j, end, h))))))))
+
+pub found_is : (pattern text : List ℕ) (e : Tree) (b : Bool) → Some e ≡ ere_of pattern → IsTrue b ↔ HasMatch text e → Some b ≡ is_found pattern text
+found_is pattern text e b is f =
+    subst (λ (o : Option Tree). Some b ≡ option_map is_some (option_map (λ x. first_match text x 0) o)) is (ap Some (found_tells text e b (first_match text e 0) refl f))

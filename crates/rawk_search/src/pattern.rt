@@ -87,7 +87,7 @@ impl Pattern {
     pub fn is_found(&self, alloc: Global, text: &[u8]) -> Result<bool, AllocError>
         ensures { IfOk result (λ b. Some b ≡ is_found self.now text.now) }
     {
-        let found = self.first(alloc, text)?;
-        Ok(found.is_some())
+        let found = self.ere().is_found(alloc, text)?;
+        Ok(found)
     }
 }

@@ -227,3 +227,11 @@ AreBelow-places n (e ∷ es) (d ∷ ds) same h = (rw (ap (λ (ps : List ℕ). he
     head_or : ℕ → List ℕ → ℕ
     head_or d [] = d
     head_or d (x ∷ xs) = x
+
+-- the same, with the list that was made
+pub back_saved : {T : Type 0} (xs : List T) (es ns : List (Saved T)) (e : Saved T) (v : T) → ns ≡ es ++ e ∷ [] → e.old ≡ get_or xs e.place e.old → back (set xs e.place v) ns ≡ back xs es
+back_saved {T} xs es ns e v is h = ap (λ (ds : List (Saved T)). back (set xs e.place v) ds) is ∙ back_saves xs es e v h
+
+-- a write leaves as many slots at the beginning as there were
+pub length-written : {T : Type 0} (xs : List T) (es ns : List (Saved T)) (p : ℕ) (v : T) → length (back (set xs p v) ns) ≡ length (back xs es)
+length-written xs es ns p v = length-back (set xs p v) ns ∙ (length-set xs p v ∙ sym (length-back xs es))

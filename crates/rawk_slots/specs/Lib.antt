@@ -5,3 +5,4 @@ pub mod Stacked
 pub mod StackBack
 pub mod StackChanges
 pub mod StackLaws
+pub mod Saving

@@ -1,6 +1,6 @@
 //! Slots whose content can be put back as it stood when the step began.
 
-ghost use Rattle.std.specs.Prelude.{◌≡◌, ◌<◌, ◌≤◌, ◌+◌, ◌++◌, ◌∷◌, [], ℕ, IfSome, List, OnErr, OnOk, Some, drop, if◌then◌else◌, length, slice_get, slice_set, take};
+ghost use Rattle.std.specs.Prelude.{◌≡◌, ◌<◌, ◌≤◌, ◌+◌, ◌++◌, ◌∷◌, [], ℕ, IfSome, List, OnErr, OnOk, Some, drop, if◌then◌else◌, length, slice_get, slice_range, slice_set, take};
 ghost use Rattle.std.specs.Bool.{OnTrue};
 ghost use Rattle.std.specs.Option.{is_some, option_copied};
 ghost use Rattle.rawk_slots.specs.Back.{back, AreBelow, AreDistinctFrom, HasAdded};
@@ -15,7 +15,8 @@ use std::mem;
 
 /// Slots, beside what stood in them when the step began.
 ///
-/// A contract sees both lists. A write takes memory at most for the list of old values, whose buffer is used again.
+/// A contract sees both lists. A write takes memory at most for the list of old values, whose buffer is used again. Where `SAVES` is false, a write saves no old value and
+/// takes no memory: nothing is said of the step's beginning then, but for the number of its slots.
 #[derive(Drop)]
 pub struct Slots<T> {
     items: Vec<T>,
@@ -66,14 +67,28 @@ impl<T: Drop> Slots<T> {
         None
     }
 
+    /// What stands in the slots from one number on, up to another, which is left out.
+    pub fn between(&self, begin: usize, end: usize) -> &[T]
+        requires ordered { begin ≤ end }
+        requires within { end ≤ length self.now.now }
+        ensures { result.now ≡ slice_range self.now.now begin end }
+    {
+        &self.items[begin..end]
+    }
+
     /// Writes a slot. It fails where memory is refused, and then nothing has changed.
     #[inline(always)]
-    pub fn write(&mut self, place: usize, value: T) -> Result<(), AllocError>
+    pub fn write<const SAVES: bool>(&mut self, place: usize, value: T) -> Result<(), AllocError>
         requires { place < length self.old.now }
         ensures did { OnOk result (self.new.now ≡ slice_set self.old.now place value) }
-        ensures start { self.new.start ≡ self.old.start }
+        ensures start { OnTrue SAVES (self.new.start ≡ self.old.start) }
+        ensures size { length self.new.start ≡ length self.old.start }
         ensures err { OnErr result (self.new.now ≡ self.old.now) }
     {
+        if !SAVES {
+            self.items[place] = value;
+            return Ok(());
+        }
         if is_saved(&self.marks, &self.saved, place) {
             self.items[place] = value;
             return Ok(());
@@ -87,13 +102,14 @@ impl<T: Drop> Slots<T> {
 
     /// Writes a slot; a number that is no slot changes nothing. It fails where memory is refused, and then nothing has changed.
     #[inline(always)]
-    pub fn set(&mut self, place: usize, value: T) -> Result<(), AllocError>
+    pub fn set<const SAVES: bool>(&mut self, place: usize, value: T) -> Result<(), AllocError>
         ensures did { OnOk result (self.new.now ≡ slice_set self.old.now place value) }
-        ensures start { self.new.start ≡ self.old.start }
+        ensures start { OnTrue SAVES (self.new.start ≡ self.old.start) }
+        ensures size { length self.new.start ≡ length self.old.start }
         ensures err { OnErr result (self.new.now ≡ self.old.now) }
     {
         if place < self.len() {
-            self.write(place, value)?;
+            return self.write::<SAVES>(place, value);
         }
         Ok(())
     }
@@ -110,15 +126,19 @@ impl<T: Drop> Slots<T> {
         mem::replace(&mut self.items[place], value)
     }
 
-    /// Puts a value into a slot that the step has changed already, and gives what stands there; `None` where the step has not changed the slot, and then
-    /// nothing has changed. It takes no memory.
+    /// Puts a value into a slot whose content need not be saved, since the step has changed it already or saves nothing, and gives what stands there; `None` where it would
+    /// have to be saved, and then nothing has changed. It takes no memory.
     #[inline]
-    pub fn take_changed(&mut self, place: usize, spare: T) -> Option<T>
+    pub fn take_changed<const SAVES: bool>(&mut self, place: usize, spare: T) -> Option<T>
         requires { place < length self.old.now }
         ensures value { IfSome result (λ v. slice_get self.old.now place ≡ Some v) }
         ensures after { self.new.now ≡ (if is_some result then slice_set self.old.now place spare else self.old.now) }
-        ensures start { self.new.start ≡ self.old.start }
+        ensures start { OnTrue SAVES (self.new.start ≡ self.old.start) }
+        ensures size { length self.new.start ≡ length self.old.start }
     {
+        if !SAVES {
+            return Some(mem::replace(&mut self.items[place], spare));
+        }
         if is_saved(&self.marks, &self.saved, place) {
             return Some(mem::replace(&mut self.items[place], spare));
         }
@@ -138,15 +158,16 @@ impl<T: Drop> Slots<T> {
     }
 
     /// Writes the slot behind the first `count`, and adds it where it is missing. It fails where memory is refused.
-    pub fn append(&mut self, count: usize, value: T) -> Result<(), AllocError>
+    pub fn append<const SAVES: bool>(&mut self, count: usize, value: T) -> Result<(), AllocError>
         requires { count ≤ length self.old.now }
         ensures did { OnOk result (take (count + 1) self.new.now ≡ take count self.old.now ++ value ∷ []) }
         ensures room { OnOk result (count < length self.new.now) }
         ensures err { OnErr result (self.new.now ≡ self.old.now) }
-        ensures start { Longer self.old.start self.new.start }
+        ensures start { OnTrue SAVES (Longer self.old.start self.new.start) }
+        ensures size { length self.old.start ≤ length self.new.start }
     {
         if count < self.len() {
-            return self.write(count, value);
+            return self.write::<SAVES>(count, value);
         }
         self.add(value)
     }
@@ -261,7 +282,7 @@ impl<T: Drop> Reversible for Slots<T> {
 
     fn apply(&mut self, alloc: Global, change: Write<T>) -> Result<SlotGroup<T>, AllocError> {
         self.forget();
-        self.set(change.place, change.value)?;
+        self.set::<true>(change.place, change.value)?;
         Ok(self.finish(alloc))
     }
 

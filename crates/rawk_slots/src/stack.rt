@@ -1,6 +1,6 @@
 //! A stack whose values can be put back as they stood when the step began.
 
-ghost use Rattle.std.specs.Prelude.{◌≡◌, ◌∷◌, [], IfSome, OnErr, OnOk, Some, drop, if◌then◌else◌, length, slice_get, slice_set, take};
+ghost use Rattle.std.specs.Prelude.{◌≡◌, ◌∷◌, [], IfSome, OnErr, OnOk, Some, drop, if◌then◌else◌, length, reverse, slice_get, slice_set, take};
 ghost use Rattle.std.specs.Option.{is_some, option_copied};
 ghost use Rattle.std.specs.Bool.{OnTrue};
 ghost use Rattle.rawk_slots.specs.Journaled.{at_rest};
@@ -16,7 +16,8 @@ use std::marker::Model;
 
 /// Values on a stack, beside what they were when the step began.
 ///
-/// They stand in slots up to a live length. A slot beyond it keeps its content until it is written again.
+/// They stand in slots up to a live length. A slot beyond it keeps its content until it is written again. Where `SAVES` is false, a write saves no old value: nothing is said
+/// of the step's beginning then.
 #[derive(Drop)]
 pub struct Stack<T> {
     slots: Slots<T>,
@@ -84,52 +85,65 @@ impl<T: Drop> Stack<T> {
         None
     }
 
+    /// The newest values, so many at most, the oldest of them first.
+    pub fn newest_values(&self, count: usize) -> &[T]
+        ensures { result.now ≡ reverse (take count (live_values self.now.now)) }
+    {
+        let size = count.min(self.live);
+        self.slots.between(self.live - size, self.live)
+    }
+
     /// Adds a value. It fails where memory is refused, and then the values are as they were.
-    pub fn push(&mut self, value: T) -> Result<(), AllocError>
+    pub fn push<const SAVES: bool>(&mut self, value: T) -> Result<(), AllocError>
         ensures did { OnOk result (live_values self.new.now ≡ value ∷ live_values self.old.now) }
         ensures err { OnErr result (self.new.now ≡ self.old.now) }
-        ensures start { GrownStack self.old.start self.new.start }
+        ensures start { OnTrue SAVES (GrownStack self.old.start self.new.start) }
     {
         let live = self.live;
-        self.slots.append(live, value)?;
+        self.slots.append::<SAVES>(live, value)?;
         let _count = self.slots.len();
         self.live = live + 1;
         Ok(())
     }
 
     /// Writes a value, counted from the oldest; a number that has none changes nothing. It fails where memory is refused, and then nothing has changed.
-    pub fn set_oldest(&mut self, number: usize, value: T) -> Result<(), AllocError>
+    pub fn set_oldest<const SAVES: bool>(
+        &mut self,
+        number: usize,
+        value: T,
+    ) -> Result<(), AllocError>
         ensures did { OnOk result (live_slots self.new.now ≡ slice_set (live_slots self.old.now) number value) }
-        ensures start { self.new.start ≡ self.old.start }
+        ensures start { OnTrue SAVES (self.new.start ≡ self.old.start) }
         ensures err { OnErr result (self.new.now ≡ self.old.now) }
     {
         if number < self.live {
-            self.slots.write(number, value)?;
+            self.slots.write::<SAVES>(number, value)?;
         }
         Ok(())
     }
 
     /// Writes the newest value, if there is one. It fails where memory is refused, and then nothing has changed.
-    pub fn set_newest(&mut self, value: T) -> Result<(), AllocError>
+    pub fn set_newest<const SAVES: bool>(&mut self, value: T) -> Result<(), AllocError>
         ensures did { OnOk result (live_values self.new.now ≡ slice_set (live_values self.old.now) 0 value) }
-        ensures start { self.new.start ≡ self.old.start }
+        ensures start { OnTrue SAVES (self.new.start ≡ self.old.start) }
         ensures err { OnErr result (self.new.now ≡ self.old.now) }
     {
         if self.live > 0 {
-            self.slots.write(self.live - 1, value)?;
+            self.slots.write::<SAVES>(self.live - 1, value)?;
         }
         Ok(())
     }
 
-    /// Puts a value in the place of the newest one, and gives that, where the step has changed its slot already; else `None`, and then nothing has changed. It takes no memory.
+    /// Puts a value in the place of the newest one, and gives that, where it need not be saved, since the step has changed its slot already or saves nothing; else `None`, and
+    /// then nothing has changed. It takes no memory.
     #[inline]
-    pub fn take_newest(&mut self, spare: T) -> Option<T>
+    pub fn take_newest<const SAVES: bool>(&mut self, spare: T) -> Option<T>
         ensures value { IfSome result (λ v. slice_get (live_values self.old.now) 0 ≡ Some v) }
         ensures after { live_values self.new.now ≡ (if is_some result then slice_set (live_values self.old.now) 0 spare else live_values self.old.now) }
-        ensures start { self.new.start ≡ self.old.start }
+        ensures start { OnTrue SAVES (self.new.start ≡ self.old.start) }
     {
         if self.live > 0 {
-            return self.slots.take_changed(self.live - 1, spare);
+            return self.slots.take_changed::<SAVES>(self.live - 1, spare);
         }
         None
     }
@@ -242,9 +256,9 @@ impl<T: Drop> Stack<T> {
         ensures start { GrownStack self.old.start self.new.start }
     {
         match change {
-            StackChange::Push(value) => self.push(value),
-            StackChange::SetNewest(value) => self.set_newest(value),
-            StackChange::SetOldest { number, value } => self.set_oldest(number, value),
+            StackChange::Push(value) => self.push::<true>(value),
+            StackChange::SetNewest(value) => self.set_newest::<true>(value),
+            StackChange::SetOldest { number, value } => self.set_oldest::<true>(number, value),
             StackChange::DropNewest(count) => {
                 self.drop_newest(count);
                 Ok(())

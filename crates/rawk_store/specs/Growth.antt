@@ -1,6 +1,8 @@
 -- Slots that were added and that no program sees change no state, and putting back works over them.
 use Rattle.std.specs.Prelude.{◌≡◌, Bool, List, length, take, refl, Option, None, Some}
+use Rattle.std.specs.Bool.{OnTrue}
 use Rattle.std.proofs.Common.{sym, ap, ◌∙◌, subst}
+use Rattle.rawk_slots.specs.Saving.{OnTrue-any, OnTrue-map, OnTrue-both}
 use Rattle.rawk_value.specs.Values.{Bytes}
 use Rattle.rawk_value.specs.declared.value.Value.{Value}
 use Rattle.rawk_slots.specs.Back.{back, AreBelow}
@@ -10,9 +12,9 @@ use Rattle.rawk_arrays.specs.Elements.{Elements}
 use Rattle.rawk_arrays.specs.Laid.{Laid, GrownArrays, arrays_of}
 use Rattle.rawk_arrays.specs.ArraysLaws.{arrays_of-grown, GrownArrays-refl, GrownArrays-trans, GrownArrays-back, FitsArrays-grown, IsLaid-back}
 use Rattle.rawk_frames.specs.Frame.{Frame}
-use Rattle.rawk_frames.specs.LaidFrames.{LaidFrames, GrownFrames, frames_of}
+use Rattle.rawk_frames.specs.LaidFrames.{LaidFrames, AreNested, GrownFrames, frames_of}
 use Rattle.rawk_frames.specs.LaidKeys.{GrownKeys}
-use Rattle.rawk_frames.specs.FramesLaws.{frames_of-grown, keys_of-grown, GrownFrames-refl, GrownFrames-trans, GrownFrames-back, GrownKeys-refl, GrownKeys-trans, GrownKeys-back, FitsFrames-grown, FitsKeys-grown, AreFramesLive-back, AreKeysLive-back}
+use Rattle.rawk_frames.specs.FramesLaws.{frames_of-grown, keys_of-grown, GrownFrames-refl, GrownFrames-trans, GrownFrames-back, GrownKeys-refl, GrownKeys-trans, GrownKeys-back, FitsFrames-grown, FitsKeys-grown, AreFramesLive-back, AreKeysLive-back, AreNested-grown}
 use Rattle.rawk_record.specs.Shown.{Shown, record_back}
 use Rattle.rawk_store.specs.declared.registers.Registers.{Registers}
 use Rattle.rawk_store.specs.declared.others.Others.{Others}
@@ -94,6 +96,31 @@ Grown-arrays l a g = record {
   output = refl;
   registers = refl;
 }
+
+-- the same, where old values are saved
+pub saved-refl : (b : Bool) (l : Layout) → OnTrue b (Grown l l)
+saved-refl b l = OnTrue-any b (Grown l l) (Grown-refl l)
+
+pub saved-same : (b : Bool) (l m : Layout) → OnTrue b (m ≡ l) → OnTrue b (Grown l m)
+saved-same b l m h = OnTrue-map b (m ≡ l) (Grown l m) (λ e. Grown-same l m (sym e)) h
+
+pub saved-stays : (b : Bool) (l m : Layout) → m ≡ l → OnTrue b (Grown l m)
+saved-stays b l m e = OnTrue-any b (Grown l m) (Grown-same l m (sym e))
+
+pub saved-then_same : (b : Bool) (l m n : Layout) → OnTrue b (Grown l m) → n ≡ m → OnTrue b (Grown l n)
+saved-then_same b l m n h e = OnTrue-map b (Grown l m) (Grown l n) (λ g. Grown-then_same l m n g e) h
+
+pub saved-after : (b : Bool) (l m n : Layout) → m ≡ l → OnTrue b (Grown m n) → OnTrue b (Grown l n)
+saved-after b l m n e h = OnTrue-map b (Grown m n) (Grown l n) (λ g. Grown-trans l m n (Grown-same l m (sym e)) g) h
+
+pub saved-trans : (b : Bool) (l m n : Layout) → OnTrue b (Grown l m) → OnTrue b (Grown m n) → OnTrue b (Grown l n)
+saved-trans b l m n h k = OnTrue-both b (Grown l m) (Grown m n) (Grown l n) (λ g i. Grown-trans l m n g i) h k
+
+pub saved-behind : (b : Bool) (l m n : Layout) → Grown l m → OnTrue b (Grown m n) → OnTrue b (Grown l n)
+saved-behind b l m n g h = OnTrue-map b (Grown m n) (Grown l n) (λ i. Grown-trans l m n g i) h
+
+pub saved-frames : (b : Bool) (l : Layout) (f : LaidFrames) → OnTrue b (GrownFrames l.frames f) → OnTrue b (Grown l (record l { frames = f }))
+saved-frames b l f h = OnTrue-map b (GrownFrames l.frames f) (Grown l (record l { frames = f })) (λ g. Grown-frames l f g) h
 
 pub ruleset grows = (Grown-refl, Grown-same, Grown-trans, Grown-then_same, Grown-stack, Grown-frames, Grown-arrays)
 
@@ -177,13 +204,18 @@ FitsIn-grown l m group g h = record {
 }
 
 IsSound-others : (l : Layout) (o : Option Others) → FitsOthers o l → IsSound l → IsSound (others_put l o)
-IsSound-others l None h s = record { arrays = s.arrays; frames = s.frames; keys = s.keys; operands = s.operands }
+IsSound-others l None h s = record { arrays = s.arrays; frames = s.frames; nested = s.nested; keys = s.keys; operands = s.operands }
 IsSound-others l (Some o) h s = record {
   arrays = IsLaid-back l.arrays o.arrays s.arrays;
   frames = AreFramesLive-back l.frames o.frames h.frames;
+  nested = h.frames.nested;
   keys = AreKeysLive-back l.keys o.keys h.keys;
   operands = IsLive-stack_back l.operands o.operands h.operands;
 }
 
 pub IsSound-put_back : (l : Layout) (group : Group) → FitsIn group l → IsSound l → IsSound (put_back l group)
-IsSound-put_back l group h s = let o = IsSound-others l group.others h.others s in record { arrays = o.arrays; frames = o.frames; keys = o.keys; operands = o.operands }
+IsSound-put_back l group h s = let o = IsSound-others l group.others h.others s in record { arrays = o.arrays; frames = o.frames; nested = o.nested; keys = o.keys; operands = o.operands }
+
+-- the activations of what has grown are nested
+pub nested-grown : (l m : Layout) → Grown l m → IsSound l → AreNested m.frames
+nested-grown l m g s = AreNested-grown l.frames m.frames g.frames s.frames s.nested

@@ -5,7 +5,7 @@ use Rattle.rawk_value.specs.declared.value.Value.{Value}
 use Rattle.rawk_store.specs.State.{State}
 use Rattle.rawk_slots.specs.Stacked.{Stacked, GrownStack, IsLive, live_values}
 use Rattle.rawk_arrays.specs.Laid.{Laid, GrownArrays, IsLaid, arrays_of}
-use Rattle.rawk_frames.specs.LaidFrames.{LaidFrames, AreFramesLive, GrownFrames, frames_of}
+use Rattle.rawk_frames.specs.LaidFrames.{LaidFrames, AreFramesLive, AreNested, GrownFrames, frames_of}
 use Rattle.rawk_frames.specs.LaidKeys.{LaidKeys, AreKeysLive, GrownKeys, keys_of}
 use Rattle.rawk_record.specs.Shown.{Shown}
 use Rattle.rawk_store.specs.declared.registers.Registers.{Registers}
@@ -50,6 +50,7 @@ keys l = keys_of l.keys
 pub record IsSound (l : Layout) : Type 0 where
   pub arrays : IsLaid l.arrays.index l.arrays.slots
   pub frames : AreFramesLive l.frames
+  pub nested : AreNested l.frames
   pub keys : AreKeysLive l.keys
   pub operands : IsLive l.operands
 

@@ -5,7 +5,7 @@ use Rattle.rawk_store.specs.declared.registers.Bank.{Bank}
 use Rattle.rawk_store.specs.declared.registers.Registers.{Registers}
 use Rattle.rawk_slots.specs.Stacked.{empty_stack}
 use Rattle.rawk_arrays.specs.Laid.{no_arrays}
-use Rattle.rawk_frames.specs.LaidFrames.{no_frames}
+use Rattle.rawk_frames.specs.LaidFrames.{AreNested, no_frames}
 use Rattle.rawk_frames.specs.LaidKeys.{no_keys}
 use Rattle.rawk_record.specs.Shown.{no_record}
 use Rattle.rawk_store.specs.Layout.{Layout}
@@ -69,13 +69,6 @@ pub record IsPlainStep (s : Store) : Type 0 where
   pub ranges : s.ranges.start ≡ s.ranges.now
   pub operands : s.operands.start ≡ s.operands.now
 
--- the step in progress changed no register but the place, the point and its site
-abbrev pub IsPointStep : Bank → Type 0
-IsPointStep b = b.start ≡ record b.now { place = b.start.place; here = b.start.here; site = b.start.site }
-
--- the step in progress changed no more than globals, the place, the point and its site
-pub record IsNarrowStep (s : Store) : Type 0 where
-  pub plain : IsPlainStep s
-  pub current : s.current.start ≡ s.current.now
-  pub output : s.output.start ≡ s.output.now
-  pub registers : IsPointStep s.registers
+-- the activations were nested when the step began
+abbrev pub BeganNested : Store → Type 0
+BeganNested s = AreNested s.frames.start

@@ -1,6 +1,7 @@
 //! Assignments.
 
 ghost use Rattle.std.specs.Prelude.{◌≡◌, ◌<◌, IfOk, OnErr, OnOk, slice_index_or};
+ghost use Rattle.std.specs.Bool.{OnTrue};
 ghost use Rattle.std.specs.Option.{option_copied};
 ghost use Rattle.rawk_value.specs.declared.value.Value.{Value};
 ghost use Rattle.rawk_value.specs.Values.{is_empty, text_of};
@@ -41,7 +42,7 @@ fn text_of_global<'a>(globals: &'a Cells, number: usize, digits: &'a mut Buffer)
 }
 
 /// Gives the field of a number, from 1, a value, and builds `$0` anew with the OFS of now. It fails where memory is refused.
-fn assign_field(
+fn assign_field<const SAVES: bool>(
     alloc: Global,
     globals: &Cells,
     current: &mut Current,
@@ -50,23 +51,23 @@ fn assign_field(
 ) -> Result<(), AllocError>
     requires { 0 < number }
     ensures did { OnOk result (current.new.now ≡ rebuilt (text_of (slice_index_or globals.now.now OFS Value.Uninitialized)) (with_value number value current.old.now.fields)) }
-    ensures start { current.new.start ≡ current.old.start }
+    ensures start { OnTrue SAVES (current.new.start ≡ current.old.start) }
 {
     let mut digits = Buffer::new();
     let separator = text_of_global(globals, OFS, &mut digits);
-    current.set_field(alloc, number, value, separator)
+    current.set_field::<SAVES>(alloc, number, value, separator)
 }
 
 /// Makes the text of a value the record, with its fields by the separators of now, or answers the fault of the field separator, which changes nothing. It fails
 /// where memory is refused.
-fn assign_record(
+fn assign_record<const SAVES: bool>(
     alloc: Global,
     globals: &Cells,
     current: &mut Current,
     value: &Value,
 ) -> Result<Option<Fault>, AllocError>
     ensures did { IfOk result (λ fault. Becomes fault (read_as (text_of value.now) (text_of (slice_index_or globals.now.now FS Value.Uninitialized)) (is_empty (text_of (slice_index_or globals.now.now RS Value.Uninitialized)))) current.old.now current.new.now) }
-    ensures start { current.new.start ≡ current.old.start }
+    ensures start { OnTrue SAVES (current.new.start ≡ current.old.start) }
 {
     let mut digits = Buffer::new();
     let mut field_digits = Buffer::new();
@@ -74,7 +75,7 @@ fn assign_record(
     let text = text_in(value, &mut digits);
     let separator = text_of_global(globals, FS, &mut field_digits);
     let record_separator = text_of_global(globals, RS, &mut record_digits);
-    match current.read(alloc, text, separator, record_separator.len() == 0) {
+    match current.read::<SAVES>(alloc, text, separator, record_separator.len() == 0) {
         Ok(()) => Ok(None),
         Err(Fault::OutOfMemory) => Err(AllocError),
         Err(fault) => Ok(Some(fault)),
@@ -83,21 +84,21 @@ fn assign_record(
 
 /// Cuts or extends the fields to the number of a value, and builds `$0` anew with the OFS of now, or answers the fault of the number, which changes nothing. It
 /// fails where memory is refused.
-fn assign_count(
+fn assign_count<const SAVES: bool>(
     alloc: Global,
     globals: &Cells,
     current: &mut Current,
     value: &Value,
 ) -> Result<Option<Fault>, AllocError>
     ensures did { IfOk result (λ fault. Becomes fault (counted_as value.now (text_of (slice_index_or globals.now.now OFS Value.Uninitialized)) current.old.now) current.old.now current.new.now) }
-    ensures start { current.new.start ≡ current.old.start }
+    ensures start { OnTrue SAVES (current.new.start ≡ current.old.start) }
 {
     match field_number(value) {
         Err(fault) => Ok(Some(fault)),
         Ok(count) => {
             let mut digits = Buffer::new();
             let separator = text_of_global(globals, OFS, &mut digits);
-            current.set_field_count(alloc, count, separator)?;
+            current.set_field_count::<SAVES>(alloc, count, separator)?;
             Ok(None)
         }
     }
@@ -118,7 +119,7 @@ pub fn array_number(frames: &Frames, array: Array) -> Option<usize>
 }
 
 /// Gives an element a value; an array that is not there stays away. It fails where memory is refused, and then no element has changed.
-fn assign_element(
+fn assign_element<const SAVES: bool>(
     alloc: Global,
     arrays: &mut Arrays,
     number: Option<usize>,
@@ -127,16 +128,16 @@ fn assign_element(
 ) -> Result<(), AllocError>
     ensures did { OnOk result (arrays_of arrays.new.now ≡ put_element number key.now value (arrays_of arrays.old.now)) }
     ensures err { OnErr result (arrays_of arrays.new.now ≡ arrays_of arrays.old.now) }
-    ensures start { GrownArrays arrays.old.start arrays.new.start }
+    ensures start { OnTrue SAVES (GrownArrays arrays.old.start arrays.new.start) }
 {
     match number {
-        Some(number) => arrays.set(alloc, number, key, value),
+        Some(number) => arrays.set::<SAVES>(alloc, number, key, value),
         None => Ok(()),
     }
 }
 
 /// Makes an element that is not there, uninitialised; an array that is not there stays away. It fails where memory is refused, and then no element has changed.
-fn touch_element(
+fn touch_element<const SAVES: bool>(
     alloc: Global,
     arrays: &mut Arrays,
     number: Option<usize>,
@@ -144,16 +145,16 @@ fn touch_element(
 ) -> Result<(), AllocError>
     ensures did { OnOk result (arrays_of arrays.new.now ≡ read_element number key.now (arrays_of arrays.old.now)) }
     ensures err { OnErr result (arrays_of arrays.new.now ≡ arrays_of arrays.old.now) }
-    ensures start { GrownArrays arrays.old.start arrays.new.start }
+    ensures start { OnTrue SAVES (GrownArrays arrays.old.start arrays.new.start) }
 {
     match number {
-        Some(number) => arrays.touch(alloc, number, key),
+        Some(number) => arrays.touch::<SAVES>(alloc, number, key),
         None => Ok(()),
     }
 }
 
 /// Deletes an element; an array that is not there stays away. It fails where memory is refused, and then no element has changed.
-fn delete_element(
+fn delete_element<const SAVES: bool>(
     alloc: Global,
     arrays: &mut Arrays,
     number: Option<usize>,
@@ -161,28 +162,31 @@ fn delete_element(
 ) -> Result<(), AllocError>
     ensures did { OnOk result (arrays_of arrays.new.now ≡ delete_element number key.now (arrays_of arrays.old.now)) }
     ensures err { OnErr result (arrays_of arrays.new.now ≡ arrays_of arrays.old.now) }
-    ensures start { GrownArrays arrays.old.start arrays.new.start }
+    ensures start { OnTrue SAVES (GrownArrays arrays.old.start arrays.new.start) }
 {
     match number {
-        Some(number) => arrays.delete(alloc, number, key),
+        Some(number) => arrays.delete::<SAVES>(alloc, number, key),
         None => Ok(()),
     }
 }
 
 /// Deletes all elements of an array; one that is not there stays away. It fails where memory is refused; some are deleted then.
-fn clear_elements(arrays: &mut Arrays, number: Option<usize>) -> Result<(), AllocError>
+fn clear_elements<const SAVES: bool>(
+    arrays: &mut Arrays,
+    number: Option<usize>,
+) -> Result<(), AllocError>
     ensures did { OnOk result (arrays_of arrays.new.now ≡ clear_elements number (arrays_of arrays.old.now)) }
-    ensures start { arrays.new.start ≡ arrays.old.start }
+    ensures start { OnTrue SAVES (arrays.new.start ≡ arrays.old.start) }
 {
     match number {
-        Some(number) => arrays.clear(number),
+        Some(number) => arrays.clear::<SAVES>(number),
         None => Ok(()),
     }
 }
 
 impl Store {
     /// Deletes an element of an array, if both are there (POSIX awk, Actions). It fails where memory is refused, and then no element has changed.
-    pub fn delete_element(
+    pub fn delete_element<const SAVES: bool>(
         &mut self,
         alloc: Global,
         array: Array,
@@ -191,20 +195,20 @@ impl Store {
         ensures did { OnOk result (arrays_of self.new.arrays.now ≡ delete_element (array_in array (frames_of self.old.frames.now)) key.now (arrays_of self.old.arrays.now)) }
         ensures err { OnErr result (arrays_of self.new.arrays.now ≡ arrays_of self.old.arrays.now) }
         ensures rest { now_of self.new ≡ record (now_of self.old) { arrays = self.new.arrays.now } }
-        ensures start { Grown (start_of self.old) (start_of self.new) }
+        ensures start { OnTrue SAVES (Grown (start_of self.old) (start_of self.new)) }
     {
         let number = array_number(&self.frames, array);
-        delete_element(alloc, &mut self.arrays, number, key)
+        delete_element::<SAVES>(alloc, &mut self.arrays, number, key)
     }
 
     /// Deletes all elements of an array, if it is there, in a time linear in the slots that it has. It fails where memory is refused; some are deleted then.
-    pub fn clear_elements(&mut self, array: Array) -> Result<(), AllocError>
+    pub fn clear_elements<const SAVES: bool>(&mut self, array: Array) -> Result<(), AllocError>
         ensures did { OnOk result (arrays_of self.new.arrays.now ≡ clear_elements (array_in array (frames_of self.old.frames.now)) (arrays_of self.old.arrays.now)) }
         ensures rest { now_of self.new ≡ record (now_of self.old) { arrays = self.new.arrays.now } }
-        ensures start { start_of self.new ≡ start_of self.old }
+        ensures start { OnTrue SAVES (start_of self.new ≡ start_of self.old) }
     {
         let number = array_number(&self.frames, array);
-        clear_elements(&mut self.arrays, number)
+        clear_elements::<SAVES>(&mut self.arrays, number)
     }
 
     /// The keys of an array in byte order, none where it is not there: a copy of each. It fails where memory is refused.
@@ -249,7 +253,7 @@ impl Store {
 
     /// Makes an element that is not there, uninitialised, as reading it does (POSIX awk, Expressions in awk); an array that is not there stays away. It fails where memory is
     /// refused, and then no element has changed.
-    pub fn touch_element(
+    pub fn touch_element<const SAVES: bool>(
         &mut self,
         alloc: Global,
         array: Array,
@@ -258,39 +262,41 @@ impl Store {
         ensures did { OnOk result (arrays_of self.new.arrays.now ≡ read_element (array_in array (frames_of self.old.frames.now)) key.now (arrays_of self.old.arrays.now)) }
         ensures err { OnErr result (arrays_of self.new.arrays.now ≡ arrays_of self.old.arrays.now) }
         ensures rest { now_of self.new ≡ record (now_of self.old) { arrays = self.new.arrays.now } }
-        ensures start { Grown (start_of self.old) (start_of self.new) }
+        ensures start { OnTrue SAVES (Grown (start_of self.old) (start_of self.new)) }
     {
         let number = array_number(&self.frames, array);
-        touch_element(alloc, &mut self.arrays, number, key)
+        touch_element::<SAVES>(alloc, &mut self.arrays, number, key)
     }
 
     /// Assigns a place, or answers the fault of that, which changes nothing (POSIX awk, Expressions in awk; Variables and Special Variables): a local that is not there
     /// changes nothing, nor does an array; of NF the fields are cut or extended, of a field `$0` is built anew, and of `$0` the fields are. It fails where memory is
     /// refused, and then the step may have changed the record or the place.
-    pub fn assign(
+    pub fn assign<const SAVES: bool>(
         &mut self,
         alloc: Global,
         target: &Target,
         value: Value,
     ) -> Result<Option<Fault>, AllocError>
         ensures did { IfOk result (λ fault. HasAssigned target.now value fault (now_of self.old) (now_of self.new)) }
-        ensures start { Grown (start_of self.old) (start_of self.new) }
+        ensures start { OnTrue SAVES (Grown (start_of self.old) (start_of self.new)) }
     {
         match target {
-            Target::Global(number) => self.globals.set(*number, value)?,
-            Target::Local(number) => self.frames.set_local(*number, Local::Holds(value))?,
+            Target::Global(number) => self.globals.set::<SAVES>(*number, value)?,
+            Target::Local(number) => self
+                .frames
+                .set_local::<SAVES>(*number, Local::Holds(value))?,
             Target::FieldCount => {
-                return assign_count(alloc, &self.globals, &mut self.current, &value);
+                return assign_count::<SAVES>(alloc, &self.globals, &mut self.current, &value);
             }
             Target::Field(0) => {
-                return assign_record(alloc, &self.globals, &mut self.current, &value);
+                return assign_record::<SAVES>(alloc, &self.globals, &mut self.current, &value);
             }
             Target::Field(number) => {
-                assign_field(alloc, &self.globals, &mut self.current, *number, value)?;
+                assign_field::<SAVES>(alloc, &self.globals, &mut self.current, *number, value)?;
             }
             Target::Element(array, key) => {
                 let number = array_number(&self.frames, *array);
-                assign_element(alloc, &mut self.arrays, number, key.as_slice(), value)?;
+                assign_element::<SAVES>(alloc, &mut self.arrays, number, key.as_slice(), value)?;
             }
         }
         Ok(None)

@@ -1,6 +1,7 @@
 //! The present record, and the one before the step.
 
 ghost use Rattle.std.specs.Prelude.{◌≡◌, ◌≢◌, ◌<◌, ◌-◌, ◌^◌, IfErr, OnErr, OnOk, if◌then◌else◌, length, slice_get};
+ghost use Rattle.std.specs.Bool.{OnTrue};
 ghost use Rattle.std.specs.Option.{option_map};
 ghost use Rattle.rawk_slots.specs.Journaled.{at_rest};
 ghost use Rattle.rawk_record.specs.Changed.{rebuilt, resized, with_value};
@@ -24,6 +25,8 @@ pub struct Current {
     other: Record,
     built: Record,
     changed: bool,
+    // Whether a text that is read is left uncut: then its fields are sought each time that they are asked for. No contract sees it, since no answer depends on it.
+    uncut: bool,
     // The expression of the last field separator of several bytes.
     last: CachedExpression,
 }
@@ -38,35 +41,59 @@ impl Model for Current {
     ghost view = { λ c. record { now = c.present; start = if c.changed then c.other else c.present } };
 }
 
+/// Makes a record a text with its fields, and leaves it uncut where that is wanted.
+#[inline(always)]
+fn refill(
+    alloc: Global,
+    to: &mut Record,
+    uncut: bool,
+    text: &[u8],
+    separator: Separator<'_>,
+    newline: bool,
+) -> Result<(), AllocError>
+    ensures { OnOk result (to.new ≡ split_record separator.entry newline text.now) }
+{
+    if uncut {
+        return to.refill_uncut(alloc, text, separator, newline);
+    }
+    to.refill(alloc, text, separator, newline)
+}
+
 /// Makes a text with its fields the present record; the record as it was when the step began stays.
-fn fill(
+fn fill<const SAVES: bool>(
     alloc: Global,
     present: &mut Record,
     other: &mut Record,
     changed: &mut bool,
+    uncut: bool,
     text: &[u8],
     separator: Separator<'_>,
     newline: bool,
 ) -> Result<(), AllocError>
     ensures did { OnOk result (present.new ≡ split_record separator.entry newline text.now) }
-    ensures start { (if changed.new then other.new else present.new) ≡ (if changed.old then other.old else present.old) }
+    ensures start { OnTrue SAVES ((if changed.new then other.new else present.new) ≡ (if changed.old then other.old else present.old)) }
 {
-    if *changed {
-        return present.refill(alloc, text, separator, newline);
+    if !SAVES || *changed {
+        return refill(alloc, present, uncut, text, separator, newline);
     }
-    other.refill(alloc, text, separator, newline)?;
+    refill(alloc, other, uncut, text, separator, newline)?;
     mem::swap(present, other);
     *changed = true;
     Ok(())
 }
 
 /// Makes the record that was built the present one; the record as it was when the step began stays.
-fn put(present: &mut Record, other: &mut Record, changed: &mut bool, built: &mut Record)
+fn put<const SAVES: bool>(
+    present: &mut Record,
+    other: &mut Record,
+    changed: &mut bool,
+    built: &mut Record,
+)
     ensures present { present.new ≡ built.old }
-    ensures start { (if changed.new then other.new else present.new) ≡ (if changed.old then other.old else present.old) }
+    ensures start { OnTrue SAVES ((if changed.new then other.new else present.new) ≡ (if changed.old then other.old else present.old)) }
 {
     mem::swap(present, built);
-    if !*changed {
+    if SAVES && !*changed {
         mem::swap(other, built);
         *changed = true;
     }
@@ -82,8 +109,16 @@ impl Current {
             other: Record::new(alloc),
             built: Record::new(alloc),
             changed: false,
+            uncut: false,
             last: CachedExpression::new(alloc),
         }
+    }
+
+    /// From now on texts that are read are left uncut: their fields are sought each time that they are asked for, which is for programs that do not ask.
+    pub fn leave_uncut(&mut self)
+        ensures { self.new ≡ self.old }
+    {
+        self.uncut = true;
     }
 
     /// The bytes of `$0`.
@@ -113,7 +148,7 @@ impl Current {
     ///
     /// A separator of several bytes that is no extended regular expression is refused, and then nothing has changed: `BadEre`. Where memory is refused the answer is
     /// `OutOfMemory`. The expression is kept, and read anew only where the separator is another one than last time.
-    pub fn read(
+    pub fn read<const SAVES: bool>(
         &mut self,
         alloc: Global,
         text: &[u8],
@@ -123,14 +158,15 @@ impl Current {
         ensures did { OnOk result (read_as text.now fs.now newline ≡ Ok self.new.now) }
         ensures fault { IfErr result (λ fault. fault ≢ Fault.OutOfMemory → read_as text.now fs.now newline ≡ Err fault) }
         ensures same { IfErr result (λ fault. fault ≢ Fault.OutOfMemory → self.new ≡ self.old) }
-        ensures start { self.new.start ≡ self.old.start }
+        ensures start { OnTrue SAVES (self.new.start ≡ self.old.start) }
     {
         let separator = Separator::named(alloc, fs, &mut self.last)?;
-        match fill(
+        match fill::<SAVES>(
             alloc,
             &mut self.present,
             &mut self.other,
             &mut self.changed,
+            self.uncut,
             text,
             separator,
             newline,
@@ -143,7 +179,7 @@ impl Current {
     /// Gives the field of a number, from 1, a value, and builds `$0` anew: the fields' texts with the separator between two. The fields between become uninitialised.
     ///
     /// It fails where memory is refused, and then nothing has changed.
-    pub fn set_field(
+    pub fn set_field<const SAVES: bool>(
         &mut self,
         alloc: Global,
         number: usize,
@@ -152,12 +188,12 @@ impl Current {
     ) -> Result<(), AllocError>
         requires { 0 < number }
         ensures did { OnOk result (self.new.now ≡ rebuilt separator.now (with_value number value self.old.now.fields)) }
-        ensures start { self.new.start ≡ self.old.start }
+        ensures start { OnTrue SAVES (self.new.start ≡ self.old.start) }
         ensures same { OnErr result (self.new ≡ self.old) }
     {
         self.built
             .rebuild_with_field(alloc, &self.present, number, value, separator)?;
-        put(
+        put::<SAVES>(
             &mut self.present,
             &mut self.other,
             &mut self.changed,
@@ -169,19 +205,19 @@ impl Current {
     /// Cuts or extends the fields to this many, and builds `$0` anew: the fields' texts with the separator between two. New fields are uninitialised.
     ///
     /// It fails where memory is refused, and then nothing has changed.
-    pub fn set_field_count(
+    pub fn set_field_count<const SAVES: bool>(
         &mut self,
         alloc: Global,
         count: usize,
         separator: &[u8],
     ) -> Result<(), AllocError>
         ensures did { OnOk result (self.new.now ≡ rebuilt separator.now (resized count self.old.now.fields)) }
-        ensures start { self.new.start ≡ self.old.start }
+        ensures start { OnTrue SAVES (self.new.start ≡ self.old.start) }
         ensures same { OnErr result (self.new ≡ self.old) }
     {
         self.built
             .rebuild_with_count(alloc, &self.present, count, separator)?;
-        put(
+        put::<SAVES>(
             &mut self.present,
             &mut self.other,
             &mut self.changed,

@@ -1,7 +1,6 @@
 //! The small part of a state, which is saved whole.
 
 ghost use Rattle.std.specs.Prelude.{◌≡◌};
-ghost use Rattle.rawk_store.specs.Stores.{IsPointStep};
 
 use rawk_value::Fault;
 use std::mem;
@@ -81,18 +80,6 @@ impl Bank {
         if now.ending.is_some() || self.start.ending.is_some() {
             self.start.ending = now.ending;
         }
-    }
-
-    /// Ends a step that changed no more than the place, the point and its site, and forgets how it began.
-    #[inline]
-    pub fn forget_point(&mut self)
-        requires { IsPointStep self.old }
-        ensures now { self.new.now ≡ self.old.now }
-        ensures start { self.new.start ≡ self.old.now }
-    {
-        self.start.place = self.now.place;
-        self.start.here = self.now.here;
-        self.start.site = self.now.site;
     }
 
     /// Puts back what the step in progress changed.

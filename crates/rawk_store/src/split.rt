@@ -1,6 +1,7 @@
 //! Elements that are the parts of a text.
 
 ghost use Rattle.std.specs.Prelude.{◌≡◌, OnOk};
+ghost use Rattle.std.specs.Bool.{OnTrue};
 ghost use Rattle.rawk_value.specs.Values.{text_of};
 ghost use Rattle.rawk_record.specs.Pieces.{AllInRange, texts};
 ghost use Rattle.rawk_arrays.specs.Elements.{with_element};
@@ -19,7 +20,7 @@ use rawk_words::Array;
 use std::alloc::{AllocError, Global};
 
 /// Gives the element at the key of a number a text of an input. It fails where memory is refused, and then no element has changed.
-fn put_text(
+fn put_text<const SAVES: bool>(
     alloc: Global,
     arrays: &mut Arrays,
     array: usize,
@@ -27,15 +28,15 @@ fn put_text(
     text: &[u8],
 ) -> Result<(), AllocError>
     ensures did { OnOk result (arrays_of arrays.new.now ≡ with_element array (text_of (Value.Number key)) (Value.Input text.now) (arrays_of arrays.old.now)) }
-    ensures start { GrownArrays arrays.old.start arrays.new.start }
+    ensures start { OnTrue SAVES (GrownArrays arrays.old.start arrays.new.start) }
 {
     let mut digits = Buffer::new();
     let value = Value::Input(Bytes::from_slice(alloc, text)?);
-    arrays.set(alloc, array, digits_in(key, &mut digits), value)
+    arrays.set::<SAVES>(alloc, array, digits_in(key, &mut digits), value)
 }
 
 /// Gives the elements at the keys from 1 on the pieces of a text, as texts of an input. It fails where memory is refused; then some have changed.
-fn put_pieces(
+fn put_pieces<const SAVES: bool>(
     alloc: Global,
     arrays: &mut Arrays,
     array: usize,
@@ -44,18 +45,18 @@ fn put_pieces(
 ) -> Result<(), AllocError>
     requires { AllInRange text.now pieces.now }
     ensures did { OnOk result (arrays_of arrays.new.now ≡ numbered array 1 (texts text.now pieces.now) (arrays_of arrays.old.now)) }
-    ensures start { GrownArrays arrays.old.start arrays.new.start }
+    ensures start { OnTrue SAVES (GrownArrays arrays.old.start arrays.new.start) }
 {
     for (place, piece) in pieces.iter().enumerate() {
         let key = (place + 1) as i64;
-        put_text(alloc, arrays, array, key, &text[piece.start..piece.end])?;
+        put_text::<SAVES>(alloc, arrays, array, key, &text[piece.start..piece.end])?;
     }
     Ok(())
 }
 
 /// An array takes the pieces of a text as its elements at the keys from 1 on, as texts of an input, and has no others then; an array that is not there stays away
 /// (POSIX awk, String Functions, `split`). It fails where memory is refused; then elements may have changed.
-pub fn fill_elements(
+pub fn fill_elements<const SAVES: bool>(
     alloc: Global,
     arrays: &mut Arrays,
     frames: &Frames,
@@ -65,12 +66,12 @@ pub fn fill_elements(
 ) -> Result<(), AllocError>
     requires { AllInRange text.now pieces.now }
     ensures did { OnOk result (arrays_of arrays.new.now ≡ fill_elements (array_in array (frames_of frames.now.now)) (texts text.now pieces.now) (arrays_of arrays.old.now)) }
-    ensures start { GrownArrays arrays.old.start arrays.new.start }
+    ensures start { OnTrue SAVES (GrownArrays arrays.old.start arrays.new.start) }
 {
     match array_number(frames, array) {
         Some(number) => {
-            arrays.clear(number)?;
-            put_pieces(alloc, arrays, number, text, pieces)
+            arrays.clear::<SAVES>(number)?;
+            put_pieces::<SAVES>(alloc, arrays, number, text, pieces)
         }
         None => Ok(()),
     }

@@ -5,7 +5,8 @@ ghost use Rattle.std.specs.Bool.{OnTrue};
 ghost use Rattle.rawk_record.specs.Shown.{record_back};
 ghost use Rattle.rawk_slots.specs.Back.{back};
 ghost use Rattle.rawk_store.specs.Layout.{IsSound, state};
-ghost use Rattle.rawk_store.specs.Stores.{IsNarrowStep, IsNew, IsPlainStep, now_of, others_rested, start_of};
+ghost use Rattle.rawk_store.specs.Saving.{SavesOnce};
+ghost use Rattle.rawk_store.specs.Stores.{BeganNested, IsNew, IsPlainStep, now_of, others_rested, start_of};
 ghost use Rattle.rawk_store.specs.GroupBack.{ArraysFit, FitsIn, FitsOthers, OthersLead, arrays_in, others_put, put_back};
 
 use crate::current::Current;
@@ -71,6 +72,7 @@ impl Store {
     /// Ends the step in the parts that few steps change, and gives what it changed there, if it changed anything. It takes no memory.
     #[inline]
     pub fn finish_others(&mut self, alloc: Global) -> Option<Others>
+        requires nested { BeganNested self.old }
         ensures now { now_of self.new ≡ now_of self.old }
         ensures start { start_of self.new ≡ others_rested (now_of self.old) (start_of self.old) }
         ensures back { OthersLead result (now_of self.old) (start_of self.old) }
@@ -90,13 +92,16 @@ impl Store {
         })
     }
 
-    /// Ends the step, and gives what it changed. It takes memory at most where a text grew in place, and where that is refused nothing has changed.
+    /// Ends the step, and gives what it changed, of each global and each element once. It takes memory at most where a text grew in place, and where that is refused nothing
+    /// has changed.
     pub fn finish(&mut self, alloc: Global) -> Result<Group, AllocError>
+        requires nested { BeganNested self.old }
         ensures now { now_of self.new ≡ now_of self.old }
         ensures rest { OnOk result (start_of self.new ≡ now_of self.old) }
         ensures open { OnErr result (start_of self.new ≡ start_of self.old) }
         ensures back { IfOk result (λ group. put_back (now_of self.old) group ≡ start_of self.old) }
         ensures fits { IfOk result (λ group. FitsIn group (now_of self.old)) }
+        ensures once { IfOk result (λ group. SavesOnce group) }
         ensures sound { IsSound (now_of self.old) }
     {
         self.known();
@@ -139,36 +144,6 @@ impl Store {
         self.registers.forget();
     }
 
-    /// Ends a step that changed no array, activation, key that is left, range or operand, and forgets what it changed: it goes through none of these.
-    /// Its buffers are used again: it takes no memory.
-    #[inline]
-    pub fn forget_plain(&mut self)
-        requires { IsPlainStep self.old }
-        ensures now { now_of self.new ≡ now_of self.old }
-        ensures rest { start_of self.new ≡ now_of self.old }
-        ensures sound { IsSound (now_of self.old) }
-    {
-        self.known();
-        self.globals.forget();
-        self.current.forget();
-        self.output.forget();
-        self.registers.forget();
-    }
-
-    /// Ends a step that changed no more than globals, the place, the point and its site, and forgets what it changed: it goes through no other part.
-    /// Its buffers are used again: it takes no memory.
-    #[inline]
-    pub fn forget_narrow(&mut self)
-        requires { IsNarrowStep self.old }
-        ensures now { now_of self.new ≡ now_of self.old }
-        ensures rest { start_of self.new ≡ now_of self.old }
-        ensures sound { IsSound (now_of self.old) }
-    {
-        self.known();
-        self.globals.forget();
-        self.registers.forget_point();
-    }
-
     /// Removes slots of arrays that are empty, where most of them are. No state changes by it, but what leads back to earlier steps fits no more then. Where memory for that
     /// is refused, the slots stay.
     pub fn pack(&mut self, alloc: Global)
@@ -183,6 +158,7 @@ impl Store {
 
     /// Puts back what the step in progress changed. It takes no memory and always succeeds.
     pub fn undo_step(&mut self)
+        requires nested { BeganNested self.old }
         ensures now { now_of self.new ≡ start_of self.old }
         ensures rest { start_of self.new ≡ start_of self.old }
         ensures sound { IsSound (start_of self.old) }

@@ -1,7 +1,6 @@
 -- The names of the globals, and what they and parameters are, one after another.
 use Rattle.std.proofs.Common.{◌≡◌, ◌<◌, ◌≤◌, ℕ, ◌+◌, ◌-◌, suc, List, [], ◌∷◌, ◌++◌, length, drop, map, get_or, refl, sym, ap, ◌∙◌, arith, Option, None, Some, slice_get, append_assoc}
 use Rattle.std.specs.List.{range_with_len}
-use Rattle.std.proofs.lemmas.List.{append-nil, drop_all}
 use Rattle.std.proofs.lemmas.Option.{slice_get-get_or, slice_get_past}
 use Rattle.std.proofs.lemmas.List.FromFn.{length-map-range_with_len, get_or-map-range_with_len, map-range_with_len_more}
 use Rattle.std.proofs.Math.Seq.{drop-cons}
@@ -31,9 +30,6 @@ word_more vars v words new all w h is more before =
     ∙ ap (λ ks. words ++ map key_of ks) (sym front)
     ∙ before
 
-pub words_all : (vars : List ArrayKey) (v : ℕ) (words all : List (List ℕ)) → length vars ≤ v → words ++ map key_of (drop v vars) ≡ all → words ≡ all
-words_all vars v words all h before = sym (append-nil words) ∙ ap (λ ks. words ++ map key_of ks) (sym (drop_all v vars h)) ∙ before
-
 pub kind_more : (names : Known) (v : ℕ) (kinds new all : List Kind) (k : Kind) → v < length names.variables → k ≡ kind_of (is_marked names.arrays v)
     → new ≡ kinds ++ k ∷ [] → kinds ++ kinds_from names v (drop v names.variables) ≡ all → new ++ kinds_from names (v + 1) (drop (v + 1) names.variables) ≡ all
 kind_more names v kinds new all k h is more before =
@@ -47,9 +43,6 @@ kind_more names v kinds new all k h is more before =
     ∙ ap (λ entries. kinds ++ kinds_from names v entries) (sym front)
     ∙ before
 
-pub kinds_all : (names : Known) (v : ℕ) (kinds all : List Kind) → length names.variables ≤ v → kinds ++ kinds_from names v (drop v names.variables) ≡ all → kinds ≡ all
-kinds_all names v kinds all h before = sym (append-nil kinds) ∙ ap (λ entries. kinds ++ kinds_from names v entries) (sym (drop_all v names.variables h)) ∙ before
-
 -- ---- parameters
 
 abbrev pub kind_in : Known → ℕ → Kind
@@ -62,14 +55,6 @@ parameter_more names first v kinds new k low is more before =
     let next : (v - first) + 1 ≡ v + 1 - first = omega arith in
     more ∙ ap (λ ks. ks ++ k ∷ []) before ∙ ap (λ x. map (kind_in names) (range_with_len first (v - first)) ++ x ∷ []) is
     ∙ sym (map-range_with_len_more (kind_in names) first (v - first) v sum) ∙ ap (λ n. map (kind_in names) (range_with_len first n)) next
-
--- by a function's signature, if there is one
-pub kinds_there : (names : Known) (f : ℕ) (s : Signature) (n : ℕ) (kinds : List Kind) → Some s ≡ slice_get names.signatures f → n ≡ s.end - s.first
-    → kinds ≡ map (kind_in names) (range_with_len s.first n) → kinds ≡ parameter_kinds names f
-kinds_there names f s n kinds found count are = are ∙ ap (λ z. map (kind_in names) (range_with_len s.first z)) count ∙ ap (kinds_at names) found
-
-pub no_kinds : (names : Known) (f : ℕ) → None ≡ slice_get names.signatures f → [] ≡ parameter_kinds names f
-no_kinds names f none = ap (kinds_at names) none
 
 pub kind_there : (names : Known) (f : ℕ) (s : Signature) (i : ℕ) (k : Kind) → Some s ≡ slice_get names.signatures f → i < s.end - s.first → k ≡ kind_in names (s.first + i) → Some k ≡ slice_get (parameter_kinds names f) i
 kind_there names f s i k found within is =

@@ -1,10 +1,7 @@
 -- The steps of settling statements and items, over plain variables.
 use Rattle.std.proofs.Common.{◌≡◌, ℕ, ◌+◌, ◌-◌, ◌<◌, suc, List, [], ◌∷◌, ◌++◌, length, take, get_or, Option, None, Some, Result, Ok, Err, IfOk, OnOk, refl, sym, ap, subst, ◌∙◌, pos, arith}
-use Rattle.std.proofs.lemmas.List.{take_more, map-append, length-append}
-use Rattle.std.proofs.lemmas.Result.{IfOk-at_ok}
+use Rattle.std.proofs.lemmas.List.{take_more, length-append}
 use Rattle.std.specs.Global.{Box, Vec}
-use Rattle.std.specs.Result.{result_err, result_map_both}
-use Rattle.rawk_parsing.specs.declared.parse_error.ParseError.{ParseError}
 use Rattle.rawk_parsing.specs.declared.tree.Expr as parsed
 use Rattle.rawk_parsing.specs.declared.tree.Place as spot
 use Rattle.rawk_grammar.specs.declared.tree.Act.TheVariants as act
@@ -27,27 +24,26 @@ use Rattle.rawk_tree.specs.declared.tree.Expr.{Expr}
 use Rattle.rawk_tree.specs.declared.tree.Stmt.{Stmt}
 use Rattle.rawk_tree.specs.declared.tree.Stmt.TheVariants as tree
 use Rattle.rawk_tree.specs.declared.tree.Branch.{Branch}
+use Rattle.rawk_tree.specs.declared.tree.Function.{Function}
 use Rattle.rawk_tree.specs.declared.tree.Kind.{Kind}
 use Rattle.rawk_tree.specs.declared.tree.Scalar.{Scalar}
 use Rattle.rawk_words.specs.declared.array.Array.{Array}
 use Rattle.rawk_tree.specs.declared.tree.Expr.TheVariants as expr
-use Rattle.rawk_syntax.specs.declared.statements.LoopHead.{LoopHead}
 use Rattle.rawk_tree.specs.declared.tree.Guard.{Guard}
 use Rattle.rawk_tree.specs.declared.tree.Guard.TheVariants as tree_guard
 use Rattle.rawk_tree.specs.declared.tree.Rule.{Rule}
 use Rattle.rawk_parsing.specs.declared.tree.Name.{Name}
 use Rattle.rawk_tree.specs.declared.tree.Program.{Program}
-use Rattle.rawk_syntax.specs.Covered.{Judges}
 use Rattle.rawk_syntax.specs.Meant.{Sense}
 use Rattle.rawk_syntax.specs.Settled.{Settles, AnExpr, SomeExprs, Prints}
 use Rattle.rawk_syntax.specs.Laid as spec
-use Rattle.rawk_syntax.specs.Laid.{Adds, sited, rule_of, ranges_of, words_of, Deletes, Simply, Exits, Returns, Jumps, Tests, Lays, AStmt, SomeStmts, AnOther, SomeBranches, Heads, branch_with, head_with, for_with, Does, Guards, Rules, Defines, IsLaidWith}
+use Rattle.rawk_syntax.specs.Laid.{Adds, sited, rule_of, ranges_of, words_of, Deletes, Simply, Exits, Returns, Jumps, Tests, Lays, AStmt, SomeStmts, AnOther, SomeBranches, Does, Guards, Rules, Defines, IsLaidWith}
 
 simple_is : (x : Simple) → x ≡ simple_at x.left x.act
 unfolding simple_at
 simple_is x = refl
 
-evaluates : (means : Sense) (text : List ℕ) (x : Simple) (e y : parsed.Expr) (s : Expr) (n : ℕ) (old new : List ℕ)
+pub evaluates : (means : Sense) (text : List ℕ) (x : Simple) (e y : parsed.Expr) (s : Expr) (n : ℕ) (old new : List ℕ)
     → x.act ≡ act.Evaluate e → y ≡ e → n ≡ length old → new ≡ sited text x.left old → Settles means (AnExpr y s) → Simply text means x (tree.Do n s) old new
 evaluates means text x e y s n old new is same count lines h =
     let g : Settles means (AnExpr e s) = subst (λ (z : parsed.Expr). Settles means (AnExpr z s)) same h in
@@ -56,12 +52,7 @@ evaluates means text x e y s n old new is same count lines h =
     let counted : Simply text means (simple_at x.left (act.Evaluate e)) (tree.Do n s) old new = rw (count, lines) whole in
     subst (λ z. Simply text means z (tree.Do n s) old new) k counted
 
-pub evaluate_lays : (means : Sense) {E : Type 0} (r : Result Expr E) (q : Result Stmt E) (text : List ℕ) (x : Simple) (e y : parsed.Expr) (n : ℕ) (old new : List ℕ)
-    → q ≡ result_map_both (tree.Do n) (λ z. z) r → x.act ≡ act.Evaluate e → y ≡ e → n ≡ length old → new ≡ sited text x.left old → IfOk r (λ s. Settles means (AnExpr y s)) → IfOk q (λ t. Simply text means x t old new)
-evaluate_lays means (Ok s) q text x e y n old new made is same count lines h = rw made (evaluates means text x e y s n old new is same count lines h)
-evaluate_lays means (Err f) q text x e y n old new made is same count lines h = rw made tt
-
-prints : (means : Sense) (text : List ℕ) (x : Simple) (es ys : List parsed.Expr) (ss : Vec Expr) (n : ℕ) (old new : List ℕ)
+pub prints : (means : Sense) (text : List ℕ) (x : Simple) (es ys : List parsed.Expr) (ss : Vec Expr) (n : ℕ) (old new : List ℕ)
     → x.act ≡ act.Print es → ys ≡ es → n ≡ length old → new ≡ sited text x.left old → Prints means ys ss.items → Simply text means x (tree.Print n ss) old new
 prints means text x es ys ss n old new is same count lines h =
     let g : Prints means es ss.items = subst (λ (z : List parsed.Expr). Prints means z ss.items) same h in
@@ -70,12 +61,7 @@ prints means text x es ys ss n old new is same count lines h =
     let counted : Simply text means (simple_at x.left (act.Print es)) (tree.Print n ss) old new = rw (count, lines) whole in
     subst (λ z. Simply text means z (tree.Print n ss) old new) k counted
 
-pub print_lays : (means : Sense) {E : Type 0} (r : Result (Vec Expr) E) (q : Result Stmt E) (text : List ℕ) (x : Simple) (es ys : List parsed.Expr) (n : ℕ) (old new : List ℕ)
-    → q ≡ result_map_both (tree.Print n) (λ z. z) r → x.act ≡ act.Print es → ys ≡ es → n ≡ length old → new ≡ sited text x.left old → IfOk r (λ ss. Prints means ys ss.items) → IfOk q (λ t. Simply text means x t old new)
-print_lays means (Ok ss) q text x es ys n old new made is same count lines h = rw made (prints means text x es ys ss n old new is same count lines h)
-print_lays means (Err f) q text x es ys n old new made is same count lines h = rw made tt
-
-printfs : (means : Sense) (text : List ℕ) (x : Simple) (es ys : List parsed.Expr) (s : Expr) (ss : Vec Expr) (n : ℕ) (old new : List ℕ)
+pub printfs : (means : Sense) (text : List ℕ) (x : Simple) (es ys : List parsed.Expr) (s : Expr) (ss : Vec Expr) (n : ℕ) (old new : List ℕ)
     → x.act ≡ act.Printf es → ys ≡ es → n ≡ length old → new ≡ sited text x.left old → Settles means (SomeExprs ys (s ∷ ss.items)) → Simply text means x (tree.Printf n s ss) old new
 printfs means text x es ys s ss n old new is same count lines h =
     let g : Settles means (SomeExprs es (s ∷ ss.items)) = subst (λ (z : List parsed.Expr). Settles means (SomeExprs z (s ∷ ss.items))) same h in
@@ -83,11 +69,6 @@ printfs means text x es ys s ss n old new is same count lines h =
     let whole : Simply text means (simple_at x.left (act.Printf es)) (tree.Printf (length old) s ss) old (sited text x.left old) = spec.printf x.left es ss g in
     let counted : Simply text means (simple_at x.left (act.Printf es)) (tree.Printf n s ss) old new = rw (count, lines) whole in
     subst (λ z. Simply text means z (tree.Printf n s ss) old new) k counted
-
-pub printf_lays : (means : Sense) {E : Type 0} (r : Result (Expr × Vec Expr) E) (q : Result Stmt E) (text : List ℕ) (x : Simple) (es ys : List parsed.Expr) (n : ℕ) (old new : List ℕ)
-    → q ≡ result_map_both (λ p. tree.Printf n p.0 p.1) (λ z. z) r → x.act ≡ act.Printf es → ys ≡ es → n ≡ length old → new ≡ sited text x.left old → IfOk r (λ p. Settles means (SomeExprs ys (p.0 ∷ p.1.items))) → IfOk q (λ t. Simply text means x t old new)
-printf_lays means (Ok p) q text x es ys n old new made is same count lines h = rw made (printfs means text x es ys p.0 p.1 n old new is same count lines h)
-printf_lays means (Err f) q text x es ys n old new made is same count lines h = rw made tt
 
 pub delete_lays : (means : Sense) {E : Type 0} (r : Result Stmt E) (text : List ℕ) (x : Simple) (p : spot.Place) (n : ℕ) (old new : List ℕ)
     → x.act ≡ act.Delete p → n ≡ length old → new ≡ sited text x.left old → IfOk r (λ t. Deletes means n p t) → IfOk r (λ t. Simply text means x t old new)
@@ -99,29 +80,26 @@ delete_lays means (Ok t) text x p n old new is count lines h =
     subst (λ z. Simply text means z t old new) k counted
 delete_lays means (Err f) text x p n old new is count lines h = tt
 
-pub empty_lays : (means : Sense) {E : Type 0} (q : Result Stmt E) (text : List ℕ) (s : step.Stmt) (ts : Vec Stmt) (m : List ℕ) → q ≡ Ok (tree.Block ts) → s ≡ from.Empty → ts.items ≡ [] → IfOk q (λ t. Lays text means (AStmt s t) m m)
-empty_lays means q text s ts m made is none = rw (made, is) (spec.empty ts none)
+pub empty_lays : (means : Sense) (text : List ℕ) (s : step.Stmt) (ts : Vec Stmt) (m : List ℕ) → s ≡ from.Empty → ts.items ≡ [] → Lays text means (AStmt s (tree.Block ts)) m m
+empty_lays means text s ts m is none = rw is (spec.empty ts none)
 
 pub simple_lays : (means : Sense) {E : Type 0} (r : Result Stmt E) (text : List ℕ) (s : step.Stmt) (x y : Simple) (m n : List ℕ) → s ≡ from.Simple x → y ≡ x → IfOk r (λ t. Simply text means y t m n) → IfOk r (λ t. Lays text means (AStmt s t) m n)
 simple_lays means (Ok t) text s x y m n is same h = let g : Simply text means x t m n = subst (λ z. Simply text means z t m n) same h in rw is (spec.simple g)
 simple_lays means (Err e) text s x y m n is same h = tt
 
-pub block_lays : (means : Sense) {E : Type 0} (r : Result (Vec Stmt) E) (q : Result Stmt E) (text : List ℕ) (s : step.Stmt) (ss zs : List step.Stmt) (m n : List ℕ)
-    → q ≡ result_map_both tree.Block (λ z. z) r → s ≡ from.Block ss → zs ≡ ss → IfOk r (λ ts. Lays text means (SomeStmts zs ts.items) m n) → IfOk q (λ t. Lays text means (AStmt s t) m n)
-block_lays means (Ok ts) q text s ss zs m n made is same h = let g : Lays text means (SomeStmts ss ts.items) m n = subst (λ (z : List step.Stmt). Lays text means (SomeStmts z ts.items) m n) same h in rw (made, is) (spec.block ts g)
-block_lays means (Err f) q text s ss zs m n made is same h = rw made tt
+pub block_lays : (means : Sense) (text : List ℕ) (s : step.Stmt) (ss zs : List step.Stmt) (ts : Vec Stmt) (m n : List ℕ) → s ≡ from.Block ss → zs ≡ ss → Lays text means (SomeStmts zs ts.items) m n → Lays text means (AStmt s (tree.Block ts)) m n
+block_lays means text s ss zs ts m n is same h = let g : Lays text means (SomeStmts ss ts.items) m n = subst (λ (z : List step.Stmt). Lays text means (SomeStmts z ts.items) m n) same h in rw is (spec.block ts g)
 
-pub boxed_lays : (means : Sense) {E : Type 0} (text : List ℕ) (x : step.Stmt) (m n : List ℕ) (r : Result Stmt E) (q : Result (Box Stmt) E) → IfOk q (λ b. r ≡ Ok b.value) → IfOk r (λ t. Lays text means (AStmt x t) m n) → IfOk q (λ b. Lays text means (AStmt x b.value) m n)
-boxed_lays means text x m n r (Ok b) held h = IfOk-at_ok (λ t. Lays text means (AStmt x t) m n) held h
-boxed_lays means text x m n r (Err e) held h = tt
+pub boxed_lays : (means : Sense) {E : Type 0} (text : List ℕ) (x : step.Stmt) (t : Stmt) (m n : List ℕ) (q : Result (Box Stmt) E) → IfOk q (λ b. b.value ≡ t) → Lays text means (AStmt x t) m n → IfOk q (λ b. Lays text means (AStmt x b.value) m n)
+boxed_lays means text x t m n (Ok b) held h = subst (λ (v : Stmt). Lays text means (AStmt x v) m n) (sym held) h
+boxed_lays means text x t m n (Err e) held h = tt
 
-pub more_lays : (means : Sense) (text u : List ℕ) (xs : List step.Stmt) (i : ℕ) (x y : step.Stmt) (ts zs : List Stmt) (r : Result Stmt ParseError) (m n o : List ℕ)
-    → i < length xs → x ≡ get_or xs i x → y ≡ x → u ≡ text → result_err r ≡ None → IfOk r (λ t. zs ≡ ts ++ t ∷ []) → Lays text means (SomeStmts (take i xs) ts) m n → IfOk r (λ t. Lays u means (AStmt y t) n o) → Lays text means (SomeStmts (take (i + 1) xs) zs) m o
-more_lays means text u xs i x y ts zs (Ok t) m n o h at same there none more g f =
+pub more_lays : (means : Sense) (text u : List ℕ) (xs : List step.Stmt) (i : ℕ) (x y : step.Stmt) (ts zs : List Stmt) (t : Stmt) (m n o : List ℕ)
+    → i < length xs → x ≡ get_or xs i x → y ≡ x → u ≡ text → zs ≡ ts ++ t ∷ [] → Lays text means (SomeStmts (take i xs) ts) m n → Lays u means (AStmt y t) n o → Lays text means (SomeStmts (take (i + 1) xs) zs) m o
+more_lays means text u xs i x y ts zs t m n o h at same there more g f =
     let k : Lays text means (AStmt x t) n o = subst (λ (z : step.Stmt). Lays text means (AStmt z t) n o) same (subst (λ v. Lays v means (AStmt y t) n o) there f) in
     let e : take (i + 1) xs ≡ take i xs ++ x ∷ [] = take_more xs i x h ∙ ap (λ z. take i xs ++ z ∷ []) (sym at) in
     rw (e, more) (spec.a_statement g k)
-more_lays means text u xs i x y ts zs (Err d) m n o h at same there none more g f = cc
 
 -- ---- jumps, conditions, choices and loops
 
@@ -141,10 +119,8 @@ goes_next means text left j n old new is count lines = rw (is, count, lines) (sp
 pub bare_exit : (means : Sense) (site : ℕ) (o : Option parsed.Expr) → o ≡ None → Exits means site o (tree.Exit site)
 bare_exit means site o is = rw is (spec.bare site)
 
-pub status_exit : (means : Sense) {E : Type 0} (r : Result Expr E) (q : Result Stmt E) (site : ℕ) (o : Option parsed.Expr) (e y : parsed.Expr)
-    → q ≡ result_map_both (tree.ExitWith site) (λ z. z) r → o ≡ Some e → y ≡ e → IfOk r (λ s. Settles means (AnExpr y s)) → IfOk q (λ t. Exits means site o t)
-status_exit means (Ok s) q site o e y made is same h = let g : Settles means (AnExpr e s) = subst (λ (z : parsed.Expr). Settles means (AnExpr z s)) same h in rw (made, is) (spec.with_status site g)
-status_exit means (Err f) q site o e y made is same h = rw made tt
+pub status_exit : (means : Sense) (site : ℕ) (o : Option parsed.Expr) (e y : parsed.Expr) (s : Expr) → o ≡ Some e → y ≡ e → Settles means (AnExpr y s) → Exits means site o (tree.ExitWith site s)
+status_exit means site o e y s is same h = let g : Settles means (AnExpr e s) = subst (λ (z : parsed.Expr). Settles means (AnExpr z s)) same h in rw is (spec.with_status site g)
 
 pub exit_jumps : (means : Sense) {E : Type 0} (r : Result Stmt E) (text : List ℕ) (left : ℕ) (j : Jump) (o : Option parsed.Expr) (n : ℕ) (old new : List ℕ) → j ≡ jump.Exit o → n ≡ length old → new ≡ sited text left old → IfOk r (λ t. Exits means n o t) → IfOk r (λ t. Jumps text means left j t old new)
 exit_jumps means (Ok t) text left j o n old new is count lines h = let g : Exits means (length old) o t = subst (λ k. Exits means k o t) count h in rw (is, lines) (spec.exits left g)
@@ -153,10 +129,8 @@ exit_jumps means (Err e) text left j o n old new is count lines h = tt
 pub no_return_value : (means : Sense) (site : ℕ) (o : Option parsed.Expr) → o ≡ None → Returns means site o (tree.Return site)
 no_return_value means site o is = rw is (spec.no_value site)
 
-pub return_value : (means : Sense) {E : Type 0} (r : Result Expr E) (q : Result Stmt E) (site : ℕ) (o : Option parsed.Expr) (e y : parsed.Expr)
-    → q ≡ result_map_both (tree.ReturnWith site) (λ z. z) r → o ≡ Some e → y ≡ e → IfOk r (λ s. Settles means (AnExpr y s)) → IfOk q (λ t. Returns means site o t)
-return_value means (Ok s) q site o e y made is same h = let g : Settles means (AnExpr e s) = subst (λ (z : parsed.Expr). Settles means (AnExpr z s)) same h in rw (made, is) (spec.with_value site g)
-return_value means (Err f) q site o e y made is same h = rw made tt
+pub return_value : (means : Sense) (site : ℕ) (o : Option parsed.Expr) (e y : parsed.Expr) (s : Expr) → o ≡ Some e → y ≡ e → Settles means (AnExpr y s) → Returns means site o (tree.ReturnWith site s)
+return_value means site o e y s is same h = let g : Settles means (AnExpr e s) = subst (λ (z : parsed.Expr). Settles means (AnExpr z s)) same h in rw is (spec.with_value site g)
 
 pub return_jumps : (means : Sense) {E : Type 0} (r : Result Stmt E) (text : List ℕ) (left : ℕ) (j : Jump) (o : Option parsed.Expr) (n : ℕ) (old new : List ℕ) → j ≡ jump.Return o → n ≡ length old → new ≡ sited text left old → IfOk r (λ t. Returns means n o t) → IfOk r (λ t. Jumps text means left j t old new)
 return_jumps means (Ok t) text left j o n old new is count lines h = let g : Returns means (length old) o t = subst (λ k. Returns means k o t) count h in rw (is, lines) (spec.returns left g)
@@ -169,147 +143,86 @@ pub given_tests : (means : Sense) {E : Type 0} (r : Result Expr E) (o : Option p
 given_tests means (Ok s) o e y is same h = let g : Settles means (AnExpr e s) = subst (λ (z : parsed.Expr). Settles means (AnExpr z s)) same h in rw is (spec.given_test g)
 given_tests means (Err f) o e y is same h = tt
 
--- a statement that was boxed, from where it was settled
-moved : (means : Sense) (text u : List ℕ) (x y : step.Stmt) (t : Stmt) (b : Box Stmt) (m l n : List ℕ) → u ≡ text → y ≡ x → b.value ≡ t → l ≡ m → Lays u means (AStmt y t) l n → Lays text means (AStmt x b.value) m n
-moved means text u x y t b m l n there same held lines h =
-    let h1 : Lays text means (AStmt y t) l n = subst (λ v. Lays v means (AStmt y t) l n) there h in
-    let h2 : Lays text means (AStmt x t) l n = subst (λ (z : step.Stmt). Lays text means (AStmt z t) l n) same h1 in
-    let h3 : Lays text means (AStmt x b.value) l n = subst (λ (v : Stmt). Lays text means (AStmt x v) l n) (sym held) h2 in
-    subst (λ v. Lays text means (AStmt x b.value) v n) lines h3
+-- what was settled behind other sites, of the same text
+pub moved : (means : Sense) (text u : List ℕ) (pair : spec.Pair) (m l n : List ℕ) → u ≡ text → l ≡ m → Lays u means pair l n → Lays text means pair m n
+moved means text u pair m l n there lines h = subst (λ v. Lays text means pair v n) lines (subst (λ v. Lays v means pair l n) there h)
 
-pub while_lays : (means : Sense) (text u : List ℕ) (s : step.Stmt) (c d : Condition) (x y : step.Stmt) (e : Expr) (t : Stmt) (b : Box Stmt) (k : ℕ) (m l n : List ℕ)
-    → s ≡ from.While c x → d ≡ c → y ≡ x → k ≡ length m → Settles means (AnExpr d.test e) → l ≡ sited text d.left m → u ≡ text → b.value ≡ t → Lays u means (AStmt y t) l n → Lays text means (AStmt s (tree.While k e b)) m n
-while_lays means text u s c d x y e t b k m l n is same body count h lines there held f =
-    let g : Settles means (AnExpr c.test e) = subst (λ (z : Condition). Settles means (AnExpr z.test e)) same h in
-    let from_is : l ≡ sited text c.left m = lines ∙ ap (λ (z : Condition). sited text z.left m) same in
-    rw (is, count) (spec.repeats b g (moved means text u x y t b (sited text c.left m) l n there body held from_is f))
+pub while_lays : (means : Sense) (text u : List ℕ) (c : Condition) (x : step.Stmt) (e : Expr) (b : Box Stmt) (k : ℕ) (m l n : List ℕ)
+    → k ≡ length m → Settles means (AnExpr c.test e) → l ≡ sited text c.left m → u ≡ text → Lays u means (AStmt x b.value) l n → Lays text means (AStmt (from.While c x) (tree.While k e b)) m n
+while_lays means text u c x e b k m l n count h lines there f = rw count (spec.repeats b h (moved means text u (AStmt x b.value) (sited text c.left m) l n there lines f))
 
-do_lays : (means : Sense) (text u : List ℕ) (c : Condition) (x : step.Stmt) (e : Expr) (b : Box Stmt) (k : ℕ) (m l n : List ℕ)
+pub do_lays : (means : Sense) (text u : List ℕ) (c : Condition) (x : step.Stmt) (e : Expr) (b : Box Stmt) (k : ℕ) (m l n : List ℕ)
     → k ≡ length l → u ≡ text → Settles means (AnExpr c.test e) → n ≡ sited u c.left l → Lays text means (AStmt x b.value) m l → Lays text means (AStmt (from.Do x c) (tree.DoWhile b k e)) m n
 do_lays means text u c x e b k m l n count there h lines f =
     let to_is : n ≡ sited text c.left l = lines ∙ ap (λ v. sited v c.left l) there in
     rw (count, to_is) (spec.repeats_behind b f h)
 
-pub do_made : (means : Sense) {E : Type 0} (r : Result Expr E) (q : Result Stmt E) (text u : List ℕ) (c : Condition) (x : step.Stmt) (b : Box Stmt) (k : ℕ) (m l n : List ℕ)
-    → q ≡ result_map_both (tree.DoWhile b k) (λ z. z) r → k ≡ length l → u ≡ text → IfOk r (λ e. Settles means (AnExpr c.test e)) → IfOk r (λ e. n ≡ sited u c.left l) → Lays text means (AStmt x b.value) m l → IfOk q (λ t. Lays text means (AStmt (from.Do x c) t) m n)
-do_made means (Ok e) q text u c x b k m l n made count there h lines f = rw made (do_lays means text u c x e b k m l n count there h lines f)
-do_made means (Err d) q text u c x b k m l n made count there h lines f = rw made tt
+pub for_lays : (means : Sense) (text u v w : List ℕ) (h : Head) (x : step.Stmt) (e : Expr) (first step b : Box Stmt) (k : ℕ) (m n p o q : List ℕ)
+    → k ≡ length n → u ≡ text → v ≡ text → w ≡ text → Lays text means (AnOther h.first first.value) m n → Tests means h.test e → p ≡ sited u h.left n → Lays v means (AnOther h.last step.value) p o → Lays w means (AStmt x b.value) o q
+    → Lays text means (AStmt (from.For h x) (tree.For first k e step b)) m q
+for_lays means text u v w h x e first step b k m n p o q count there_u there_v there_w f g lines l d =
+    let from_is : p ≡ sited text h.left n = lines ∙ ap (λ x. sited x h.left n) there_u in
+    let last : Lays text means (AnOther h.last step.value) (sited text h.left n) o = moved means text v (AnOther h.last step.value) (sited text h.left n) p o there_v from_is l in
+    rw count (spec.counts h first step b f g last (moved means text w (AStmt x b.value) o o q there_w refl d))
 
-other_moved : (means : Sense) (text u : List ℕ) (o p : Option step.Stmt) (t : Stmt) (m l n : List ℕ) → u ≡ text → p ≡ o → l ≡ m → Lays u means (AnOther p t) l n → Lays text means (AnOther o t) m n
-other_moved means text u o p t m l n there same lines h =
-    let h1 : Lays text means (AnOther p t) l n = subst (λ v. Lays v means (AnOther p t) l n) there h in
-    let h2 : Lays text means (AnOther o t) l n = subst (λ (z : Option step.Stmt). Lays text means (AnOther z t) l n) same h1 in
-    subst (λ v. Lays text means (AnOther o t) v n) lines h2
+pub for_in_lays : (means : Sense) (text u : List ℕ) (left : ℕ) (x y : Name) (s : step.Stmt) (v : Scalar) (a : Array) (b : Box Stmt) (k : ℕ) (m l n : List ℕ)
+    → k ≡ length m → l ≡ sited text left m → u ≡ text → means.scalar x.word ≡ Some v → means.array y.word ≡ Some a → Lays u means (AStmt s b.value) l n → Lays text means (AStmt (from.ForIn left x y s) (tree.ForIn k v a b)) m n
+for_in_lays means text u left x y s v a b k m l n count lines there taker array f = rw count (spec.visits left b taker array (moved means text u (AStmt s b.value) (sited text left m) l n there lines f))
 
-pub if_lays : (means : Sense) {E : Type 0} (r : Result (Box Stmt) E) (q : Result Stmt E) (text u : List ℕ) (s : step.Stmt) (bs ys : List branching.Branch) (other : Option step.Stmt) (cs : Vec Branch) (m l n : List ℕ)
-    → q ≡ result_map_both (tree.If cs) (λ z. z) r → s ≡ from.If bs other → ys ≡ bs → u ≡ text → Lays text means (SomeBranches ys cs.items) m l → IfOk r (λ b. Lays u means (AnOther other b.value) l n) → IfOk q (λ t. Lays text means (AStmt s t) m n)
-if_lays means (Ok b) q text u s bs ys other cs m l n made is same there h f =
+pub if_lays : (means : Sense) (text u : List ℕ) (s : step.Stmt) (bs ys : List branching.Branch) (other : Option step.Stmt) (cs : Vec Branch) (t : Box Stmt) (m l n : List ℕ)
+    → s ≡ from.If bs other → ys ≡ bs → u ≡ text → Lays text means (SomeBranches ys cs.items) m l → Lays u means (AnOther other t.value) l n → Lays text means (AStmt s (tree.If cs t)) m n
+if_lays means text u s bs ys other cs t m l n is same there h f =
     let g : Lays text means (SomeBranches bs cs.items) m l = subst (λ (z : List branching.Branch). Lays text means (SomeBranches z cs.items) m l) same h in
-    rw (made, is) (spec.choice cs b g (other_moved means text u other other b.value l l n there refl refl f))
-if_lays means (Err d) q text u s bs ys other cs m l n made is same there h f = rw made tt
+    rw is (spec.choice cs t g (moved means text u (AnOther other t.value) l l n there refl f))
 
-pub for_lays : (means : Sense) (text u v w : List ℕ) (s : step.Stmt) (h i : Head) (x y : step.Stmt) (e : Expr) (t : Stmt) (first step b : Box Stmt) (k : ℕ) (m n p o q : List ℕ)
-    → s ≡ from.For h x → i ≡ h → y ≡ x → k ≡ length n → u ≡ text → v ≡ text → w ≡ text → b.value ≡ t → Lays text means (AnOther i.first first.value) m n → Tests means i.test e → p ≡ sited u i.left n → Lays v means (AnOther i.last step.value) p o → Lays w means (AStmt y t) o q
-    → Lays text means (AStmt s (tree.For first k e step b)) m q
-for_lays means text u v w s h i x y e t first step b k m n p o q is same body count there_u there_v there_w held f g lines l d =
-    let f' : Lays text means (AnOther h.first first.value) m n = subst (λ (z : Head). Lays text means (AnOther z.first first.value) m n) same f in
-    let g' : Tests means h.test e = subst (λ (z : Head). Tests means z.test e) same g in
-    let from_is : p ≡ sited text h.left n = lines ∙ ap (λ x. sited x i.left n) there_u ∙ ap (λ (z : Head). sited text z.left n) same in
-    let l' : Lays text means (AnOther h.last step.value) (sited text h.left n) o = other_moved means text v h.last i.last step.value (sited text h.left n) p o there_v (ap (λ (z : Head). z.last) same) from_is l in
-    rw (is, count) (spec.counts h first step b f' g' l' (moved means text w x y t b o o q there_w body held refl d))
-
--- the same, where the last part may be refused
-pub while_made : (means : Sense) {E : Type 0} (r : Result (Box Stmt) E) (q : Result Stmt E) (text u : List ℕ) (c : Condition) (x : step.Stmt) (e : Expr) (k : ℕ) (m l n : List ℕ)
-    → q ≡ result_map_both (tree.While k e) (λ z. z) r → k ≡ length m → Settles means (AnExpr c.test e) → l ≡ sited text c.left m → u ≡ text → IfOk r (λ b. Lays u means (AStmt x b.value) l n) → IfOk q (λ t. Lays text means (AStmt (from.While c x) t) m n)
-while_made means (Ok b) q text u c x e k m l n is count h lines there f = rw is (while_lays means text u (from.While c x) c c x x e b.value b k m l n refl refl refl count h lines there refl f)
-while_made means (Err _) q text u c x e k m l n is count h lines there f = rw is tt
-
-pub for_in_made : (means : Sense) {E : Type 0} (r : Result (Box Stmt) E) (q : Result Stmt E) (text u : List ℕ) (left : ℕ) (x y : Name) (s : step.Stmt) (keys : Scalar × Array) (k : ℕ) (m l n : List ℕ)
-    → q ≡ result_map_both (tree.ForIn k keys.0 keys.1) (λ z. z) r → k ≡ length m → l ≡ sited text left m → u ≡ text → means.scalar x.word ≡ Some keys.0 → means.array y.word ≡ Some keys.1
-    → IfOk r (λ b. Lays u means (AStmt s b.value) l n) → IfOk q (λ t. Lays text means (AStmt (from.ForIn left x y s) t) m n)
-for_in_made means (Ok b) q text u left x y s keys k m l n made count lines there taker array f =
-    rw (made, count) (spec.visits left b taker array (moved means text u s s b.value b (sited text left m) l n there refl refl lines f))
-for_in_made means (Err _) q text u left x y s keys k m l n made count lines there taker array f = rw made tt
-
-pub for_made : (means : Sense) {E : Type 0} (r : Result (Box Stmt) E) (q : Result Stmt E) (text u : List ℕ) (h : Head) (x : step.Stmt) (g : LoopHead) (m p o : List ℕ)
-    → q ≡ result_map_both (for_with g) (λ z. z) r → u ≡ text → Heads text means h g m p → IfOk r (λ b. Lays u means (AStmt x b.value) p o) → IfOk q (λ t. Lays text means (AStmt (from.For h x) t) m o)
-for_made means (Ok b) q text u h x g m p o made there head turn =
-    rw made (for_lays means text text text u (from.For h x) h h x x g.test b.value g.first g.step b g.site m head.before (sited text h.left head.before) p o refl refl refl head.site refl refl there refl head.first head.test refl head.step turn)
-for_made means (Err _) q text u h x g m p o made there head turn = rw made tt
-
-pub head_made : (means : Sense) {E : Type 0} (r : Result (Box Stmt) E) (q : Result LoopHead E) (text u v : List ℕ) (h : Head) (first : Box Stmt) (e : Expr) (k : ℕ) (m n p o : List ℕ)
-    → q ≡ result_map_both (head_with first k e) (λ z. z) r → k ≡ length n → u ≡ text → v ≡ text → Lays text means (AnOther h.first first.value) m n → Tests means h.test e → p ≡ sited u h.left n
-    → IfOk r (λ b. Lays v means (AnOther h.last b.value) p o) → IfOk q (λ g. Heads text means h g m o)
-head_made means (Ok b) q text u v h first e k m n p o made count there also f g lines turn =
-    let last : Lays text means (AnOther h.last b.value) (sited text h.left n) o = other_moved means text v h.last h.last b.value (sited text h.left n) p o also refl (lines ∙ ap (λ x. sited x h.left n) there) turn in
-    rw made (record { before = n; first = f; site = count; test = g; step = last })
-head_made means (Err _) q text u v h first e k m n p o made count there also f g lines turn = rw made tt
-
-pub branch_site : {E : Type 0} (r : Result Stmt E) (q : Result Branch E) (e : Expr) (k n : ℕ) → q ≡ result_map_both (branch_with k e) (λ z. z) r → k ≡ n → IfOk q (λ b. b.site ≡ n)
-branch_site (Ok t) q e k n is count = rw is count
-branch_site (Err _) q e k n is count = rw is tt
-
-pub branch_test : (means : Sense) {E : Type 0} (r : Result Stmt E) (q : Result Branch E) (x : parsed.Expr) (e : Expr) (k : ℕ) → q ≡ result_map_both (branch_with k e) (λ z. z) r → Settles means (AnExpr x e) → IfOk q (λ b. Settles means (AnExpr x b.test))
-branch_test means (Ok t) q x e k is h = rw is h
-branch_test means (Err _) q x e k is h = rw is tt
-
-pub branch_body : (means : Sense) {E : Type 0} (r : Result Stmt E) (q : Result Branch E) (text u : List ℕ) (s x : step.Stmt) (e : Expr) (k : ℕ) (l m n : List ℕ)
-    → q ≡ result_map_both (branch_with k e) (λ z. z) r → u ≡ text → x ≡ s → l ≡ m → IfOk r (λ t. Lays u means (AStmt x t) l n) → IfOk q (λ b. Lays text means (AStmt s b.body) m n)
-branch_body means (Ok t) q text u s x e k l m n is there same lines h =
-    let h1 : Lays text means (AStmt x t) l n = subst (λ v. Lays v means (AStmt x t) l n) there h in
-    let h2 : Lays text means (AStmt s t) l n = subst (λ (z : step.Stmt). Lays text means (AStmt z t) l n) same h1 in
-    let h3 : Lays text means (AStmt s t) m n = subst (λ v. Lays text means (AStmt s t) v n) lines h2 in
-    rw is h3
-branch_body means (Err _) q text u s x e k l m n is there same lines h = rw is tt
+pub nothing_boxed : {E : Type 0} (q : Result (Box Stmt) E) (ts : Vec Stmt) → ts.items ≡ [] → IfOk q (λ b. b.value ≡ tree.Block ts) → IfOk q (λ b. (us : Vec Stmt) × (us.items ≡ []) × (b.value ≡ tree.Block us))
+nothing_boxed (Ok b) ts none is = (ts, none, is)
+nothing_boxed (Err e) ts none is = tt
 
 pub absent_lays : (means : Sense) {E : Type 0} (r : Result (Box Stmt) E) (text : List ℕ) (o : Option step.Stmt) (m : List ℕ) → o ≡ None → IfOk r (λ b. (ts : Vec Stmt) × (ts.items ≡ []) × (b.value ≡ tree.Block ts)) → IfOk r (λ b. Lays text means (AnOther o b.value) m m)
 absent_lays means (Ok b) text o m is h = rw (is, h.2) (spec.absent h.0 h.1)
 absent_lays means (Err d) text o m is h = tt
 
-pub present_lays : (means : Sense) (text : List ℕ) (o : Option step.Stmt) (x y : step.Stmt) (t : Stmt) (b : Box Stmt) (m n : List ℕ) → o ≡ Some x → y ≡ x → b.value ≡ t → Lays text means (AStmt y t) m n → Lays text means (AnOther o b.value) m n
-present_lays means text o x y t b m n is same held f = let g = moved means text text x y t b m m n refl same held refl f in rw is (spec.present g)
-
 pub other_made : (means : Sense) {E : Type 0} (r : Result (Box Stmt) E) (text : List ℕ) (o : Option step.Stmt) (x y : step.Stmt) (m n : List ℕ) → o ≡ Some x → y ≡ x → IfOk r (λ b. Lays text means (AStmt y b.value) m n) → IfOk r (λ b. Lays text means (AnOther o b.value) m n)
-other_made means (Ok b) text o x y m n is same h = present_lays means text o x y b.value b m n is same refl h
+other_made means (Ok b) text o x y m n is same h = let g : Lays text means (AStmt x b.value) m n = subst (λ (z : step.Stmt). Lays text means (AStmt z b.value) m n) same h in rw is (spec.present g)
 other_made means (Err _) text o x y m n is same h = tt
 
-pub more_branches : (means : Sense) (text u : List ℕ) (xs : List branching.Branch) (i : ℕ) (x y : branching.Branch) (cs zs : List Branch) (r : Result Branch ParseError) (m n o : List ℕ)
-    → i < length xs → x ≡ get_or xs i x → y ≡ x → u ≡ text → result_err r ≡ None → IfOk r (λ c. zs ≡ cs ++ c ∷ []) → Lays text means (SomeBranches (take i xs) cs) m n → IfOk r (λ c. c.site ≡ length n) → IfOk r (λ c. Settles means (AnExpr y.condition.test c.test))
-    → IfOk r (λ c. Lays u means (AStmt y.body c.body) (sited u y.condition.left n) o) → Lays text means (SomeBranches (take (i + 1) xs) zs) m o
-more_branches means text u xs i x y cs zs (Ok c) m n o h at same there none more g site test f =
+pub more_branches : (means : Sense) (text u : List ℕ) (xs : List branching.Branch) (i : ℕ) (x y : branching.Branch) (cs zs : List Branch) (c : Branch) (m n o : List ℕ)
+    → i < length xs → x ≡ get_or xs i x → y ≡ x → u ≡ text → zs ≡ cs ++ c ∷ [] → Lays text means (SomeBranches (take i xs) cs) m n → c.site ≡ length n → Settles means (AnExpr y.condition.test c.test)
+    → Lays u means (AStmt y.body c.body) (sited u y.condition.left n) o → Lays text means (SomeBranches (take (i + 1) xs) zs) m o
+more_branches means text u xs i x y cs zs c m n o h at same there more g site test f =
     let e : take (i + 1) xs ≡ take i xs ++ y ∷ [] = take_more xs i x h ∙ ap (λ z. take i xs ++ z ∷ []) (sym at ∙ sym same) in
     let k : Lays text means (AStmt y.body c.body) (sited text y.condition.left n) o = subst (λ v. Lays v means (AStmt y.body c.body) (sited v y.condition.left n) o) there f in
     rw (e, more) (spec.a_branch y c g site test k)
-more_branches means text u xs i x y cs zs (Err d) m n o h at same there none more g site test f = cc
+
+-- the body of a branch behind its condition
+pub branch_body : (means : Sense) (text u : List ℕ) (s x : step.Stmt) (c d : Condition) (t : Stmt) (l m n : List ℕ) → u ≡ text → x ≡ s → d ≡ c → l ≡ sited text d.left m → Lays u means (AStmt x t) l n → Lays text means (AStmt s t) (sited text c.left m) n
+branch_body means text u s x c d t l m n there same test lines h =
+    moved means text u (AStmt s t) (sited text c.left m) l n there (lines ∙ ap (λ (z : Condition). sited text z.left m) test) (subst (λ (z : step.Stmt). Lays u means (AStmt z t) l n) same h)
 
 -- ---- actions and rules
 
-pub missing_does : (means : Sense) {E : Type 0} (r : Result (Vec Expr) E) (q : Result Stmt E) (text : List ℕ) (x : Action) (left : ℕ) (none : List parsed.Expr) (n : ℕ) (old new : List ℕ)
-    → q ≡ result_map_both (tree.Print n) (λ z. z) r → x ≡ does.Missing left → none ≡ [] → n ≡ length old → new ≡ sited text left old → IfOk r (λ ss. Prints means none ss.items) → IfOk q (λ t. Does text means x t old new)
-missing_does means (Ok ss) q text x left none n old new made is bare count lines h =
+pub missing_does : (means : Sense) (text : List ℕ) (x : Action) (left : ℕ) (none : List parsed.Expr) (ss : Vec Expr) (n : ℕ) (old new : List ℕ)
+    → x ≡ does.Missing left → none ≡ [] → n ≡ length old → new ≡ sited text left old → Prints means none ss.items → Does text means x (tree.Print n ss) old new
+missing_does means text x left none ss n old new is bare count lines h =
     let g : Prints means [] ss.items = subst (λ (z : List parsed.Expr). Prints means z ss.items) bare h in
-    rw (made, is, count, lines) (spec.missing left ss g)
-missing_does means (Err d) q text x left none n old new made is bare count lines h = rw made tt
+    rw (is, count, lines) (spec.missing left ss g)
 
-pub given_does : (means : Sense) {E : Type 0} (r : Result (Vec Stmt) E) (q : Result Stmt E) (text : List ℕ) (x : Action) (ss zs : List step.Stmt) (m n : List ℕ)
-    → q ≡ result_map_both tree.Block (λ z. z) r → x ≡ does.Given ss → zs ≡ ss → IfOk r (λ ts. Lays text means (SomeStmts zs ts.items) m n) → IfOk q (λ t. Does text means x t m n)
-given_does means (Ok ts) q text x ss zs m n made is same h = let g : Lays text means (SomeStmts ss ts.items) m n = subst (λ (z : List step.Stmt). Lays text means (SomeStmts z ts.items) m n) same h in rw (made, is) (spec.given ts g)
-given_does means (Err d) q text x ss zs m n made is same h = rw made tt
+pub given_does : (means : Sense) (text : List ℕ) (x : Action) (ss zs : List step.Stmt) (ts : Vec Stmt) (m n : List ℕ) → x ≡ does.Given ss → zs ≡ ss → Lays text means (SomeStmts zs ts.items) m n → Does text means x (tree.Block ts) m n
+given_does means text x ss zs ts m n is same h = let g : Lays text means (SomeStmts ss ts.items) m n = subst (λ (z : List step.Stmt). Lays text means (SomeStmts z ts.items) m n) same h in rw is (spec.given ts g)
 
-pub tests_guard : (means : Sense) {E : Type 0} (ranges : ℕ) (r : Result Expr E) (q : Result Guard E) (text : List ℕ) (p : Pattern) (left : ℕ) (e y : parsed.Expr) (old new : List ℕ)
-    → q ≡ result_map_both tree_guard.When (λ z. z) r → p ≡ guard.When left e → y ≡ e → new ≡ sited text left old → IfOk r (λ s. Settles means (AnExpr y s)) → IfOk q (λ g. Guards text means ranges p g old new)
-tests_guard means ranges (Ok s) q text p left e y old new made is same lines h =
+pub tests_guard : (means : Sense) (ranges : ℕ) (text : List ℕ) (p : Pattern) (left : ℕ) (e y : parsed.Expr) (s : Expr) (old new : List ℕ)
+    → p ≡ guard.When left e → y ≡ e → new ≡ sited text left old → Settles means (AnExpr y s) → Guards text means ranges p (tree_guard.When s) old new
+tests_guard means ranges text p left e y s old new is same lines h =
     let g : Settles means (AnExpr e s) = subst (λ (z : parsed.Expr). Settles means (AnExpr z s)) same h in
-    rw (made, is, lines) (spec.tests left g)
-tests_guard means ranges (Err d) q text p left e y old new made is same lines h = rw made tt
+    rw (is, lines) (spec.tests left g)
 
-pub bounds_guard : (means : Sense) {E : Type 0} (ranges : ℕ) (s : Expr) (r : Result Expr E) (q : Result Guard E) (text : List ℕ) (p : Pattern) (left : ℕ) (e y f z : parsed.Expr) (old new : List ℕ)
-    → q ≡ result_map_both (tree_guard.Between ranges s) (λ z. z) r → p ≡ guard.Range left e f → y ≡ e → z ≡ f → new ≡ sited text left old → Settles means (AnExpr y s) → IfOk r (λ u. Settles means (AnExpr z u)) → IfOk q (λ g. Guards text means ranges p g old new)
-bounds_guard means ranges s (Ok u) q text p left e y f z old new made is same other lines h g =
+pub bounds_guard : (means : Sense) (ranges : ℕ) (s u : Expr) (text : List ℕ) (p : Pattern) (left : ℕ) (e y f z : parsed.Expr) (old new : List ℕ)
+    → p ≡ guard.Range left e f → y ≡ e → z ≡ f → new ≡ sited text left old → Settles means (AnExpr y s) → Settles means (AnExpr z u) → Guards text means ranges p (tree_guard.Between ranges s u) old new
+bounds_guard means ranges s u text p left e y f z old new is same other lines h g =
     let h' : Settles means (AnExpr e s) = subst (λ (v : parsed.Expr). Settles means (AnExpr v s)) same h in
     let g' : Settles means (AnExpr f u) = subst (λ (v : parsed.Expr). Settles means (AnExpr v u)) other g in
-    rw (made, is, lines) (spec.bounds left h' g')
-bounds_guard means ranges s (Err d) q text p left e y f z old new made is same other lines h g = rw made tt
+    rw (is, lines) (spec.bounds left h' g')
 
 abbrev ruled : ℕ → Guard → Stmt → Rule
 ruled site g action = record { site = site; guard = g; action = action }
@@ -318,53 +231,38 @@ guarded : (means : Sense) (ranges : ℕ) (text : List ℕ) (p : Pattern) (g : Gu
 guarded means ranges text p g x t old new m (spec.tests left h) d = spec.when left h d
 guarded means ranges text p g x t old new m (spec.bounds left h f) d = spec.between left h f d
 
-pub rule_made : (means : Sense) {A : Type 0} (ranges : ℕ) (r : Result Stmt ParseError) (q : Result A ParseError) (text u : List ℕ) (p : Pattern) (g : Guard) (x : Action) (n : ℕ) (old new m : List ℕ) (rules more : List Rule)
-    → n ≡ length old → u ≡ text → Guards text means ranges p g old new → IfOk r (λ t. Does u means x t new m) → Judges (result_err r) q → OnOk q (IfOk r (λ t. more ≡ rules ++ ruled n g t ∷ []))
-    → OnOk q (Adds (λ z. Rules text means ranges p x z old m) rules more)
-rule_made means ranges (Ok t) (Ok a) text u p g x n old new m rules more count there h d judged last =
+pub rule_made : (means : Sense) {A E : Type 0} (ranges : ℕ) (q : Result A E) (text u : List ℕ) (p : Pattern) (g : Guard) (x : Action) (t : Stmt) (n : ℕ) (old new m : List ℕ) (rules more : List Rule)
+    → n ≡ length old → u ≡ text → Guards text means ranges p g old new → Does u means x t new m → OnOk q (more ≡ rules ++ ruled n g t ∷ []) → OnOk q (Adds (λ z. Rules text means ranges p x z old m) rules more)
+rule_made means ranges (Ok a) text u p g x t n old new m rules more count there h d last =
     let d' : Does text means x t new m = subst (λ v. Does v means x t new m) there d in
     (ruled (length old) g t, guarded means ranges text p g x t old new m h d', last ∙ ap (λ k. rules ++ ruled k g t ∷ []) count)
-rule_made means ranges (Err d) (Ok a) text u p g x n old new m rules more count there h does judged last = cc
-rule_made means ranges r (Err e) text u p g x n old new m rules more count there h d judged last = tt
+rule_made means ranges (Err e) text u p g x t n old new m rules more count there h d last = tt
 
-pub always_made : (means : Sense) {A : Type 0} (r : Result (Vec Stmt) ParseError) (b : Result Stmt ParseError) (q : Result A ParseError) (text u : List ℕ) (left : ℕ) (ss : List step.Stmt) (n : ℕ) (old new m : List ℕ) (rules more : List Rule)
-    → b ≡ result_map_both tree.Block (λ z. z) r → n ≡ length old → new ≡ sited text left old → u ≡ text → IfOk r (λ ts. Lays u means (SomeStmts ss ts.items) new m) → Judges (result_err b) q → OnOk q (IfOk b (λ t. more ≡ rules ++ ruled n (tree_guard.When (expr.Number (pos 1))) t ∷ []))
+pub always_made : (means : Sense) {A E : Type 0} (q : Result A E) (text u : List ℕ) (left : ℕ) (ss : List step.Stmt) (ts : Vec Stmt) (n : ℕ) (old new m : List ℕ) (rules more : List Rule)
+    → n ≡ length old → new ≡ sited text left old → u ≡ text → Lays u means (SomeStmts ss ts.items) new m → OnOk q (more ≡ rules ++ rule_of n (expr.Number (pos 1)) (tree.Block ts) ∷ [])
     → OnOk q (Adds (λ z. (z ≡ rule_of (length old) (expr.Number (pos 1)) z.action) × Does text means (does.Given ss) z.action (sited text left old) m) rules more)
-always_made means (Ok ts) (Ok t) (Ok a) text u left ss n old new m rules more made count lines there h judged last =
-    let f : Lays text means (SomeStmts ss ts.items) new m = subst (λ v. Lays v means (SomeStmts ss ts.items) new m) there h in
-    let g : Lays text means (SomeStmts ss ts.items) (sited text left old) m = subst (λ l. Lays text means (SomeStmts ss ts.items) l m) lines f in
-    let is : t ≡ tree.Block ts = cc in
-    (rule_of (length old) (expr.Number (pos 1)) t, (refl, rw is (spec.given ts g)), last ∙ ap (λ k. rules ++ rule_of k (expr.Number (pos 1)) t ∷ []) count)
-always_made means (Err d) (Ok t) (Ok a) text u left ss n old new m rules more made count lines there h judged last = cc
-always_made means r (Err d) (Ok a) text u left ss n old new m rules more made count lines there h judged last = cc
-always_made means r b (Err e) text u left ss n old new m rules more made count lines there h judged last = tt
+always_made means (Ok a) text u left ss ts n old new m rules more count lines there h last =
+    (rule_of (length old) (expr.Number (pos 1)) (tree.Block ts), (refl, spec.given ts (moved means text u (SomeStmts ss ts.items) (sited text left old) new m there lines h)), last ∙ ap (λ k. rules ++ rule_of k (expr.Number (pos 1)) (tree.Block ts) ∷ []) count)
+always_made means (Err e) text u left ss ts n old new m rules more count lines there h last = tt
 
-pub block_made : (means : Sense) {A : Type 0} (r : Result (Vec Stmt) ParseError) (b : Result Stmt ParseError) (q : Result A ParseError) (text : List ℕ) (ss : List step.Stmt) (m n : List ℕ) (blocks more : List Stmt)
-    → b ≡ result_map_both tree.Block (λ z. z) r → IfOk r (λ ts. Lays text means (SomeStmts ss ts.items) m n) → Judges (result_err b) q → OnOk q (IfOk b (λ t. more ≡ blocks ++ t ∷ []))
-    → OnOk q (Adds (λ t. Does text means (does.Given ss) t m n) blocks more)
-block_made means (Ok ts) (Ok t) (Ok a) text ss m n blocks more made h judged last =
-    let is : t ≡ tree.Block ts = cc in
-    (t, rw is (spec.given ts h), last)
-block_made means (Err d) (Ok t) (Ok a) text ss m n blocks more made h judged last = cc
-block_made means r (Err d) (Ok a) text ss m n blocks more made h judged last = cc
-block_made means r b (Err e) text ss m n blocks more made h judged last = tt
+pub block_made : (means : Sense) {A E : Type 0} (q : Result A E) (text : List ℕ) (ss : List step.Stmt) (ts : Vec Stmt) (m n : List ℕ) (blocks more : List Stmt)
+    → Lays text means (SomeStmts ss ts.items) m n → OnOk q (more ≡ blocks ++ tree.Block ts ∷ []) → OnOk q (Adds (λ t. Does text means (does.Given ss) t m n) blocks more)
+block_made means (Ok a) text ss ts m n blocks more h last = (tree.Block ts, spec.given ts h, last)
+block_made means (Err e) text ss ts m n blocks more h last = tt
 
 -- the block that is done where one is given
 given_is : (means : Sense) (text : List ℕ) (ss : List step.Stmt) (t : Stmt) (m n : List ℕ) → Does text means (does.Given ss) t m n → (ts : Vec Stmt) × (t ≡ tree.Block ts) × Lays text means (SomeStmts ss ts.items) m n
 given_is means text ss t m n (spec.given ts h) = (ts, refl, h)
 
-pub defined : (means : Sense) (text u : List ℕ) (number left : ℕ) (name : Name) (parameters : List Name) (ss : List step.Stmt) (word : List ℕ) (words : Vec (List ℕ)) (kinds : Vec Kind) (ts : Vec Stmt) (k : ℕ) (old new m : List ℕ)
+pub defined : (means : Sense) {A E : Type 0} (q : Result A E) (text u : List ℕ) (number left : ℕ) (name : Name) (parameters : List Name) (ss : List step.Stmt) (word : List ℕ) (words : Vec (List ℕ)) (kinds : Vec Kind) (ts : Vec Stmt) (k : ℕ) (old new m : List ℕ) (functions more : List Function)
     → word ≡ name.word → words.items ≡ words_of parameters → kinds.items ≡ means.kinds number → k ≡ length old → new ≡ sited text left old → u ≡ text → Lays u means (SomeStmts ss ts.items) new m
-    → Defines text means number left name parameters ss (record { name = word; parameters = words; kinds = kinds; site = k; body = tree.Block ts }) old m
-defined means text u number left name parameters ss word words kinds ts k old new m called takes are count lines there h =
-    let f : Lays text means (SomeStmts ss ts.items) new m = subst (λ v. Lays v means (SomeStmts ss ts.items) new m) there h in
-    record { called = called; takes = takes; kinds = are; site = count; steps = ts; block = refl; body = subst (λ l. Lays text means (SomeStmts ss ts.items) l m) lines f }
-
--- one name more
-pub word_taken : (names : List Name) (i : ℕ) (x : Name) (words new : List (List ℕ)) (w v : List ℕ) → i < length names → x ≡ get_or names i x → v ≡ x.word → w ≡ v → new ≡ words ++ w ∷ [] → words ≡ words_of (take i names) → new ≡ words_of (take (i + 1) names)
-word_taken names i x words new w v h at is same more before =
-    let e : take (i + 1) names ≡ take i names ++ x ∷ [] = take_more names i x h ∙ ap (λ y. take i names ++ y ∷ []) (sym at) in
-    more ∙ ap (λ ws. ws ++ w ∷ []) before ∙ ap (λ z. words_of (take i names) ++ z ∷ []) (same ∙ is) ∙ sym (map-append (λ (n : Name). n.word) (take i names) (x ∷ [])) ∙ ap words_of (sym e)
+    → OnOk q (more ≡ functions ++ record { name = word; parameters = words; kinds = kinds; site = k; body = tree.Block ts } ∷ []) → OnOk q (Adds (λ f. Defines text means number left name parameters ss f old m) functions more)
+defined means (Ok a) text u number left name parameters ss word words kinds ts k old new m functions more called takes are count lines there h last = (
+  record { name = word; parameters = words; kinds = kinds; site = k; body = tree.Block ts },
+  record { called = called; takes = takes; kinds = are; site = count; steps = ts; block = refl; body = moved means text u (SomeStmts ss ts.items) (sited text left old) new m there lines h },
+  last,
+)
+defined means (Err e) text u number left name parameters ss word words kinds ts k old new m functions more called takes are count lines there h last = tt
 
 -- ---- items
 

@@ -1,13 +1,13 @@
 pub mod Globals
-pub mod Coverings
+pub mod Orders
 pub mod Settlements
-pub mod Gaps
+pub mod StatementOrders
 pub mod Layings
 pub mod Meets
 pub mod FineExprs
 pub mod FineStatements
 pub mod Noting
-pub mod InOrder
+pub mod NamesInOrder
 pub mod Defining
-pub mod NoneLeft
+pub mod AllInOrder
 pub mod Readings

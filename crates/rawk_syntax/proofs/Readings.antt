@@ -1,5 +1,5 @@
 -- Whole texts, over plain variables.
-use Rattle.std.proofs.Common.{◌≡◌, ◌≢◌, ◌<◌, ◌≤◌, inl, inr, ℕ, ◌+◌, ◌-◌, List, length, None, Some, Result, Ok, Err, IfOk, refl, sym, ap, subst, ◌∙◌, arith}
+use Rattle.std.proofs.Common.{◌≡◌, ◌≢◌, ◌<◌, ◌≤◌, inl, inr, ℕ, ◌+◌, ◌-◌, List, length, Result, Ok, Err, IfOk, refl, sym, ap, subst, ◌∙◌, arith}
 use Rattle.rawk_limits.specs.declared.TheConstants.{OPEN_CONSTRUCTS, PROGRAM_BYTES}
 use Rattle.rawk_parsing.specs.declared.refusal.Refusal.{Refusal}
 use Rattle.rawk_parsing.specs.declared.parse_error.ParseError.{ParseError}
@@ -9,30 +9,21 @@ use Rattle.rawk_parsing.specs.Parser.{Outcome}
 use Rattle.rawk_grammar.specs.declared.tree.Item.{Item}
 use Rattle.rawk_grammar.specs.Items.{program}
 use Rattle.rawk_grammar.specs.Texts as grammar
-use Rattle.rawk_grammar.specs.Plain.{IsPlainText}
 use Rattle.rawk_names.specs.declared.names.NameError.{NameError}
 use Rattle.rawk_names.specs.Items as naming
 use Rattle.rawk_names.specs.Named.{Known, IsNamed, IsRefused}
 use Rattle.rawk_names.proofs.Refusals.{refused_once, named_or_refused}
 use Rattle.rawk_tree.specs.declared.tree.Program.{Program}
-use Rattle.rawk_syntax.specs.Meant.{sense}
-use Rattle.rawk_syntax.specs.Covered.{Judges, program_gap}
 use Rattle.rawk_syntax.specs.Laid.{IsLaid}
-use Rattle.rawk_syntax.specs.Texts.{IsText, IsSettled, IsReading, IsPlain, IsSettledAs, IsFlaw, IsFlawIn, IsFlawOf, IsMisnamed, IsRefusal, Tells, told, told_of}
-use Rattle.rawk_syntax.proofs.NoneLeft.{none_left}
+use Rattle.rawk_syntax.specs.Texts.{IsText, IsSettled, IsReading, IsOrderly, IsSettledAs, IsFlaw, IsFlawIn, IsFlawOf, IsMisnamed, IsRefusal, Tells, told, told_of}
 
 -- ---- names in order
 
-unflawed : (items : List Item) (n : Known) → IsNamed (naming.program items) n → (e : ParseError) → IsMisnamed items e → ⊥
+pub unflawed : (items : List Item) (n : Known) → IsNamed (naming.program items) n → (e : ParseError) → IsMisnamed items e → ⊥
 unflawed items n h e m = named_or_refused (naming.program items) n m.why m.some h m.misnamed
 
-pub named_exact : (text : List ℕ) (items : List Item) (n : Known) (r : Result Program ParseError) → IsText text items → IsNamed (naming.program items) n → Judges (program_gap (sense n) items) r → Tells (IsMisnamed items) r
-named_exact text items n (Ok p) derived h none = unflawed items n h
-named_exact text items n (Err e) derived h some = λ ne. absurd (let no : None ≡ Some e = sym (none_left (OPEN_CONSTRUCTS + 1) text items n derived h) ∙ some ne in cc)
-
-pub named_found : (text : List ℕ) (items : List Item) (n : Known) (r : Result Program ParseError) → IsNamed (naming.program items) n → IfOk r (λ p. IsLaid text n items p) → IfOk r (λ p. IsSettled text items p)
-named_found text items n (Ok p) h laid = record { names = n; named = h; laid = laid }
-named_found text items n (Err e) h laid = tt
+pub named_found : (text : List ℕ) (items : List Item) (n : Known) (p : Program) → IsNamed (naming.program items) n → IsLaid text n items p → IsSettled text items p
+named_found text items n p h laid = record { names = n; named = h; laid = laid }
 
 -- ---- names that are refused
 
@@ -60,13 +51,13 @@ memory_only : (e : ParseError) → (e ≢ OutOfMemory → ⊥) → e ≡ OutOfMe
 memory_only OutOfMemory h = refl
 memory_only (Here kind left) h = absurd (h (λ q. cc))
 
-pub read_plain : (text start : List ℕ) (items ys its : List Item) (r : Result Program ParseError)
-    → start ≡ text → ((its : List Item) → IsPlainText (OPEN_CONSTRUCTS + 1) its start → items ≡ its) → ys ≡ items → IfOk r (λ p. IsSettled text ys p) → Tells (IsMisnamed ys) r → IsPlain text its → IsSettledAs text its r
-read_plain text start items ys its (Ok p) same only is h exact g =
-    let e : items ≡ its = only its (subst (λ i. IsPlainText (OPEN_CONSTRUCTS + 1) its i) (sym same) g.derived) in
+pub read_orderly : (text start : List ℕ) (items ys its : List Item) (r : Result Program ParseError)
+    → start ≡ text → ((its : List Item) → grammar.IsText (OPEN_CONSTRUCTS + 1) its start → items ≡ its) → ys ≡ items → IfOk r (λ p. IsSettled text ys p) → Tells (IsMisnamed ys) r → IsOrderly text its → IsSettledAs text its r
+read_orderly text start items ys its (Ok p) same only is h exact g =
+    let e : items ≡ its = only its (subst (λ i. grammar.IsText (OPEN_CONSTRUCTS + 1) its i) (sym same) g.derived) in
     subst (λ (z : List Item). IsSettled text z p) (is ∙ e) h
-read_plain text start items ys its (Err f) same only is h exact g =
-    let e : items ≡ its = only its (subst (λ i. IsPlainText (OPEN_CONSTRUCTS + 1) its i) (sym same) g.derived) in
+read_orderly text start items ys its (Err f) same only is h exact g =
+    let e : items ≡ its = only its (subst (λ i. grammar.IsText (OPEN_CONSTRUCTS + 1) its i) (sym same) g.derived) in
     memory_only f (λ ne. unflawed its g.names g.named f (subst (λ (z : List Item). IsMisnamed z f) (is ∙ e) (exact ne)))
 
 -- ---- a refusal of the parser
@@ -76,10 +67,10 @@ refused_exact text start r e y same h is back =
     rw (is, back) (λ ne. (let p : program (OPEN_CONSTRUCTS + 1) text ≡ Err e = ap (program (OPEN_CONSTRUCTS + 1)) (sym same) ∙ h ne in
     subst (λ (o : Outcome (List Item)). IsFlawOf o e) (sym p) refl))
 
-pub refused_plain : (text start : List ℕ) (its : List Item) (r : Result Program ParseError) (e y : ParseError)
-    → start ≡ text → ((its : List Item) → IsPlainText (OPEN_CONSTRUCTS + 1) its start → e ≡ OutOfMemory) → r ≡ Err y → y ≡ e → IsPlain text its → IsSettledAs text its r
-refused_plain text start its r e y same only is back g =
-    rw (is, back) (only its (subst (λ i. IsPlainText (OPEN_CONSTRUCTS + 1) its i) (sym same) g.derived))
+pub refused_orderly : (text start : List ℕ) (its : List Item) (r : Result Program ParseError) (e y : ParseError)
+    → start ≡ text → ((its : List Item) → grammar.IsText (OPEN_CONSTRUCTS + 1) its start → e ≡ OutOfMemory) → r ≡ Err y → y ≡ e → IsOrderly text its → IsSettledAs text its r
+refused_orderly text start its r e y same only is back g =
+    rw (is, back) (only its (subst (λ i. grammar.IsText (OPEN_CONSTRUCTS + 1) its i) (sym same) g.derived))
 
 -- ---- a text has one refusal at most
 

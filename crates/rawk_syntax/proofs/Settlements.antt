@@ -1,11 +1,9 @@
 -- The steps of settling, over plain variables.
-use Rattle.std.proofs.Common.{◌≡◌, ℕ, ℤ, ◌+◌, ◌<◌, ◌≤◌, ◌≢◌, suc, Bool, true, List, [], ◌∷◌, ◌++◌, length, take, get_or, slice_get, Option, None, Some, Result, Ok, Err, IfOk, OnOk, refl, sym, ap, subst, ◌∙◌, arith, pos}
-use Rattle.std.specs.Result.{result_err, result_map_both}
+use Rattle.std.proofs.Common.{◌≡◌, ℕ, ◌+◌, ◌<◌, ◌≤◌, ◌≢◌, suc, List, [], ◌∷◌, ◌++◌, length, take, get_or, slice_get, Option, Some, Result, Ok, Err, IfOk, OnOk, refl, sym, ap, subst, ◌∙◌, arith}
 use Rattle.std.proofs.lemmas.List.{take_more, length-append, length-take-le}
-use Rattle.std.proofs.lemmas.Result.{IfOk-at_ok}
 use Rattle.std.specs.Global.{Box, Vec}
+use Rattle.rawk_value.specs.declared.operator.Arithmetic.{Arithmetic}
 use Rattle.rawk_value.specs.declared.operator.Arithmetic.TheVariants.{Pow}
-use Rattle.rawk_parsing.specs.declared.parse_error.ParseError.{ParseError}
 use Rattle.rawk_words.specs.declared.array.Array.{Array}
 use Rattle.rawk_words.specs.declared.operator.Extent.{Extent}
 use Rattle.rawk_words.specs.declared.operator.Sign.{Sign}
@@ -34,73 +32,49 @@ use Rattle.rawk_tree.specs.declared.tree.Kind.{Kind}
 use Rattle.rawk_tree.specs.declared.tree.Kind.TheVariants as kind
 use Rattle.rawk_tree.specs.declared.tree.Separation.{Separation}
 use Rattle.rawk_tree.specs.declared.tree.Separation.TheVariants as separation
-use Rattle.rawk_special.specs.declared.special.TheConstants.{FS}
 use Rattle.rawk_builtin_trees.specs.Calls.{Applies}
-use Rattle.rawk_syntax.specs.Covered.{Judges, unless}
 use Rattle.rawk_syntax.specs.Settled as spec
 use Rattle.rawk_syntax.specs.Meant.{Sense}
 use Rattle.rawk_syntax.specs.Settled.{AnExpr, APlace, ASought, ASeparator, SomeArguments, IsIn, IsMatchOf, IsMember, IsRecord, SomeLinks, SomeTests, SomeExprs, Settles, joiner_of, operator_of, right_of, extent_of, scalar_place}
-
-pub number_settles : (m : Sense) {E : Type 0} (r : Result Expr E) (e : parsed.Expr) (n : ℤ) → e ≡ from.Number n → r ≡ Ok (tree.Number n) → IfOk r (λ s. Settles m (AnExpr e s))
-number_settles m r e n is made = rw (made, is) spec.number
-
-pub number_judged : (b : Bool) (left : ℕ) (r : Result Expr ParseError) (n : ℤ) → b ≡ true → r ≡ Ok (tree.Number n) → Judges (unless b left) r
-number_judged b left r n so made = rw (so, made) refl
 
 pub text_settles : (m : Sense) {E : Type 0} (r : Result Expr E) (e : parsed.Expr) (v w : List ℕ) → e ≡ from.Text v → w ≡ v → IfOk r (λ s. s ≡ tree.Text w) → IfOk r (λ s. Settles m (AnExpr e s))
 text_settles m (Ok s) e v w is same made = rw (is, made, same) spec.text
 text_settles m (Err f) e v w is same made = tt
 
-pub read_settles : (m : Sense) {E : Type 0} (r : Result Place E) (q : Result Expr E) (e : parsed.Expr) (p : spot.Place) → e ≡ from.Of p → q ≡ result_map_both tree.Read (λ z. z) r → IfOk r (λ s. Settles m (APlace p s)) → IfOk q (λ s. Settles m (AnExpr e s))
-read_settles m (Ok s) q e p is made h = rw (made, is) (spec.read h)
-read_settles m (Err f) q e p is made h = rw made tt
+pub read_settles : (m : Sense) (e : parsed.Expr) (p : spot.Place) (q : Place) → e ≡ from.Of p → Settles m (APlace p q) → Settles m (AnExpr e (tree.Read q))
+read_settles m e p q is h = rw is (spec.read h)
 
 pub group_settles : (m : Sense) {E : Type 0} (r : Result Expr E) (e x y : parsed.Expr) → e ≡ from.Group x → y ≡ x → IfOk r (λ s. Settles m (AnExpr y s)) → IfOk r (λ s. Settles m (AnExpr e s))
 group_settles m (Ok s) e x y is same h = let g : Settles m (AnExpr x s) = subst (λ (z : parsed.Expr). Settles m (AnExpr z s)) same h in rw is (spec.group g)
 group_settles m (Err f) e x y is same h = tt
 
 -- the same, boxed
-pub boxed_settles : (m : Sense) {E : Type 0} (e : parsed.Expr) (r : Result Expr E) (q : Result (Box Expr) E) → IfOk q (λ b. r ≡ Ok b.value) → IfOk r (λ s. Settles m (AnExpr e s)) → IfOk q (λ b. Settles m (AnExpr e b.value))
-boxed_settles m e r (Ok b) held h = IfOk-at_ok (λ s. Settles m (AnExpr e s)) held h
-boxed_settles m e r (Err f) held h = tt
+pub boxed_settles : (m : Sense) {E : Type 0} (e : parsed.Expr) (s : Expr) (q : Result (Box Expr) E) → IfOk q (λ b. b.value ≡ s) → Settles m (AnExpr e s) → IfOk q (λ b. Settles m (AnExpr e b.value))
+boxed_settles m e s (Ok b) held h = subst (λ (v : Expr). Settles m (AnExpr e v)) (sym held) h
+boxed_settles m e s (Err f) held h = tt
 
-pub signed_settles : (m : Sense) {E : Type 0} (sign : Sign) (r : Result (Box Expr) E) (q : Result Expr E) (e x y : parsed.Expr)
-    → e ≡ from.Signed sign x → y ≡ x → q ≡ result_map_both (tree.Unary (unary.Sign sign)) (λ z. z) r → IfOk r (λ b. Settles m (AnExpr y b.value)) → IfOk q (λ s. Settles m (AnExpr e s))
-signed_settles m sign (Ok b) q e x y is same made h = rw (made, is) (spec.signed b (subst (λ (z : parsed.Expr). Settles m (AnExpr z b.value)) same h))
-signed_settles m sign (Err f) q e x y is same made h = rw made tt
+pub signed_settles : (m : Sense) (sign : Sign) (b : Box Expr) (e x y : parsed.Expr) → e ≡ from.Signed sign x → y ≡ x → Settles m (AnExpr y b.value) → Settles m (AnExpr e (tree.Unary (unary.Sign sign) b))
+signed_settles m sign b e x y is same h = rw is (spec.signed b (subst (λ (z : parsed.Expr). Settles m (AnExpr z b.value)) same h))
 
-pub power_settles : (m : Sense) (x y : parsed.Expr) (r : Result Expr ParseError) (base : Box Expr) (old : List Link) (powers : Vec Link)
-    → result_err r ≡ None → old ≡ [] → IfOk r (λ t. powers.items ≡ old ++ tree_link.Combine (joiner.Arithmetic Pow) t ∷ []) → Settles m (AnExpr x base.value) → IfOk r (λ t. Settles m (AnExpr y t)) → Settles m (AnExpr (from.Power x y) (tree.Chain base powers))
-power_settles m x y (Ok t) base old powers none bare one h g = spec.power base powers h g (one ∙ ap (λ l. l ++ tree_link.Combine (joiner.Arithmetic Pow) t ∷ []) bare)
-power_settles m x y (Err e) base old powers none bare one h g = cc
+pub power_settles : (m : Sense) (x y : parsed.Expr) (t : Expr) (base : Box Expr) (old : List Link) (powers : Vec Link)
+    → old ≡ [] → powers.items ≡ old ++ tree_link.Combine (joiner.Arithmetic Pow) t ∷ [] → Settles m (AnExpr x base.value) → Settles m (AnExpr y t) → Settles m (AnExpr (from.Power x y) (tree.Chain base powers))
+power_settles m x y t base old powers bare one h g = spec.power base powers h g (one ∙ ap (λ l. l ++ tree_link.Combine (joiner.Arithmetic Pow) t ∷ []) bare)
 
-pub before_settles : (m : Sense) (e : parsed.Expr) (c : Change) (p : spot.Place) (r : Result Place ParseError) (q : Result Expr ParseError)
-    → e ≡ from.Before c p → Judges (result_err r) q → IfOk q (λ s. IfOk r (λ t. (one : Box Expr) × (one.value ≡ tree.Number (pos 1)) × (s ≡ tree.Update (operator_of c) t one)))
-    → IfOk r (λ t. Settles m (APlace p t)) → IfOk q (λ s. Settles m (AnExpr e s))
-before_settles m e c p (Ok t) (Ok s) is judged made h = rw (is, made.2) (spec.before made.0 h made.1)
-before_settles m e c p (Err f) (Ok s) is judged made h = cc
-before_settles m e c p r (Err f) is judged made h = tt
+pub after_settles : (m : Sense) (e : parsed.Expr) (c : Change) (p : spot.Place) (q : Place) (o : Arithmetic) → e ≡ from.After c p → o ≡ operator_of c → Settles m (APlace p q) → Settles m (AnExpr e (tree.After o q))
+after_settles m e c p q o is operator h = rw (is, operator) (spec.after h)
 
-pub after_settles : (m : Sense) {E : Type 0} (e : parsed.Expr) (c : Change) (p : spot.Place) (r : Result Place E) (q : Result Expr E)
-    → e ≡ from.After c p → q ≡ result_map_both (tree.After (operator_of c)) (λ z. z) r → IfOk r (λ t. Settles m (APlace p t)) → IfOk q (λ s. Settles m (AnExpr e s))
-after_settles m e c p (Ok t) q is made h = rw (made, is) (spec.after h)
-after_settles m e c p (Err f) q is made h = rw made tt
+pub getline_to_settles : (m : Sense) (e : parsed.Expr) (p : spot.Place) (q : Place) → e ≡ from.GetlineTo p → Settles m (APlace p q) → Settles m (AnExpr e (tree.GetlineTo q))
+getline_to_settles m e p q is h = rw is (spec.getline_to h)
 
-pub getline_to_settles : (m : Sense) {E : Type 0} (e : parsed.Expr) (p : spot.Place) (r : Result Place E) (q : Result Expr E)
-    → e ≡ from.GetlineTo p → q ≡ result_map_both tree.GetlineTo (λ z. z) r → IfOk r (λ t. Settles m (APlace p t)) → IfOk q (λ s. Settles m (AnExpr e s))
-getline_to_settles m e p (Ok t) q is made h = rw (made, is) (spec.getline_to h)
-getline_to_settles m e p (Err f) q is made h = rw made tt
-
-pub test_settles : (m : Sense) (l : Logic) (xs : List parsed.Expr) (i : ℕ) (x y : parsed.Expr) (ys zs : List Link) (r : Result Expr ParseError)
-    → i < length xs → x ≡ get_or xs i x → y ≡ x → result_err r ≡ None → IfOk r (λ s. zs ≡ ys ++ tree_link.Decide l s ∷ []) → Settles m (SomeTests l (take i xs) ys) → IfOk r (λ s. Settles m (AnExpr y s)) → Settles m (SomeTests l (take (i + 1) xs) zs)
-test_settles m l xs i x y ys zs (Ok s) h held same none more g f' =
+pub test_settles : (m : Sense) (l : Logic) (xs : List parsed.Expr) (i : ℕ) (x y : parsed.Expr) (s : Expr) (ys zs : List Link)
+    → i < length xs → x ≡ get_or xs i x → y ≡ x → zs ≡ ys ++ tree_link.Decide l s ∷ [] → Settles m (SomeTests l (take i xs) ys) → Settles m (AnExpr y s) → Settles m (SomeTests l (take (i + 1) xs) zs)
+test_settles m l xs i x y s ys zs h held same more g f' =
     let f : Settles m (AnExpr x s) = subst (λ (z : parsed.Expr). Settles m (AnExpr z s)) same f' in
     let t : take (i + 1) xs ≡ take i xs ++ x ∷ [] = take_more xs i x h ∙ ap (λ y. take i xs ++ y ∷ []) (sym held) in
     rw (t, more) (spec.a_test g f)
-test_settles m l xs i x y ys zs (Err e) h held same none more g f' = cc
 
-pub name_settles : (m : Sense) (p : spot.Place) (n : word.Name) (v : List ℕ) (s : Scalar) (q : Place) → p ≡ from_place.Name n → v ≡ n.word → Some s ≡ m.scalar v → q ≡ scalar_place s → Settles m (APlace p q)
-name_settles m p n v s q is same h made = rw (is, made) (spec.name (ap m.scalar (sym same) ∙ sym h))
+pub name_settles : (m : Sense) (p : spot.Place) (n : word.Name) (s : Scalar) (q : Place) → p ≡ from_place.Name n → m.scalar n.word ≡ Some s → q ≡ scalar_place s → Settles m (APlace p q)
+name_settles m p n s q is h made = rw (is, made) (spec.name h)
 
 pub field_settles : (m : Sense) (p : spot.Place) (x y : parsed.Expr) (number : Box Expr)
     → p ≡ from_place.Field x → y ≡ x → Settles m (AnExpr y number.value) → Settles m (APlace p (tree_place.Field number))
@@ -111,16 +85,14 @@ unfolding link
 link_is x = refl
 
 -- one more link
-pub link_settles : (m : Sense) (xs : List join.Link) (i : ℕ) (x : join.Link) (j : Joiner) (e : parsed.Expr) (ys zs : List Link) (r : Result Expr ParseError)
-    → i < length xs → x ≡ get_or xs i x → j ≡ joiner_of x.operator → e ≡ x.operand → result_err r ≡ None → IfOk r (λ s. zs ≡ ys ++ tree_link.Combine j s ∷ [])
-    → Settles m (SomeLinks (take i xs) ys) → IfOk r (λ s. Settles m (right_of j e s)) → Settles m (SomeLinks (take (i + 1) xs) zs)
-link_settles m xs i x j e ys zs (Ok s) h at joins is none more g f =
+pub link_settles : (m : Sense) (xs : List join.Link) (i : ℕ) (x : join.Link) (j : Joiner) (e : parsed.Expr) (s : Expr) (ys zs : List Link)
+    → i < length xs → x ≡ get_or xs i x → j ≡ joiner_of x.operator → e ≡ x.operand → zs ≡ ys ++ tree_link.Combine j s ∷ [] → Settles m (SomeLinks (take i xs) ys) → Settles m (right_of j e s) → Settles m (SomeLinks (take (i + 1) xs) zs)
+link_settles m xs i x j e s ys zs h at joins is more g f =
     let same : x ≡ link x.operator e = link_is x ∙ ap (link x.operator) (sym is) in
     let t : take (i + 1) xs ≡ take i xs ++ link x.operator e ∷ [] = take_more xs i x h ∙ ap (λ y. take i xs ++ y ∷ []) (sym at ∙ same) in
     let right : Settles m (right_of (joiner_of x.operator) e s) = subst (λ (k : Joiner). Settles m (right_of k e s)) joins f in
     let last : zs ≡ ys ++ tree_link.Combine (joiner_of x.operator) s ∷ [] = more ∙ ap (λ (k : Joiner). ys ++ tree_link.Combine k s ∷ []) joins in
     rw (t, last) (spec.a_link x.operator e s g right)
-link_settles m xs i x j e ys zs (Err d) h at joins is none more g f = cc
 
 -- a regular expression by itself, and one that is sought
 pub ere_settles : (m : Sense) {E : Type 0} (r : Result Expr E) (e : parsed.Expr) (left : ℕ) (v w : List ℕ) → e ≡ from.Ere left v → w ≡ v → IfOk r (λ s. IsMatchOf w s) → IfOk r (λ s. Settles m (AnExpr e s))
@@ -144,17 +116,12 @@ right_settles m r e joiner.Substr first second h = h
 right_settles m r e joiner.Matches first second h = absurd (first refl)
 right_settles m r e joiner.NotMatches first second h = absurd (second refl)
 
-pub expr_settles : (m : Sense) (xs : List parsed.Expr) (i : ℕ) (x y : parsed.Expr) (ys zs : List Expr) (r : Result Expr ParseError)
-    → i < length xs → x ≡ get_or xs i x → y ≡ x → result_err r ≡ None → IfOk r (λ s. zs ≡ ys ++ s ∷ []) → Settles m (SomeExprs (take i xs) ys) → IfOk r (λ s. Settles m (AnExpr y s)) → Settles m (SomeExprs (take (i + 1) xs) zs)
-expr_settles m xs i x y ys zs (Ok s) h held same none more g f' =
+pub expr_settles : (m : Sense) (xs : List parsed.Expr) (i : ℕ) (x y : parsed.Expr) (s : Expr) (ys zs : List Expr)
+    → i < length xs → x ≡ get_or xs i x → y ≡ x → zs ≡ ys ++ s ∷ [] → Settles m (SomeExprs (take i xs) ys) → Settles m (AnExpr y s) → Settles m (SomeExprs (take (i + 1) xs) zs)
+expr_settles m xs i x y s ys zs h held same more g f' =
     let f : Settles m (AnExpr x s) = subst (λ (z : parsed.Expr). Settles m (AnExpr z s)) same f' in
     let t : take (i + 1) xs ≡ take i xs ++ x ∷ [] = take_more xs i x h ∙ ap (λ y. take i xs ++ y ∷ []) (sym held) in
     rw (t, more) (spec.an_expr g f)
-expr_settles m xs i x y ys zs (Err e) h held same none more g f' = cc
-
-pub call_settles : (m : Sense) (n : word.Name) (w : List ℕ) (f : ℕ) (xs : List parsed.Expr) (ss : Vec Expr) (rs : Vec Array)
-    → w ≡ n.word → Some f ≡ m.function w → Settles m (SomeArguments (m.kinds f) xs ss.items rs.items) → Settles m (AnExpr (from.Call n xs) (tree.Call f ss rs))
-call_settles m n w f xs ss rs same found h = spec.call ss rs (ap m.function (sym same) ∙ sym found) h
 
 -- one argument more, behind others: a value or an array
 first_value : (m : Sense) (ks : List Kind) (e : parsed.Expr) (s : Expr) → slice_get ks 0 ≡ Some kind.Scalar → Settles m (AnExpr e s) → Settles m (SomeArguments ks (e ∷ []) (s ∷ []) [])
@@ -181,17 +148,15 @@ array_behind m n a (spec.an_array o g more) at h = spec.an_array o g (array_behi
 abbrev pub Passes : Sense → Option Kind → parsed.Expr → List Expr → List Array → List Expr → List Array → Type 0
 Passes m k e ss rs zs qs = (ks : List Kind) (es : List parsed.Expr) → slice_get ks (length es) ≡ k → Settles m (SomeArguments ks es ss rs) → Settles m (SomeArguments ks (es ++ e ∷ []) zs qs)
 
-pub value_passes : (m : Sense) {A : Type 0} (q : Result A ParseError) (r : Result Expr ParseError) (k : Option Kind) (e : parsed.Expr) (old new : List Expr) (rs : List Array)
-    → k ≡ Some kind.Scalar → Judges (result_err r) q → OnOk q (IfOk r (λ s. new ≡ old ++ s ∷ [])) → IfOk r (λ s. Settles m (AnExpr e s)) → OnOk q (Passes m k e old rs new rs)
-value_passes m (Ok u) (Ok s) k e old new rs is judged more h = λ ks es at those. rw more (value_behind m e s those (at ∙ is) h)
-value_passes m (Ok u) (Err d) k e old new rs is judged more h = cc
-value_passes m (Err d) r k e old new rs is judged more h = tt
+pub value_passes : (m : Sense) {A E : Type 0} (q : Result A E) (s : Expr) (k : Option Kind) (e : parsed.Expr) (old new : List Expr) (rs : List Array)
+    → k ≡ Some kind.Scalar → OnOk q (new ≡ old ++ s ∷ []) → Settles m (AnExpr e s) → OnOk q (Passes m k e old rs new rs)
+value_passes m (Ok u) s k e old new rs is more h = λ ks es at those. rw more (value_behind m e s those (at ∙ is) h)
+value_passes m (Err d) s k e old new rs is more h = tt
 
-pub array_passes : (m : Sense) {A : Type 0} (q : Result A ParseError) (r : Result Array ParseError) (k : Option Kind) (e : parsed.Expr) (ss : List Expr) (old new : List Array)
-    → k ≡ Some kind.Array → Judges (result_err r) q → OnOk q (IfOk r (λ a. new ≡ old ++ a ∷ [])) → IfOk r (λ a. (n : word.Name) × (e ≡ from.Of (from_place.Name n)) × (m.array n.word ≡ Some a)) → OnOk q (Passes m k e ss old ss new)
-array_passes m (Ok u) (Ok a) k e ss old new is judged more h = λ ks es at those. rw (more, h.1) (array_behind m h.0 a those (at ∙ is) h.2)
-array_passes m (Ok u) (Err d) k e ss old new is judged more h = cc
-array_passes m (Err d) r k e ss old new is judged more h = tt
+pub array_passes : (m : Sense) {A E : Type 0} (q : Result A E) (a : Array) (k : Option Kind) (e : parsed.Expr) (ss : List Expr) (old new : List Array)
+    → k ≡ Some kind.Array → OnOk q (new ≡ old ++ a ∷ []) → (n : word.Name) × (e ≡ from.Of (from_place.Name n)) × (m.array n.word ≡ Some a) → OnOk q (Passes m k e ss old ss new)
+array_passes m (Ok u) a k e ss old new is more h = λ ks es at those. rw (more, h.1) (array_behind m h.0 a those (at ∙ is) h.2)
+array_passes m (Err d) a k e ss old new is more h = tt
 
 pub argument_settles : (m : Sense) (ks : List Kind) (k : Option Kind) (xs : List parsed.Expr) (i : ℕ) (x y : parsed.Expr) (ss zs : List Expr) (rs qs : List Array)
     → i < length xs → x ≡ get_or xs i x → y ≡ x → k ≡ slice_get ks i → Passes m k y ss rs zs qs → Settles m (SomeArguments ks (take i xs) ss rs) → Settles m (SomeArguments ks (take (i + 1) xs) zs qs)
@@ -202,20 +167,15 @@ argument_settles m ks k xs i x y ss zs rs qs h at same is passed those =
     rw e (passed ks (take i xs) count those)
 
 -- elements of arrays, and whether there are some
-pub element_settles : (m : Sense) (n : word.Name) (w : List ℕ) (a : Array) (xs : List parsed.Expr) (ss : Vec Expr)
-    → w ≡ n.word → Some a ≡ m.array w → Settles m (SomeExprs xs ss.items) → Settles m (APlace (from_place.Element n xs) (tree_place.Element a ss))
-element_settles m n w a xs ss same found h = spec.element ss (ap m.array (sym same) ∙ sym found) h
+pub element_settles : (m : Sense) (p : spot.Place) (n : word.Name) (a : Array) (xs ys : List parsed.Expr) (ss : Vec Expr)
+    → p ≡ from_place.Element n xs → ys ≡ xs → m.array n.word ≡ Some a → Settles m (SomeExprs ys ss.items) → Settles m (APlace p (tree_place.Element a ss))
+element_settles m p n a xs ys ss is same found h = rw is (spec.element ss found (subst (λ (z : List parsed.Expr). Settles m (SomeExprs z ss.items)) same h))
 
-pub list_in_settles : (m : Sense) (n : word.Name) (w : List ℕ) (a : Array) (xs : List parsed.Expr) (ss : Vec Expr)
-    → w ≡ n.word → Some a ≡ m.array w → Settles m (SomeExprs xs ss.items) → Settles m (AnExpr (from.ListIn xs n) (tree.Has a ss))
-list_in_settles m n w a xs ss same found h = spec.list_member ss (ap m.array (sym same) ∙ sym found) h
-
-pub one_member : (m : Sense) (n : word.Name) (w : List ℕ) (a : Array) (s : Expr) (old : List Expr) (ss : Vec Expr)
-    → w ≡ n.word → Some a ≡ m.array w → old ≡ [] → ss.items ≡ old ++ s ∷ [] → IsMember m n s (tree.Has a ss)
-one_member m n w a s old ss same found bare more = record {
+pub one_member : (m : Sense) (n : word.Name) (a : Array) (s : Expr) (old : List Expr) (ss : Vec Expr) → m.array n.word ≡ Some a → old ≡ [] → ss.items ≡ old ++ s ∷ [] → IsMember m n s (tree.Has a ss)
+one_member m n a s old ss found bare more = record {
   array = a;
   subscripts = ss;
-  named = ap m.array (sym same) ∙ sym found;
+  named = found;
   one = more ∙ ap (λ l. l ++ s ∷ []) bare;
   is = refl;
 }
@@ -246,9 +206,9 @@ pub counted_settles : (m : Sense) (xs : List parsed.Expr) (a : Array) → (n : w
 counted_settles m xs a h = rw (h.1) (spec.counted h.0 h.2)
 
 -- a text and what is sought in it
-pub found_settles : (m : Sense) (xs : List parsed.Expr) (x y : parsed.Expr) (s t : Box Expr) (r : Result Expr ParseError)
-    → xs ≡ x ∷ y ∷ [] → Settles m (AnExpr x s.value) → r ≡ Ok t.value → IfOk r (λ u. Settles m (ASought y u)) → Settles m (AnExpr (from.Builtin fun.Match xs) (tree.Match s t))
-found_settles m xs x y s t r is h made g = rw is (spec.found s t h (IfOk-at_ok (λ u. Settles m (ASought y u)) made g))
+pub found_settles : (m : Sense) (xs : List parsed.Expr) (x y : parsed.Expr) (s t : Box Expr) (u : Expr)
+    → xs ≡ x ∷ y ∷ [] → Settles m (AnExpr x s.value) → t.value ≡ u → Settles m (ASought y u) → Settles m (AnExpr (from.Builtin fun.Match xs) (tree.Match s t))
+found_settles m xs x y s t u is h made g = rw is (spec.found s t h (subst (λ (v : Expr). Settles m (ASought y v)) (sym made) g))
 
 -- a replacement of matches, in a place or in the record
 pub replaced_settles : (m : Sense) (f : Function) (extent : Extent) (xs : List parsed.Expr) (x y z : parsed.Expr) (s t : Box Expr) (q : Place)
@@ -259,21 +219,8 @@ pub record_settles : (m : Sense) (f : Function) (extent : Extent) (xs : List par
     → extent_of f ≡ Some extent → xs ≡ x ∷ y ∷ [] → Settles m (ASought x s.value) → Settles m (AnExpr y t.value) → spec.IsRecordPlace q → Settles m (AnExpr (from.Builtin f xs) (tree.Replace extent s t q))
 record_settles m f extent xs x y s t q which is h g whole = rw is (spec.replaced_record s t which h g whole)
 
--- what separates the parts of a text
-pub field_separates : (m : Sense) (t : Expr) → t ≡ tree.Read (tree_place.Global FS) → Settles m (ASeparator [] separation.Fields t)
-field_separates m t is = rw is spec.by_fields
-
-pub matches_separate : (m : Sense) (r : Result Expr ParseError) (q : Result (Separation × Box Expr) ParseError) (e : parsed.Expr) (left : ℕ) (v w : List ℕ) → e ≡ from.Ere left v → w ≡ v
-    → IfOk r (λ s. s ≡ tree.Text w) → IfOk q (λ p. p.0 ≡ separation.Matches) → IfOk q (λ p. r ≡ Ok p.1.value) → IfOk q (λ p. Settles m (ASeparator (e ∷ []) p.0 p.1.value))
-matches_separate m r (Ok p) e left v w is same made how held =
-    let text : p.1.value ≡ tree.Text v = IfOk-at_ok (λ s. s ≡ tree.Text w) held made ∙ ap tree.Text same in
-    rw (is, how, text) spec.by_matches
-matches_separate m r (Err d) e left v w is same made how held = tt
-
-pub value_separates : (m : Sense) (r : Result Expr ParseError) (q : Result (Separation × Box Expr) ParseError) (e : parsed.Expr) → ((left : ℕ) (w : List ℕ) → e ≡ from.Ere left w → ⊥)
-    → IfOk r (λ s. Settles m (AnExpr e s)) → IfOk q (λ p. p.0 ≡ separation.Fields) → IfOk q (λ p. r ≡ Ok p.1.value) → IfOk q (λ p. Settles m (ASeparator (e ∷ []) p.0 p.1.value))
-value_separates m r (Ok p) e not h how held = rw how (spec.by_value not (IfOk-at_ok (λ s. Settles m (AnExpr e s)) held h))
-value_separates m r (Err d) e not h how held = tt
+pub matches_separate : (m : Sense) (b : Box Expr) (t : Expr) (e : parsed.Expr) (left : ℕ) (v w : List ℕ) → e ≡ from.Ere left v → w ≡ v → t ≡ tree.Text w → b.value ≡ t → Settles m (ASeparator (e ∷ []) separation.Matches b.value)
+matches_separate m b t e left v w is same made held = let text : b.value ≡ tree.Text v = held ∙ made ∙ ap tree.Text same in rw (is, text) spec.by_matches
 
 pub split_settles : (m : Sense) (xs : List parsed.Expr) (x y : parsed.Expr) (zs : List parsed.Expr) (s t : Box Expr) (a : Array) (how : Separation)
     → xs ≡ x ∷ y ∷ zs → Settles m (AnExpr x s.value) → (n : word.Name) × (y ≡ from.Of (from_place.Name n)) × (m.array n.word ≡ Some a) → Settles m (ASeparator zs how t.value) → Settles m (AnExpr (from.Builtin fun.Split xs) (tree.Split how s a t))

@@ -29,7 +29,6 @@ use Rattle.rawk_tree.specs.declared.tree.Stmt.TheVariants as tree
 use Rattle.rawk_tree.specs.declared.tree.Branch.{Branch}
 use Rattle.rawk_tree.specs.declared.tree.Scalar.{Scalar}
 use Rattle.rawk_words.specs.declared.array.Array.{Array}
-use Rattle.rawk_syntax.specs.declared.statements.LoopHead.{LoopHead}
 use Rattle.rawk_tree.specs.declared.tree.Guard.{Guard}
 use Rattle.rawk_tree.specs.declared.tree.Guard.TheVariants as tree_guard
 use Rattle.rawk_tree.specs.declared.tree.Rule.{Rule}
@@ -125,24 +124,6 @@ pub data Lays (text : List ℕ) (means : Sense) : Pair → List ℕ → List ℕ
   no_statement : {m : List ℕ} → Lays text means (SomeStmts [] []) m m
   a_statement : {ss : List step.Stmt} {ts : List Stmt} {s : step.Stmt} {t : Stmt} {m n o : List ℕ}
       → Lays text means (SomeStmts ss ts) m n → Lays text means (AStmt s t) n o → Lays text means (SomeStmts (ss ++ s ∷ []) (ts ++ t ∷ [])) m o
-
--- what stands in the parentheses of a `for`: the beginning, the condition, the step
-pub record Heads (text : List ℕ) (means : Sense) (h : Head) (settled : LoopHead) (m o : List ℕ) : Type 0 where
-  pub before : List ℕ
-  pub first : Lays text means (AnOther h.first settled.first.value) m before
-  pub site : settled.site ≡ length before
-  pub test : Tests means h.test settled.test
-  pub step : Lays text means (AnOther h.last settled.step.value) (sited text h.left before) o
-
--- nodes from their parts, the last one last
-abbrev pub branch_with : ℕ → Expr → Stmt → Branch
-branch_with site test body = record { site = site; test = test; body = body }
-
-abbrev pub head_with : Box Stmt → ℕ → Expr → Box Stmt → LoopHead
-head_with first site test step = record { first = first; site = site; test = test; step = step }
-
-abbrev pub for_with : LoopHead → Box Stmt → Stmt
-for_with head body = tree.For head.first head.site head.test head.step body
 
 -- the action of a rule with a pattern: a missing one prints the record, and its site is directly behind the pattern
 pub data Does (text : List ℕ) (means : Sense) : Action → Stmt → List ℕ → List ℕ → Type 0 where

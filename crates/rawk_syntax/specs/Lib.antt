@@ -1,5 +1,5 @@
 pub mod Meant
-pub mod Covered
+pub mod InOrder
 pub mod Settled
 pub mod Laid
 pub mod Texts

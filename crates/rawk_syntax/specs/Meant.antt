@@ -18,7 +18,7 @@ use Rattle.rawk_tree.specs.declared.tree.Scalar.TheVariants as scalar
 use Rattle.rawk_words.specs.declared.array.Array.{Array}
 use Rattle.rawk_words.specs.declared.array.Array.TheVariants as array
 
--- what each name stands for: a scalar or an array, where the settled tree has it, or the number of a function;
+-- what each name stands for, where it does: a scalar, an array, or the number of a function;
 -- and what each parameter of a function is, in their order, by the function's number
 pub record Sense : Type 0 where
   pub scalar : List ℕ → Option Scalar

@@ -10,7 +10,6 @@ use Rattle.rawk_parsing.specs.Parser.{Outcome}
 use Rattle.rawk_grammar.specs.declared.tree.Item.{Item}
 use Rattle.rawk_grammar.specs.Items.{program}
 use Rattle.rawk_grammar.specs.Texts as grammar
-use Rattle.rawk_grammar.specs.Plain as plain
 use Rattle.rawk_names.specs.declared.names.NameError.{NameError}
 use Rattle.rawk_names.specs.declared.names.NameError.TheVariants as misused
 use Rattle.rawk_names.specs.Items as naming
@@ -41,9 +40,9 @@ pub record IsProgram (text : List ℕ) (p : Program) : Type 0 where
   pub short : length text ≤ PROGRAM_BYTES
   pub reading : IsReading text p
 
--- The text has these items by plain rules alone, within the limits, and their names are in order.
-pub record IsPlain (text : List ℕ) (items : List Item) : Type 0 where
-  pub derived : plain.IsPlainText (OPEN_CONSTRUCTS + 1) items text
+-- By the grammar the text has these items, within the limit of open constructs, and their names are in order.
+pub record IsOrderly (text : List ℕ) (items : List Item) : Type 0 where
+  pub derived : IsText text items
   pub names : Known
   pub named : IsNamed (naming.program items) names
 

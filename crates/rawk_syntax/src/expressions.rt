@@ -1,8 +1,6 @@
 //! Expressions: names become numbers, and parentheses go.
 
-ghost use Rattle.std.specs.Prelude.{◌≡◌, List, [], ◌∷◌, ◌++◌, ◌&&◌, IfOk, OnOk, Some, length, map, slice_get};
-ghost use Rattle.rawk_parsing.specs.declared.parse_error.ParseError.TheVariants.{Here};
-ghost use Rattle.rawk_parsing.specs.declared.refusal.RefusalKind.TheVariants as refused;
+ghost use Rattle.std.specs.Prelude.{◌≡◌, List, [], ◌∷◌, ◌++◌, IfOk, IsTrue, OnOk, Some, length, map, slice_get};
 ghost use Rattle.rawk_parsing.specs.declared.tree.Expr.TheVariants as from;
 ghost use Rattle.rawk_parsing.specs.declared.tree.Function.TheVariants as fun;
 ghost use Rattle.rawk_parsing.specs.declared.tree.Expr as parsed_expr;
@@ -11,84 +9,44 @@ ghost use Rattle.rawk_parsing.specs.declared.tree.Place as parsed_place;
 ghost use Rattle.rawk_parsing.specs.declared.tree.Place.TheVariants as from_place;
 ghost use Rattle.rawk_tree.specs.declared.tree.Kind as tree_kind;
 ghost use Rattle.rawk_builtin_trees.specs.Calls.{Applies, has_builtin};
-ghost use Rattle.rawk_syntax.specs.Covered as cover;
-ghost use Rattle.rawk_syntax.specs.Covered.{Judges, unless};
+ghost use Rattle.rawk_syntax.specs.InOrder as order;
 ghost use Rattle.rawk_syntax.specs.Meant.{sense_of};
 ghost use Rattle.rawk_syntax.specs.Settled.{Settles, AnExpr, APlace, ASought, ASeparator, SomeArguments, SomeLinks, SomeTests, SomeExprs, Prints, right_of, extent_of};
 
 use crate::arrays::{array_named, counted, members_of};
-use crate::growth::{boxed, boxed_if, push, push_if};
+use crate::growth::{boxed, push};
 use crate::kinds::kind_at;
 use crate::nodes::{
-    after_of, before_of, field_separator, getline_to, joiner_of, neutral, push_link, push_test,
-    read_of, record, record_place, scalar_place, separated, settle_ere, settle_number, settle_text,
-    signed_of,
+    field_separator, joiner_of, neutral, number, operator_of, record, record_place, scalar_place,
+    settle_ere, settle_number, settle_text,
 };
-use crate::scope::{Scope, array_of, called, scalar_of};
+use crate::scope::{Scope, the_array, the_function, the_scalar};
 use rawk_builtin_trees::{apply, format_and_arguments};
 use rawk_items::Boxed;
-use rawk_parsing::tree::{Assignment, Function};
-use rawk_parsing::{ParseError, RefusalKind, tree as parsed};
-use rawk_tree::{Array, Expr, Joiner, Kind, Link, Place, Separation};
+use rawk_parsing::tree as parsed;
+use rawk_parsing::tree::{Assignment, Change, Function};
+use rawk_tree::{Array, Expr, Joiner, Kind, Link, Place, Separation, Unary};
 use rawk_value::Arithmetic;
 use rawk_words::{Extent, Logic};
-use std::alloc::Global;
-
-/// The refusal of what no tree is settled of, at a place.
-pub fn left_out(left: usize) -> ParseError
-    ensures { result ≡ Here refused.LeftOut left }
-{
-    ParseError::Here(RefusalKind::LeftOut, left)
-}
-
-/// The place that a name stands for.
-fn settle_name(scope: &Scope<'_>, left: usize, name: &parsed::Name) -> Result<Place, ParseError>
-    ensures settled { IfOk result (λ s. Settles (sense_of scope.now) (APlace (from_place.Name name.now) s)) }
-    ensures judged { Judges (unless (cover.covers_place (sense_of scope.now) (from_place.Name name.now)) left) result }
-{
-    match scalar_of(scope, name.word.as_slice()) {
-        Some(scalar) => Ok(scalar_place(scalar)),
-        None => Err(left_out(left)),
-    }
-}
+use std::alloc::{AllocError, Global};
 
 /// The tests that `&&` or `||` joins.
 #[cycle(settle)]
 fn settle_tests(
     alloc: Global,
     scope: &Scope<'_>,
-    left: usize,
     logic: Logic,
     tests: &[Boxed<parsed::Expr>],
-) -> Result<Vec<Link>, ParseError>
-    ensures settled { IfOk result (λ s. Settles (sense_of scope.now) (SomeTests logic tests.now s.items)) }
-    ensures judged { Judges (unless (cover.each (cover.covers (sense_of scope.now)) tests.now) left) result }
+) -> Result<Vec<Link>, AllocError>
+    requires { IsTrue (order.each (order.in_order (sense_of scope.now)) tests.now) }
+    ensures { IfOk result (λ s. Settles (sense_of scope.now) (SomeTests logic tests.now s.items)) }
 {
     let mut settled = Vec::new(alloc);
     for test in tests {
-        let operand = settle_expr(alloc, scope, left, test.get());
-        push_test(&mut settled, logic, operand)?;
+        let operand = settle_expr(alloc, scope, test.get())?;
+        push(&mut settled, Link::Decide(logic, operand))?;
     }
     Ok(settled)
-}
-
-/// An element of an array.
-#[cycle(settle)]
-fn settle_element(
-    alloc: Global,
-    scope: &Scope<'_>,
-    left: usize,
-    name: &parsed::Name,
-    subscripts: &[Boxed<parsed::Expr>],
-) -> Result<Place, ParseError>
-    ensures settled { IfOk result (λ s. Settles (sense_of scope.now) (APlace (from_place.Element name.now subscripts.now) s)) }
-    ensures judged { Judges (unless (cover.covers_place (sense_of scope.now) (from_place.Element name.now subscripts.now)) left) result }
-{
-    let Some(array) = array_of(scope, name.word.as_slice()) else {
-        return Err(left_out(left));
-    };
-    let subscripts = settle_list(alloc, scope, left, subscripts)?;
-    Ok(Place::Element(array, subscripts))
 }
 
 /// What is read or assigned.
@@ -96,20 +54,20 @@ fn settle_element(
 fn settle_place(
     alloc: Global,
     scope: &Scope<'_>,
-    left: usize,
     place: &parsed::Place,
-) -> Result<Place, ParseError>
-    ensures settled { IfOk result (λ s. Settles (sense_of scope.now) (APlace place.now s)) }
-    ensures judged { Judges (unless (cover.covers_place (sense_of scope.now) place.now) left) result }
+) -> Result<Place, AllocError>
+    requires { IsTrue (order.place_in_order (sense_of scope.now) place.now) }
+    ensures { IfOk result (λ s. Settles (sense_of scope.now) (APlace place.now s)) }
 {
     match place {
-        parsed::Place::Name(name) => settle_name(scope, left, name),
+        parsed::Place::Name(name) => Ok(scalar_place(the_scalar(scope, name))),
         parsed::Place::Field(e) => {
-            let number = settle_boxed(alloc, scope, left, e.get())?;
+            let number = settle_boxed(alloc, scope, e.get())?;
             Ok(Place::Field(number))
         }
         parsed::Place::Element(name, subscripts) => {
-            settle_element(alloc, scope, left, name, subscripts.as_slice())
+            let subscripts = settle_list(alloc, scope, subscripts.as_slice())?;
+            Ok(Place::Element(the_array(scope, name), subscripts))
         }
     }
 }
@@ -118,35 +76,29 @@ fn settle_place(
 fn settle_links(
     alloc: Global,
     scope: &Scope<'_>,
-    left: usize,
     links: &[parsed::Link],
-) -> Result<Vec<Link>, ParseError>
-    ensures settled { IfOk result (λ s. Settles (sense_of scope.now) (SomeLinks links.now s.items)) }
-    ensures judged { Judges (unless (cover.each (cover.covers_link (sense_of scope.now)) links.now) left) result }
+) -> Result<Vec<Link>, AllocError>
+    requires { IsTrue (order.each (order.link_in_order (sense_of scope.now)) links.now) }
+    ensures { IfOk result (λ s. Settles (sense_of scope.now) (SomeLinks links.now s.items)) }
 {
     let mut settled = Vec::new(alloc);
     for link in links {
-        let operator = joiner_of(link.operator);
-        let operand = settle_right(alloc, scope, left, operator, link.operand.get());
-        push_link(&mut settled, operator, operand)?;
+        let joiner = joiner_of(link.operator);
+        let operand = settle_right(alloc, scope, joiner, link.operand.get())?;
+        push(&mut settled, Link::Combine(joiner, operand))?;
     }
     Ok(settled)
 }
 
 /// A text that is sought: a regular expression stands for its text, and anything else for its value.
 #[cycle(settle)]
-fn settle_sought(
-    alloc: Global,
-    scope: &Scope<'_>,
-    left: usize,
-    e: &parsed::Expr,
-) -> Result<Expr, ParseError>
-    ensures settled { IfOk result (λ s. Settles (sense_of scope.now) (ASought e.now s)) }
-    ensures judged { Judges (unless (cover.covers (sense_of scope.now) e.now) left) result }
+fn settle_sought(alloc: Global, scope: &Scope<'_>, e: &parsed::Expr) -> Result<Expr, AllocError>
+    requires { IsTrue (order.in_order (sense_of scope.now) e.now) }
+    ensures { IfOk result (λ s. Settles (sense_of scope.now) (ASought e.now s)) }
 {
     match e {
         parsed::Expr::Ere(_, text) => settle_text(alloc, text.as_slice()),
-        _ => settle_expr(alloc, scope, left, e),
+        _ => settle_expr(alloc, scope, e),
     }
 }
 
@@ -155,48 +107,41 @@ fn settle_sought(
 fn settle_right(
     alloc: Global,
     scope: &Scope<'_>,
-    left: usize,
     joiner: Joiner,
     e: &parsed::Expr,
-) -> Result<Expr, ParseError>
-    ensures settled { IfOk result (λ s. Settles (sense_of scope.now) (right_of joiner e.now s)) }
-    ensures judged { Judges (unless (cover.covers (sense_of scope.now) e.now) left) result }
+) -> Result<Expr, AllocError>
+    requires { IsTrue (order.in_order (sense_of scope.now) e.now) }
+    ensures { IfOk result (λ s. Settles (sense_of scope.now) (right_of joiner e.now s)) }
 {
     match joiner {
-        Joiner::Matches | Joiner::NotMatches => settle_sought(alloc, scope, left, e),
-        _ => settle_expr(alloc, scope, left, e),
+        Joiner::Matches | Joiner::NotMatches => settle_sought(alloc, scope, e),
+        _ => settle_expr(alloc, scope, e),
     }
 }
 
-/// A call of a built-in function with these arguments, where the settled tree has it.
+/// A call of a built-in function that takes so many arguments.
 fn apply_builtin(
     alloc: Global,
-    left: usize,
     function: Function,
     arguments: Vec<Expr>,
-) -> Result<Expr, ParseError>
-    ensures settled { IfOk result (λ s. Applies function arguments.items s) }
-    ensures judged { Judges (unless (has_builtin function (length arguments.items)) left) result }
+) -> Result<Expr, AllocError>
+    requires { IsTrue (has_builtin function (length arguments.items)) }
+    ensures { IfOk result (λ s. Applies function arguments.items s) }
 {
-    match apply(alloc, function, arguments) {
-        Ok(Some(call)) => Ok(call),
-        Ok(None) => Err(left_out(left)),
-        Err(_) => Err(ParseError::OutOfMemory),
+    match apply(alloc, function, arguments)? {
+        Some(call) => Ok(call),
+        None => unreachable!(),
     }
 }
 
 /// An expression on the heap.
 #[cycle(settle)]
-fn settle_boxed(
-    alloc: Global,
-    scope: &Scope<'_>,
-    left: usize,
-    e: &parsed::Expr,
-) -> Result<Box<Expr>, ParseError>
-    ensures settled { IfOk result (λ b. Settles (sense_of scope.now) (AnExpr e.now b.value)) }
-    ensures judged { Judges (unless (cover.covers (sense_of scope.now) e.now) left) result }
+fn settle_boxed(alloc: Global, scope: &Scope<'_>, e: &parsed::Expr) -> Result<Box<Expr>, AllocError>
+    requires { IsTrue (order.in_order (sense_of scope.now) e.now) }
+    ensures { IfOk result (λ b. Settles (sense_of scope.now) (AnExpr e.now b.value)) }
 {
-    boxed_if(alloc, settle_expr(alloc, scope, left, e))
+    let settled = settle_expr(alloc, scope, e)?;
+    boxed(alloc, settled)
 }
 
 /// A power, which is a chain of one link.
@@ -204,18 +149,21 @@ fn settle_boxed(
 fn settle_power(
     alloc: Global,
     scope: &Scope<'_>,
-    left: usize,
     base: &parsed::Expr,
     exponent: &parsed::Expr,
-) -> Result<Expr, ParseError>
-    ensures settled { IfOk result (λ s. Settles (sense_of scope.now) (AnExpr (from.Power base.now exponent.now) s)) }
-    ensures judged { Judges (unless (cover.covers (sense_of scope.now) (from.Power base.now exponent.now)) left) result }
+) -> Result<Expr, AllocError>
+    requires base { IsTrue (order.in_order (sense_of scope.now) base.now) }
+    requires exponent { IsTrue (order.in_order (sense_of scope.now) exponent.now) }
+    ensures { IfOk result (λ s. Settles (sense_of scope.now) (AnExpr (from.Power base.now exponent.now) s)) }
 {
-    let base = settle_boxed(alloc, scope, left, base)?;
+    let first = settle_boxed(alloc, scope, base)?;
+    let operand = settle_expr(alloc, scope, exponent)?;
     let mut powers = Vec::new(alloc);
-    let exponent = settle_expr(alloc, scope, left, exponent);
-    push_link(&mut powers, Joiner::Arithmetic(Arithmetic::Pow), exponent)?;
-    Ok(Expr::Chain(base, powers))
+    push(
+        &mut powers,
+        Link::Combine(Joiner::Arithmetic(Arithmetic::Pow), operand),
+    )?;
+    Ok(Expr::Chain(first, powers))
 }
 
 /// An operand and its links.
@@ -223,15 +171,15 @@ fn settle_power(
 fn settle_chain(
     alloc: Global,
     scope: &Scope<'_>,
-    left: usize,
     first: &parsed::Expr,
     links: &[parsed::Link],
-) -> Result<Expr, ParseError>
-    ensures settled { IfOk result (λ s. Settles (sense_of scope.now) (AnExpr (from.Chain first.now links.now) s)) }
-    ensures judged { Judges (unless (cover.covers (sense_of scope.now) (from.Chain first.now links.now)) left) result }
+) -> Result<Expr, AllocError>
+    requires first { IsTrue (order.in_order (sense_of scope.now) first.now) }
+    requires links { IsTrue (order.each (order.link_in_order (sense_of scope.now)) links.now) }
+    ensures { IfOk result (λ s. Settles (sense_of scope.now) (AnExpr (from.Chain first.now links.now) s)) }
 {
-    let first = settle_boxed(alloc, scope, left, first)?;
-    let links = settle_links(alloc, scope, left, links)?;
+    let first = settle_boxed(alloc, scope, first)?;
+    let links = settle_links(alloc, scope, links)?;
     Ok(Expr::Chain(first, links))
 }
 
@@ -240,15 +188,14 @@ fn settle_chain(
 fn settle_logic(
     alloc: Global,
     scope: &Scope<'_>,
-    left: usize,
     logic: Logic,
     tests: &[Boxed<parsed::Expr>],
-) -> Result<Expr, ParseError>
-    ensures settled { IfOk result (λ s. Settles (sense_of scope.now) (AnExpr (from.Logic logic tests.now) s)) }
-    ensures judged { Judges (unless (cover.covers (sense_of scope.now) (from.Logic logic tests.now)) left) result }
+) -> Result<Expr, AllocError>
+    requires { IsTrue (order.each (order.in_order (sense_of scope.now)) tests.now) }
+    ensures { IfOk result (λ s. Settles (sense_of scope.now) (AnExpr (from.Logic logic tests.now) s)) }
 {
     let first = boxed(alloc, neutral(logic))?;
-    let tests = settle_tests(alloc, scope, left, logic, tests)?;
+    let tests = settle_tests(alloc, scope, logic, tests)?;
     Ok(Expr::Chain(first, tests))
 }
 
@@ -257,18 +204,35 @@ fn settle_logic(
 fn settle_choice(
     alloc: Global,
     scope: &Scope<'_>,
-    left: usize,
     test: &parsed::Expr,
     yes: &parsed::Expr,
     no: &parsed::Expr,
-) -> Result<Expr, ParseError>
-    ensures settled { IfOk result (λ s. Settles (sense_of scope.now) (AnExpr (from.Choice test.now yes.now no.now) s)) }
-    ensures judged { Judges (unless (cover.covers (sense_of scope.now) (from.Choice test.now yes.now no.now)) left) result }
+) -> Result<Expr, AllocError>
+    requires test { IsTrue (order.in_order (sense_of scope.now) test.now) }
+    requires yes { IsTrue (order.in_order (sense_of scope.now) yes.now) }
+    requires no { IsTrue (order.in_order (sense_of scope.now) no.now) }
+    ensures { IfOk result (λ s. Settles (sense_of scope.now) (AnExpr (from.Choice test.now yes.now no.now) s)) }
 {
-    let test = settle_boxed(alloc, scope, left, test)?;
-    let yes = settle_boxed(alloc, scope, left, yes)?;
-    let no = settle_boxed(alloc, scope, left, no)?;
+    let test = settle_boxed(alloc, scope, test)?;
+    let yes = settle_boxed(alloc, scope, yes)?;
+    let no = settle_boxed(alloc, scope, no)?;
     Ok(Expr::Choice(test, yes, no))
+}
+
+/// `++` or `--` before a place: an assignment with 1.
+#[cycle(settle)]
+fn settle_before(
+    alloc: Global,
+    scope: &Scope<'_>,
+    change: Change,
+    place: &parsed::Place,
+) -> Result<Expr, AllocError>
+    requires { IsTrue (order.place_in_order (sense_of scope.now) place.now) }
+    ensures { IfOk result (λ s. Settles (sense_of scope.now) (AnExpr (from.Before change place.now) s)) }
+{
+    let place = settle_place(alloc, scope, place)?;
+    let one = number(alloc, 1)?;
+    Ok(Expr::Update(operator_of(change), place, one))
 }
 
 /// An assignment.
@@ -276,16 +240,16 @@ fn settle_choice(
 fn settle_assign(
     alloc: Global,
     scope: &Scope<'_>,
-    left: usize,
     how: Assignment,
     place: &parsed::Place,
     value: &parsed::Expr,
-) -> Result<Expr, ParseError>
-    ensures settled { IfOk result (λ s. Settles (sense_of scope.now) (AnExpr (from.Assign how place.now value.now) s)) }
-    ensures judged { Judges (unless (cover.covers (sense_of scope.now) (from.Assign how place.now value.now)) left) result }
+) -> Result<Expr, AllocError>
+    requires place { IsTrue (order.place_in_order (sense_of scope.now) place.now) }
+    requires value { IsTrue (order.in_order (sense_of scope.now) value.now) }
+    ensures { IfOk result (λ s. Settles (sense_of scope.now) (AnExpr (from.Assign how place.now value.now) s)) }
 {
-    let place = settle_place(alloc, scope, left, place)?;
-    let value = settle_boxed(alloc, scope, left, value)?;
+    let place = settle_place(alloc, scope, place)?;
+    let value = settle_boxed(alloc, scope, value)?;
     match how {
         Assignment::Plain => Ok(Expr::Assign(place, value)),
         Assignment::Update(operator) => Ok(Expr::Update(operator, place, value)),
@@ -297,15 +261,15 @@ fn settle_assign(
 fn settle_in(
     alloc: Global,
     scope: &Scope<'_>,
-    left: usize,
     subscript: &parsed::Expr,
     names: &[parsed::Name],
-) -> Result<Expr, ParseError>
-    ensures settled { IfOk result (λ s. Settles (sense_of scope.now) (AnExpr (from.In subscript.now names.now) s)) }
-    ensures judged { Judges (unless (cover.covers (sense_of scope.now) (from.In subscript.now names.now)) left) result }
+) -> Result<Expr, AllocError>
+    requires subscript { IsTrue (order.in_order (sense_of scope.now) subscript.now) }
+    requires names { IsTrue (order.each (order.names_array (sense_of scope.now)) names.now) }
+    ensures { IfOk result (λ s. Settles (sense_of scope.now) (AnExpr (from.In subscript.now names.now) s)) }
 {
-    let subscript = settle_expr(alloc, scope, left, subscript)?;
-    members_of(alloc, scope, left, subscript, names)
+    let subscript = settle_expr(alloc, scope, subscript)?;
+    members_of(alloc, scope, subscript, names)
 }
 
 /// `in`, with several subscripts.
@@ -313,40 +277,39 @@ fn settle_in(
 fn settle_list_in(
     alloc: Global,
     scope: &Scope<'_>,
-    left: usize,
     subscripts: &[Boxed<parsed::Expr>],
     name: &parsed::Name,
-) -> Result<Expr, ParseError>
-    ensures settled { IfOk result (λ s. Settles (sense_of scope.now) (AnExpr (from.ListIn subscripts.now name.now) s)) }
-    ensures judged { Judges (unless (cover.covers (sense_of scope.now) (from.ListIn subscripts.now name.now)) left) result }
+) -> Result<Expr, AllocError>
+    requires subscripts { IsTrue (order.each (order.in_order (sense_of scope.now)) subscripts.now) }
+    requires name { IsTrue (order.names_array (sense_of scope.now) name.now) }
+    ensures { IfOk result (λ s. Settles (sense_of scope.now) (AnExpr (from.ListIn subscripts.now name.now) s)) }
 {
-    let Some(array) = array_of(scope, name.word.as_slice()) else {
-        return Err(left_out(left));
-    };
-    let subscripts = settle_list(alloc, scope, left, subscripts)?;
-    Ok(Expr::Has(array, subscripts))
+    let subscripts = settle_list(alloc, scope, subscripts)?;
+    Ok(Expr::Has(the_array(scope, name), subscripts))
 }
 
-/// An argument of a parameter of this kind, which is added to the values or to the arrays; there may be no such parameter.
+/// An argument of a parameter of this kind, which is added to the values or to the arrays.
 #[cycle(settle)]
 fn settle_argument(
     alloc: Global,
     scope: &Scope<'_>,
-    left: usize,
     kind: Option<Kind>,
     argument: &parsed::Expr,
     values: &mut Vec<Expr>,
     arrays: &mut Vec<Array>,
-) -> Result<(), ParseError>
-    ensures settled { OnOk result ((kinds : List tree_kind.Kind) (before : List parsed_expr.Expr) → slice_get kinds (length before) ≡ kind
+) -> Result<(), AllocError>
+    requires { IsTrue (order.fits kind (order.use_of (sense_of scope.now) argument.now)) }
+    ensures { OnOk result ((kinds : List tree_kind.Kind) (before : List parsed_expr.Expr) → slice_get kinds (length before) ≡ kind
         → Settles (sense_of scope.now) (SomeArguments kinds before values.old.items arrays.old.items)
         → Settles (sense_of scope.now) (SomeArguments kinds (before ++ argument.now ∷ []) values.new.items arrays.new.items)) }
-    ensures judged { Judges (unless (cover.fits kind (cover.cover_of (sense_of scope.now) argument.now)) left) result }
 {
     match kind {
-        Some(Kind::Scalar) => push_if(values, settle_expr(alloc, scope, left, argument)),
-        Some(Kind::Array) => push_if(arrays, array_named(scope, left, argument)),
-        None => Err(left_out(left)),
+        Some(Kind::Scalar) => {
+            let value = settle_expr(alloc, scope, argument)?;
+            push(values, value)
+        }
+        Some(Kind::Array) => push(arrays, array_named(scope, argument)),
+        None => unreachable!(),
     }
 }
 
@@ -355,26 +318,17 @@ fn settle_argument(
 fn settle_arguments(
     alloc: Global,
     scope: &Scope<'_>,
-    left: usize,
     function: usize,
     arguments: &[Boxed<parsed::Expr>],
-) -> Result<(Vec<Expr>, Vec<Array>), ParseError>
-    ensures settled { IfOk result (λ pair. Settles (sense_of scope.now) (SomeArguments ((sense_of scope.now).kinds function) arguments.now pair.0.items pair.1.items)) }
-    ensures judged { Judges (unless (cover.all_fit ((sense_of scope.now).kinds function) (map (cover.cover_of (sense_of scope.now)) arguments.now)) left) result }
+) -> Result<(Vec<Expr>, Vec<Array>), AllocError>
+    requires { IsTrue (order.all_fit ((sense_of scope.now).kinds function) (map (order.use_of (sense_of scope.now)) arguments.now)) }
+    ensures { IfOk result (λ pair. Settles (sense_of scope.now) (SomeArguments ((sense_of scope.now).kinds function) arguments.now pair.0.items pair.1.items)) }
 {
     let mut values = Vec::new(alloc);
     let mut arrays = Vec::new(alloc);
     for (i, argument) in arguments.iter().enumerate() {
         let kind = kind_at(scope.names, function, i);
-        settle_argument(
-            alloc,
-            scope,
-            left,
-            kind,
-            argument.get(),
-            &mut values,
-            &mut arrays,
-        )?;
+        settle_argument(alloc, scope, kind, argument.get(), &mut values, &mut arrays)?;
     }
     Ok((values, arrays))
 }
@@ -384,17 +338,14 @@ fn settle_arguments(
 fn settle_call(
     alloc: Global,
     scope: &Scope<'_>,
-    left: usize,
     name: &parsed::Name,
     arguments: &[Boxed<parsed::Expr>],
-) -> Result<Expr, ParseError>
-    ensures settled { IfOk result (λ s. Settles (sense_of scope.now) (AnExpr (from.Call name.now arguments.now) s)) }
-    ensures judged { Judges (unless (cover.covers (sense_of scope.now) (from.Call name.now arguments.now)) left) result }
+) -> Result<Expr, AllocError>
+    requires { IsTrue (order.calls (sense_of scope.now) ((sense_of scope.now).function name.now.word) (map (order.use_of (sense_of scope.now)) arguments.now)) }
+    ensures { IfOk result (λ s. Settles (sense_of scope.now) (AnExpr (from.Call name.now arguments.now) s)) }
 {
-    let Some(function) = called(scope, name.word.as_slice()) else {
-        return Err(left_out(left));
-    };
-    let (values, arrays) = settle_arguments(alloc, scope, left, function, arguments)?;
+    let function = the_function(scope, name);
+    let (values, arrays) = settle_arguments(alloc, scope, function, arguments)?;
     Ok(Expr::Call(function, values, arrays))
 }
 
@@ -403,18 +354,17 @@ fn settle_call(
 fn settle_match(
     alloc: Global,
     scope: &Scope<'_>,
-    left: usize,
     arguments: &[Boxed<parsed::Expr>],
-) -> Result<Expr, ParseError>
-    ensures settled { IfOk result (λ s. Settles (sense_of scope.now) (AnExpr (from.Builtin fun.Match arguments.now) s)) }
-    ensures judged { Judges (unless (cover.covers (sense_of scope.now) (from.Builtin fun.Match arguments.now)) left) result }
+) -> Result<Expr, AllocError>
+    requires { IsTrue (order.finds (map (order.use_of (sense_of scope.now)) arguments.now)) }
+    ensures { IfOk result (λ s. Settles (sense_of scope.now) (AnExpr (from.Builtin fun.Match arguments.now) s)) }
 {
     let [text, pattern] = arguments else {
-        return Err(left_out(left));
+        unreachable!()
     };
-    let text = settle_boxed(alloc, scope, left, text.get())?;
-    let sought = settle_sought(alloc, scope, left, pattern.get());
-    let sought = boxed_if(alloc, sought)?;
+    let text = settle_boxed(alloc, scope, text.get())?;
+    let value = settle_sought(alloc, scope, pattern.get())?;
+    let sought = boxed(alloc, value)?;
     Ok(Expr::Match(text, sought))
 }
 
@@ -423,34 +373,29 @@ fn settle_match(
 fn settle_replacement(
     alloc: Global,
     scope: &Scope<'_>,
-    left: usize,
     sought: &parsed::Expr,
     by: &parsed::Expr,
-) -> Result<(Box<Expr>, Box<Expr>), ParseError>
+) -> Result<(Box<Expr>, Box<Expr>), AllocError>
+    requires sought { IsTrue (order.in_order (sense_of scope.now) sought.now) }
+    requires by { IsTrue (order.in_order (sense_of scope.now) by.now) }
     ensures sought { IfOk result (λ pair. Settles (sense_of scope.now) (ASought sought.now pair.0.value)) }
     ensures by { IfOk result (λ pair. Settles (sense_of scope.now) (AnExpr by.now pair.1.value)) }
-    ensures judged { Judges (unless (cover.covers (sense_of scope.now) sought.now && cover.covers (sense_of scope.now) by.now) left) result }
 {
-    let sought = settle_sought(alloc, scope, left, sought);
-    let sought = boxed_if(alloc, sought)?;
-    let by = settle_boxed(alloc, scope, left, by)?;
+    let value = settle_sought(alloc, scope, sought)?;
+    let sought = boxed(alloc, value)?;
+    let by = settle_boxed(alloc, scope, by)?;
     Ok((sought, by))
 }
 
 /// An expression that is a place which is changed.
 #[cycle(settle)]
-fn settle_changed(
-    alloc: Global,
-    scope: &Scope<'_>,
-    left: usize,
-    e: &parsed::Expr,
-) -> Result<Place, ParseError>
-    ensures settled { IfOk result (λ q. (p : parsed_place.Place) × (e.now ≡ from.Of p) × Settles (sense_of scope.now) (APlace p q)) }
-    ensures judged { Judges (unless (cover.changes (sense_of scope.now) e.now) left) result }
+fn settle_changed(alloc: Global, scope: &Scope<'_>, e: &parsed::Expr) -> Result<Place, AllocError>
+    requires { IsTrue (order.changes (sense_of scope.now) e.now) }
+    ensures { IfOk result (λ q. (p : parsed_place.Place) × (e.now ≡ from.Of p) × Settles (sense_of scope.now) (APlace p q)) }
 {
     match e {
-        parsed::Expr::Of(place) => settle_place(alloc, scope, left, place),
-        _ => Err(left_out(left)),
+        parsed::Expr::Of(place) => settle_place(alloc, scope, place),
+        _ => unreachable!(),
     }
 }
 
@@ -459,27 +404,26 @@ fn settle_changed(
 fn settle_replace(
     alloc: Global,
     scope: &Scope<'_>,
-    left: usize,
     function: Function,
     extent: Extent,
     arguments: &[Boxed<parsed::Expr>],
-) -> Result<Expr, ParseError>
-    requires { extent_of function ≡ Some extent }
-    ensures settled { IfOk result (λ s. Settles (sense_of scope.now) (AnExpr (from.Builtin function arguments.now) s)) }
-    ensures judged { Judges (unless (cover.covers (sense_of scope.now) (from.Builtin function arguments.now)) left) result }
+) -> Result<Expr, AllocError>
+    requires replaces { extent_of function ≡ Some extent }
+    requires arguments { IsTrue (order.replaces (map (order.use_of (sense_of scope.now)) arguments.now)) }
+    ensures { IfOk result (λ s. Settles (sense_of scope.now) (AnExpr (from.Builtin function arguments.now) s)) }
 {
     match arguments {
         [sought, by] => {
-            let (sought, by) = settle_replacement(alloc, scope, left, sought.get(), by.get())?;
+            let (sought, by) = settle_replacement(alloc, scope, sought.get(), by.get())?;
             let place = record_place(alloc)?;
             Ok(Expr::Replace(extent, sought, by, place))
         }
         [sought, by, changed] => {
-            let (sought, by) = settle_replacement(alloc, scope, left, sought.get(), by.get())?;
-            let place = settle_changed(alloc, scope, left, changed.get())?;
+            let (sought, by) = settle_replacement(alloc, scope, sought.get(), by.get())?;
+            let place = settle_changed(alloc, scope, changed.get())?;
             Ok(Expr::Replace(extent, sought, by, place))
         }
-        _ => Err(left_out(left)),
+        _ => unreachable!(),
     }
 }
 
@@ -488,17 +432,16 @@ fn settle_replace(
 fn settle_parted(
     alloc: Global,
     scope: &Scope<'_>,
-    left: usize,
     text: &parsed::Expr,
     array: &parsed::Expr,
-) -> Result<(Box<Expr>, Array), ParseError>
+) -> Result<(Box<Expr>, Array), AllocError>
+    requires text { IsTrue (order.in_order (sense_of scope.now) text.now) }
+    requires array { IsTrue (order.use_of (sense_of scope.now) array.now).array }
     ensures text { IfOk result (λ pair. Settles (sense_of scope.now) (AnExpr text.now pair.0.value)) }
     ensures array { IfOk result (λ pair. (n : word.Name) × (array.now ≡ from.Of (from_place.Name n)) × ((sense_of scope.now).array n.word ≡ Some pair.1)) }
-    ensures judged { Judges (unless (cover.covers (sense_of scope.now) text.now && (cover.cover_of (sense_of scope.now) array.now).array) left) result }
 {
-    let array = array_named(scope, left, array)?;
-    let text = settle_boxed(alloc, scope, left, text)?;
-    Ok((text, array))
+    let text = settle_boxed(alloc, scope, text)?;
+    Ok((text, array_named(scope, array)))
 }
 
 /// What separates the parts of a text: a regular expression by its matches, and anything else as its value in FS does.
@@ -506,20 +449,20 @@ fn settle_parted(
 fn settle_separator(
     alloc: Global,
     scope: &Scope<'_>,
-    left: usize,
     e: &parsed::Expr,
-) -> Result<(Separation, Box<Expr>), ParseError>
-    ensures settled { IfOk result (λ pair. Settles (sense_of scope.now) (ASeparator (e.now ∷ []) pair.0 pair.1.value)) }
-    ensures judged { Judges (unless (cover.covers (sense_of scope.now) e.now) left) result }
+) -> Result<(Separation, Box<Expr>), AllocError>
+    requires { IsTrue (order.in_order (sense_of scope.now) e.now) }
+    ensures { IfOk result (λ pair. Settles (sense_of scope.now) (ASeparator (e.now ∷ []) pair.0 pair.1.value)) }
 {
     match e {
         parsed::Expr::Ere(_, text) => {
-            let pattern = settle_text(alloc, text.as_slice());
-            separated(alloc, Separation::Matches, pattern)
+            let text = settle_text(alloc, text.as_slice())?;
+            let pattern = boxed(alloc, text)?;
+            Ok((Separation::Matches, pattern))
         }
         _ => {
-            let value = settle_expr(alloc, scope, left, e);
-            separated(alloc, Separation::Fields, value)
+            let value = settle_boxed(alloc, scope, e)?;
+            Ok((Separation::Fields, value))
         }
     }
 }
@@ -529,24 +472,23 @@ fn settle_separator(
 fn settle_split(
     alloc: Global,
     scope: &Scope<'_>,
-    left: usize,
     arguments: &[Boxed<parsed::Expr>],
-) -> Result<Expr, ParseError>
-    ensures settled { IfOk result (λ s. Settles (sense_of scope.now) (AnExpr (from.Builtin fun.Split arguments.now) s)) }
-    ensures judged { Judges (unless (cover.covers (sense_of scope.now) (from.Builtin fun.Split arguments.now)) left) result }
+) -> Result<Expr, AllocError>
+    requires { IsTrue (order.splits (map (order.use_of (sense_of scope.now)) arguments.now)) }
+    ensures { IfOk result (λ s. Settles (sense_of scope.now) (AnExpr (from.Builtin fun.Split arguments.now) s)) }
 {
     match arguments {
         [text, array] => {
-            let (text, array) = settle_parted(alloc, scope, left, text.get(), array.get())?;
+            let (text, array) = settle_parted(alloc, scope, text.get(), array.get())?;
             let separator = field_separator(alloc)?;
             Ok(Expr::Split(Separation::Fields, text, array, separator))
         }
         [text, array, separator] => {
-            let (text, array) = settle_parted(alloc, scope, left, text.get(), array.get())?;
-            let (how, separator) = settle_separator(alloc, scope, left, separator.get())?;
+            let (text, array) = settle_parted(alloc, scope, text.get(), array.get())?;
+            let (how, separator) = settle_separator(alloc, scope, separator.get())?;
             Ok(Expr::Split(how, text, array, separator))
         }
-        _ => Err(left_out(left)),
+        _ => unreachable!(),
     }
 }
 
@@ -555,15 +497,15 @@ fn settle_split(
 fn settle_applied(
     alloc: Global,
     scope: &Scope<'_>,
-    left: usize,
     function: Function,
     arguments: &[Boxed<parsed::Expr>],
-) -> Result<Expr, ParseError>
-    ensures settled { IfOk result (λ s. Settles (sense_of scope.now) (AnExpr (from.Builtin function arguments.now) s)) }
-    ensures judged { Judges (unless (has_builtin function (length arguments.now) && cover.each (cover.covers (sense_of scope.now)) arguments.now) left) result }
+) -> Result<Expr, AllocError>
+    requires count { IsTrue (has_builtin function (length arguments.now)) }
+    requires arguments { IsTrue (order.each (order.in_order (sense_of scope.now)) arguments.now) }
+    ensures { IfOk result (λ s. Settles (sense_of scope.now) (AnExpr (from.Builtin function arguments.now) s)) }
 {
-    let arguments = settle_list(alloc, scope, left, arguments)?;
-    apply_builtin(alloc, left, function, arguments)
+    let arguments = settle_list(alloc, scope, arguments)?;
+    apply_builtin(alloc, function, arguments)
 }
 
 /// A call of `length`: of an array, or of a value.
@@ -571,15 +513,14 @@ fn settle_applied(
 fn settle_length(
     alloc: Global,
     scope: &Scope<'_>,
-    left: usize,
     arguments: &[Boxed<parsed::Expr>],
-) -> Result<Expr, ParseError>
-    ensures settled { IfOk result (λ s. Settles (sense_of scope.now) (AnExpr (from.Builtin fun.Length arguments.now) s)) }
-    ensures judged { Judges (unless (cover.covers (sense_of scope.now) (from.Builtin fun.Length arguments.now)) left) result }
+) -> Result<Expr, AllocError>
+    requires { IsTrue (order.builtin_step fun.Length (map (order.use_of (sense_of scope.now)) arguments.now)) }
+    ensures { IfOk result (λ s. Settles (sense_of scope.now) (AnExpr (from.Builtin fun.Length arguments.now) s)) }
 {
     match counted(scope, arguments) {
         Some(array) => Ok(Expr::Count(array)),
-        None => settle_applied(alloc, scope, left, Function::Length, arguments),
+        None => settle_applied(alloc, scope, Function::Length, arguments),
     }
 }
 
@@ -588,77 +529,69 @@ fn settle_length(
 fn settle_builtin(
     alloc: Global,
     scope: &Scope<'_>,
-    left: usize,
     function: Function,
     arguments: &[Boxed<parsed::Expr>],
-) -> Result<Expr, ParseError>
-    ensures settled { IfOk result (λ s. Settles (sense_of scope.now) (AnExpr (from.Builtin function arguments.now) s)) }
-    ensures judged { Judges (unless (cover.covers (sense_of scope.now) (from.Builtin function arguments.now)) left) result }
+) -> Result<Expr, AllocError>
+    requires { IsTrue (order.builtin_step function (map (order.use_of (sense_of scope.now)) arguments.now)) }
+    ensures { IfOk result (λ s. Settles (sense_of scope.now) (AnExpr (from.Builtin function arguments.now) s)) }
 {
     match function {
-        Function::Length => settle_length(alloc, scope, left, arguments),
-        Function::Match => settle_match(alloc, scope, left, arguments),
-        Function::Sub => { settle_replace(alloc, scope, left, function, Extent::First, arguments) }
-        Function::Gsub => settle_replace(alloc, scope, left, function, Extent::All, arguments),
-        Function::Split => settle_split(alloc, scope, left, arguments),
-        _ => settle_applied(alloc, scope, left, function, arguments),
+        Function::Length => settle_length(alloc, scope, arguments),
+        Function::Match => settle_match(alloc, scope, arguments),
+        Function::Sub => settle_replace(alloc, scope, function, Extent::First, arguments),
+        Function::Gsub => settle_replace(alloc, scope, function, Extent::All, arguments),
+        Function::Split => settle_split(alloc, scope, arguments),
+        _ => settle_applied(alloc, scope, function, arguments),
     }
 }
 
-/// An expression of a statement or pattern at a place.
+/// An expression of a statement or pattern.
 #[cycle(settle)]
-pub fn settle_expr(
-    alloc: Global,
-    scope: &Scope<'_>,
-    left: usize,
-    e: &parsed::Expr,
-) -> Result<Expr, ParseError>
-    ensures settled { IfOk result (λ s. Settles (sense_of scope.now) (AnExpr e.now s)) }
-    ensures judged { Judges (unless (cover.covers (sense_of scope.now) e.now) left) result }
+pub fn settle_expr(alloc: Global, scope: &Scope<'_>, e: &parsed::Expr) -> Result<Expr, AllocError>
+    requires { IsTrue (order.in_order (sense_of scope.now) e.now) }
+    ensures { IfOk result (λ s. Settles (sense_of scope.now) (AnExpr e.now s)) }
 {
     match e {
-        parsed::Expr::Number(n) => settle_number(n),
+        parsed::Expr::Number(n) => Ok(settle_number(n)),
         parsed::Expr::Text(bytes) => settle_text(alloc, bytes.as_slice()),
         parsed::Expr::Ere(_, text) => settle_ere(alloc, text.as_slice()),
         parsed::Expr::Getline => Ok(Expr::Getline),
-        parsed::Expr::Of(place) => read_of(settle_place(alloc, scope, left, place)),
-        parsed::Expr::Group(inner) => settle_expr(alloc, scope, left, inner.get()),
+        parsed::Expr::GetlineTo(place) => Ok(Expr::GetlineTo(settle_place(alloc, scope, place)?)),
+        parsed::Expr::Of(place) => Ok(Expr::Read(settle_place(alloc, scope, place)?)),
+        parsed::Expr::Group(inner) => settle_expr(alloc, scope, inner.get()),
         parsed::Expr::Signed(sign, operand) => {
-            signed_of(*sign, settle_boxed(alloc, scope, left, operand.get()))
+            let operand = settle_boxed(alloc, scope, operand.get())?;
+            Ok(Expr::Unary(Unary::Sign(*sign), operand))
         }
         parsed::Expr::Power(base, exponent) => {
-            settle_power(alloc, scope, left, base.get(), exponent.get())
+            settle_power(alloc, scope, base.get(), exponent.get())
         }
         parsed::Expr::Chain(first, links) => {
-            settle_chain(alloc, scope, left, first.get(), links.as_slice())
+            settle_chain(alloc, scope, first.get(), links.as_slice())
         }
-        parsed::Expr::Logic(logic, tests) => {
-            settle_logic(alloc, scope, left, *logic, tests.as_slice())
-        }
+        parsed::Expr::Logic(logic, tests) => settle_logic(alloc, scope, *logic, tests.as_slice()),
         parsed::Expr::Choice(test, yes, no) => {
-            settle_choice(alloc, scope, left, test.get(), yes.get(), no.get())
+            settle_choice(alloc, scope, test.get(), yes.get(), no.get())
         }
-        parsed::Expr::Before(change, place) => {
-            before_of(alloc, *change, settle_place(alloc, scope, left, place))
-        }
+        parsed::Expr::Before(change, place) => settle_before(alloc, scope, *change, place),
         parsed::Expr::After(change, place) => {
-            after_of(*change, settle_place(alloc, scope, left, place))
+            let place = settle_place(alloc, scope, place)?;
+            Ok(Expr::After(operator_of(*change), place))
         }
-        parsed::Expr::GetlineTo(place) => getline_to(settle_place(alloc, scope, left, place)),
         parsed::Expr::Assign(how, place, value) => {
-            settle_assign(alloc, scope, left, *how, place, value.get())
+            settle_assign(alloc, scope, *how, place, value.get())
         }
         parsed::Expr::In(subscript, names) => {
-            settle_in(alloc, scope, left, subscript.get(), names.as_slice())
+            settle_in(alloc, scope, subscript.get(), names.as_slice())
         }
         parsed::Expr::ListIn(subscripts, name) => {
-            settle_list_in(alloc, scope, left, subscripts.as_slice(), name)
+            settle_list_in(alloc, scope, subscripts.as_slice(), name)
         }
         parsed::Expr::Call(name, arguments) => {
-            settle_call(alloc, scope, left, name, arguments.as_slice())
+            settle_call(alloc, scope, name, arguments.as_slice())
         }
         parsed::Expr::Builtin(function, arguments) => {
-            settle_builtin(alloc, scope, left, *function, arguments.as_slice())
+            settle_builtin(alloc, scope, *function, arguments.as_slice())
         }
     }
 }
@@ -668,28 +601,27 @@ pub fn settle_expr(
 pub fn settle_list(
     alloc: Global,
     scope: &Scope<'_>,
-    left: usize,
     list: &[Boxed<parsed::Expr>],
-) -> Result<Vec<Expr>, ParseError>
-    ensures settled { IfOk result (λ s. Settles (sense_of scope.now) (SomeExprs list.now s.items)) }
-    ensures judged { Judges (unless (cover.each (cover.covers (sense_of scope.now)) list.now) left) result }
+) -> Result<Vec<Expr>, AllocError>
+    requires { IsTrue (order.each (order.in_order (sense_of scope.now)) list.now) }
+    ensures { IfOk result (λ s. Settles (sense_of scope.now) (SomeExprs list.now s.items)) }
 {
     let mut settled = Vec::new(alloc);
     for e in list {
-        push_if(&mut settled, settle_expr(alloc, scope, left, e.get()))?;
+        let value = settle_expr(alloc, scope, e.get())?;
+        push(&mut settled, value)?;
     }
     Ok(settled)
 }
 
-/// The list of a `print` at a place; a missing one is `$0`.
+/// The list of a `print`; a missing one is `$0`.
 pub fn settle_printed(
     alloc: Global,
     scope: &Scope<'_>,
-    left: usize,
     list: &[Boxed<parsed::Expr>],
-) -> Result<Vec<Expr>, ParseError>
-    ensures settled { IfOk result (λ s. Prints (sense_of scope.now) list.now s.items) }
-    ensures judged { Judges (unless (cover.each (cover.covers (sense_of scope.now)) list.now) left) result }
+) -> Result<Vec<Expr>, AllocError>
+    requires { IsTrue (order.each (order.in_order (sense_of scope.now)) list.now) }
+    ensures { IfOk result (λ s. Prints (sense_of scope.now) list.now s.items) }
 {
     if list.len() == 0 {
         let mut list = Vec::new(alloc);
@@ -697,22 +629,21 @@ pub fn settle_printed(
         push(&mut list, whole)?;
         return Ok(list);
     }
-    settle_list(alloc, scope, left, list)
+    settle_list(alloc, scope, list)
 }
 
-/// The format and the arguments of a `printf` at a place.
+/// The format and the arguments of a `printf`.
 pub fn settle_formatted(
     alloc: Global,
     scope: &Scope<'_>,
-    left: usize,
     list: &[Boxed<parsed::Expr>],
-) -> Result<(Expr, Vec<Expr>), ParseError>
-    ensures settled { IfOk result (λ p. Settles (sense_of scope.now) (SomeExprs list.now (p.0 ∷ p.1.items))) }
-    ensures judged { Judges (cover.formatted_gap (sense_of scope.now) left list.now) result }
+) -> Result<(Expr, Vec<Expr>), AllocError>
+    requires { IsTrue (order.formatted (sense_of scope.now) list.now) }
+    ensures { IfOk result (λ p. Settles (sense_of scope.now) (SomeExprs list.now (p.0 ∷ p.1.items))) }
 {
-    let values = settle_list(alloc, scope, left, list)?;
+    let values = settle_list(alloc, scope, list)?;
     match format_and_arguments(values) {
         Some(parts) => Ok(parts),
-        None => Err(left_out(left)),
+        None => unreachable!(),
     }
 }

@@ -1,29 +1,27 @@
 //! The items of a program.
 
-ghost use Rattle.std.specs.Prelude.{◌≡◌, ◌≤◌, ◌-◌, List, [], ◌∷◌, ◌++◌, length, pos, IfOk, OnOk};
-ghost use Rattle.std.specs.Result.{result_err, result_map_both};
+ghost use Rattle.std.specs.Prelude.{◌≡◌, ◌≤◌, ◌-◌, List, [], ◌∷◌, ◌++◌, length, pos, IfOk, IsTrue, OnOk};
 ghost use Rattle.rawk_grammar.specs.declared.tree.Action.TheVariants as does;
 ghost use Rattle.rawk_grammar.specs.declared.tree.Item as part;
 ghost use Rattle.rawk_tree.specs.declared.tree.Expr.TheVariants as tree_expr;
-ghost use Rattle.rawk_tree.specs.declared.tree.Guard.TheVariants as tree_guard;
 ghost use Rattle.rawk_tree.specs.declared.tree.Stmt.TheVariants as tree;
-ghost use Rattle.rawk_syntax.specs.Covered as cover;
-ghost use Rattle.rawk_syntax.specs.Covered.{Judges};
-ghost use Rattle.rawk_names.specs.Named.{known};
+ghost use Rattle.rawk_names.specs.Items as naming;
+ghost use Rattle.rawk_names.specs.Named.{IsNamed, known};
+ghost use Rattle.rawk_syntax.specs.InOrder as order;
 ghost use Rattle.rawk_syntax.specs.Meant.{global_words, sense, sense_of};
 ghost use Rattle.rawk_syntax.specs.Laid.{sited, rule_of, Adds, Does, Guards, Rules, Defines, IsLaidWith, IsLaid, ranges_of, words_of};
+ghost use Rattle.rawk_syntax.specs.Texts.{IsText};
 
 use crate::expressions::{settle_expr, settle_printed};
-use crate::growth::{push, push_if};
+use crate::growth::push;
 use crate::kinds::{global_kinds, parameter_kinds};
 use crate::lines::Sites;
 use crate::scope::Scope;
-use crate::statements::{block_of, print_of, settle_statements};
+use crate::statements::settle_statements;
 use rawk_grammar::tree as parsed;
 use rawk_grammar::tree::{Action, Item, Pattern};
 use rawk_items::Boxed;
 use rawk_names::Names;
-use rawk_parsing::ParseError;
 use rawk_parsing::tree::Name;
 use rawk_tree::{Expr, Function, Guard, Kind, Program, Rule, Stmt};
 use rawk_value::Bytes;
@@ -35,46 +33,21 @@ fn settle_action(
     sites: &mut Sites<'_>,
     scope: &Scope<'_>,
     action: &Action,
-) -> Result<Stmt, ParseError>
+) -> Result<Stmt, AllocError>
+    requires { IsTrue (order.action_in_order (sense_of scope.now) action.now) }
     ensures text { sites.new.text ≡ sites.old.text }
     ensures settled { IfOk result (λ t. Does sites.old.text.now (sense_of scope.now) action.now t sites.old.lines.items sites.new.lines.items) }
-    ensures judged { Judges (cover.action_gap (sense_of scope.now) action.now) result }
 {
     match action {
         Action::Missing(left) => {
             let site = sites.lines.len();
             sites.add(*left)?;
-            print_of(site, settle_printed(alloc, scope, *left, &[]))
+            let values = settle_printed(alloc, scope, &[])?;
+            Ok(Stmt::Print(site, values))
         }
         Action::Given(steps) => {
-            block_of(settle_statements(alloc, sites, scope, steps.as_slice()))
-        }
-    }
-}
-
-/// A test that says at which records a rule runs, if it was settled.
-fn when_of(test: Result<Expr, ParseError>) -> Result<Guard, ParseError>
-    ensures { result ≡ result_map_both tree_guard.When (λ e. e) test }
-{
-    match test {
-        Ok(test) => Ok(Guard::When(test)),
-        Err(e) => Err(e),
-    }
-}
-
-/// A range behind so many, if its last test was settled.
-fn between_of(
-    ranges: usize,
-    first: Expr,
-    last: Result<Expr, ParseError>,
-) -> Result<Guard, ParseError>
-    ensures { result ≡ result_map_both (tree_guard.Between ranges first) (λ e. e) last }
-{
-    match last {
-        Ok(last) => Ok(Guard::Between(ranges, first, last)),
-        Err(e) => {
-            drop(first);
-            Err(e)
+            let steps = settle_statements(alloc, sites, scope, steps.as_slice())?;
+            Ok(Stmt::Block(steps))
         }
     }
 }
@@ -86,46 +59,22 @@ fn settle_guard(
     scope: &Scope<'_>,
     ranges: usize,
     pattern: &Pattern,
-) -> Result<Guard, ParseError>
+) -> Result<Guard, AllocError>
+    requires { IsTrue (order.pattern_in_order (sense_of scope.now) pattern.now) }
     ensures text { sites.new.text ≡ sites.old.text }
     ensures settled { IfOk result (λ g. Guards sites.old.text.now (sense_of scope.now) ranges pattern.now g sites.old.lines.items sites.new.lines.items) }
-    ensures judged { Judges (cover.pattern_gap (sense_of scope.now) pattern.now) result }
 {
     match pattern {
         Pattern::When(left, test) => {
             sites.add(*left)?;
-            when_of(settle_expr(alloc, scope, *left, test.get()))
+            let test = settle_expr(alloc, scope, test.get())?;
+            Ok(Guard::When(test))
         }
         Pattern::Range(left, first, last) => {
             sites.add(*left)?;
-            let first = settle_expr(alloc, scope, *left, first.get())?;
-            between_of(ranges, first, settle_expr(alloc, scope, *left, last.get()))
-        }
-    }
-}
-
-/// One more rule at the end, if its action was settled.
-fn push_rule(
-    rules: &mut Vec<Rule>,
-    site: usize,
-    guard: Guard,
-    action: Result<Stmt, ParseError>,
-) -> Result<(), ParseError>
-    ensures pushed { OnOk result (IfOk action (λ t. rules.new.items ≡ rules.old.items ++ record { site = site; guard = guard; action = t } ∷ [])) }
-    ensures judged { Judges (result_err action) result }
-{
-    match action {
-        Ok(action) => Ok(push(
-            rules,
-            Rule {
-                site,
-                guard,
-                action,
-            },
-        )?),
-        Err(e) => {
-            drop(guard);
-            Err(e)
+            let first = settle_expr(alloc, scope, first.get())?;
+            let last = settle_expr(alloc, scope, last.get())?;
+            Ok(Guard::Between(ranges, first, last))
         }
     }
 }
@@ -139,15 +88,23 @@ fn settle_rule(
     pattern: &Pattern,
     action: &Action,
     rules: &mut Vec<Rule>,
-) -> Result<(), ParseError>
+) -> Result<(), AllocError>
+    requires pattern { IsTrue (order.pattern_in_order (sense_of scope.now) pattern.now) }
+    requires action { IsTrue (order.action_in_order (sense_of scope.now) action.now) }
     ensures text { sites.new.text ≡ sites.old.text }
     ensures settled { OnOk result (Adds (λ r. Rules sites.old.text.now (sense_of scope.now) ranges pattern.now action.now r sites.old.lines.items sites.new.lines.items) rules.old.items rules.new.items) }
-    ensures judged { Judges (cover.rule_gap (sense_of scope.now) pattern.now action.now) result }
 {
     let site = sites.lines.len();
     let guard = settle_guard(alloc, sites, scope, ranges, pattern)?;
-    let action = settle_action(alloc, sites, scope, action);
-    push_rule(rules, site, guard, action)
+    let action = settle_action(alloc, sites, scope, action)?;
+    push(
+        rules,
+        Rule {
+            site,
+            guard,
+            action,
+        },
+    )
 }
 
 /// A rule without a pattern, with the place of its `{`, which is added to the rules.
@@ -158,15 +115,22 @@ fn settle_always(
     brace: usize,
     steps: &[Boxed<parsed::Stmt>],
     rules: &mut Vec<Rule>,
-) -> Result<(), ParseError>
+) -> Result<(), AllocError>
+    requires { IsTrue (order.each (order.stmt_in_order (sense_of scope.now)) steps.now) }
     ensures text { sites.new.text ≡ sites.old.text }
     ensures settled { OnOk result (Adds (λ r. (r ≡ rule_of (length sites.old.lines.items) (tree_expr.Number (pos 1)) r.action) × Does sites.old.text.now (sense_of scope.now) (does.Given steps.now) r.action (sited sites.old.text.now brace sites.old.lines.items) sites.new.lines.items) rules.old.items rules.new.items) }
-    ensures judged { Judges (cover.first_of (cover.gap (sense_of scope.now)) steps.now) result }
 {
     let site = sites.lines.len();
     sites.add(brace)?;
-    let action = block_of(settle_statements(alloc, sites, scope, steps));
-    push_rule(rules, site, Guard::When(Expr::Number(1)), action)
+    let steps = settle_statements(alloc, sites, scope, steps)?;
+    push(
+        rules,
+        Rule {
+            site,
+            guard: Guard::When(Expr::Number(1)),
+            action: Stmt::Block(steps),
+        },
+    )
 }
 
 /// A block of statements, which is added to others.
@@ -176,13 +140,13 @@ fn settle_block(
     scope: &Scope<'_>,
     steps: &[Boxed<parsed::Stmt>],
     blocks: &mut Vec<Stmt>,
-) -> Result<(), ParseError>
+) -> Result<(), AllocError>
+    requires { IsTrue (order.each (order.stmt_in_order (sense_of scope.now)) steps.now) }
     ensures text { sites.new.text ≡ sites.old.text }
     ensures settled { OnOk result (Adds (λ t. Does sites.old.text.now (sense_of scope.now) (does.Given steps.now) t sites.old.lines.items sites.new.lines.items) blocks.old.items blocks.new.items) }
-    ensures judged { Judges (cover.first_of (cover.gap (sense_of scope.now)) steps.now) result }
 {
-    let block = block_of(settle_statements(alloc, sites, scope, steps));
-    push_if(blocks, block)
+    let steps = settle_statements(alloc, sites, scope, steps)?;
+    push(blocks, Stmt::Block(steps))
 }
 
 /// How many ranges a pattern is.
@@ -238,10 +202,10 @@ fn settle_function(
     parameters: &[Name],
     steps: &[Boxed<parsed::Stmt>],
     functions: &mut Vec<Function>,
-) -> Result<(), ParseError>
+) -> Result<(), AllocError>
+    requires { IsTrue (order.each (order.stmt_in_order (sense_of scope.now)) steps.now) }
     ensures text { sites.new.text ≡ sites.old.text }
     ensures settled { OnOk result (Adds (λ f. Defines sites.old.text.now (sense_of scope.now) (scope.now.number - 1) left name.now parameters.now steps.now f sites.old.lines.items sites.new.lines.items) functions.old.items functions.new.items) }
-    ensures judged { Judges (cover.first_of (cover.gap (sense_of scope.now)) steps.now) result }
 {
     let site = sites.lines.len();
     sites.add(left)?;
@@ -249,7 +213,7 @@ fn settle_function(
     let parameters = words_of(alloc, parameters)?;
     let kinds = parameter_kinds(alloc, scope.names, scope.number.saturating_sub(1))?;
     let steps = settle_statements(alloc, sites, scope, steps)?;
-    Ok(push_function(functions, name, parameters, kinds, site, steps)?)
+    push_function(functions, name, parameters, kinds, site, steps)
 }
 
 /// An item, which is added to the program.
@@ -259,14 +223,14 @@ fn settle_item(
     names: &Names,
     program: &mut Program,
     item: &Item,
-) -> Result<(), ParseError>
-    requires { program.old.ranges ≤ length program.old.rules.items }
+) -> Result<(), AllocError>
+    requires bounded { program.old.ranges ≤ length program.old.rules.items }
+    requires in_order { IsTrue (order.item_in_order (sense (known names.now)) (length program.old.functions.items) item.now) }
     ensures text { sites.new.text ≡ sites.old.text }
     ensures settled { OnOk result ((items : List part.Item) → IsLaidWith sites.old.text.now (sense (known names.now)) items program.old sites.old.lines.items
         → IsLaidWith sites.old.text.now (sense (known names.now)) (items ++ item.now ∷ []) program.new sites.new.lines.items) }
-    ensures counted { OnOk result (length program.new.functions.items ≡ cover.functions_behind item.now (length program.old.functions.items)) }
+    ensures counted { OnOk result (length program.new.functions.items ≡ order.functions_behind item.now (length program.old.functions.items)) }
     ensures bounded { OnOk result (program.new.ranges ≤ length program.new.rules.items) }
-    ensures judged { Judges (cover.item_gap (sense (known names.now)) (length program.old.functions.items) item.now) result }
 {
     let outside = Scope { names, number: 0 };
     match item {
@@ -314,16 +278,16 @@ fn global_words(alloc: Global, names: &Names) -> Result<Vec<Bytes>, AllocError>
     Ok(words)
 }
 
-/// The program of items, by their names. What no tree is settled of is refused as left out, at the place of its statement, condition or
-/// pattern; no text has it where its names are in order.
+/// The program of items that the grammar gives a text, by their names, which are in order.
 pub fn settle(
     alloc: Global,
     text: &[u8],
     names: &Names,
     items: &[Item],
-) -> Result<Program, ParseError>
-    ensures settled { IfOk result (λ p. IsLaid text.now (known names.now) items.now p) }
-    ensures judged { Judges (cover.program_gap (sense (known names.now)) items.now) result }
+) -> Result<Program, AllocError>
+    requires derived { IsText text.now items.now }
+    requires named { IsNamed (naming.program items.now) (known names.now) }
+    ensures { IfOk result (λ p. IsLaid text.now (known names.now) items.now p) }
 {
     let words = global_words(alloc, names)?;
     let kinds = global_kinds(alloc, names)?;

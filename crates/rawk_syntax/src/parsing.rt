@@ -6,7 +6,7 @@ ghost use Rattle.rawk_grammar.specs.declared.tree.Item as part;
 ghost use Rattle.rawk_names.specs.Items as naming;
 ghost use Rattle.rawk_names.specs.Named.{IsNamed, known};
 ghost use Rattle.rawk_syntax.specs.Texts as spec;
-ghost use Rattle.rawk_syntax.specs.Texts.{Answers, IsFlawIn, IsMisnamed, IsPlain, IsProgram, IsRead, IsReading, IsSettled, IsSettledAs, IsText, Tells};
+ghost use Rattle.rawk_syntax.specs.Texts.{Answers, IsFlawIn, IsMisnamed, IsOrderly, IsProgram, IsRead, IsReading, IsSettled, IsSettledAs, IsText, Tells};
 
 use crate::items::settle;
 use rawk_grammar::program;
@@ -31,8 +31,8 @@ pub fn parse(alloc: Global, text: &[u8]) -> Result<Program, Refusal>
     ensures exact { Answers text.now result }
     // The program is settled from items that the grammar gives the text, within the limits, and whose names are in order.
     ensures found { IfOk result (λ p. IsProgram text.now p) }
-    // A text that plain rules give items with names in order, within the limits, is read as those, unless memory is refused.
-    ensures plain { (items : List part.Item) → length text.now ≤ limits.PROGRAM_BYTES → IsPlain text.now items → IsRead text.now items result }
+    // A text that the grammar gives items with names in order, within the limits, is read as those, unless memory is refused.
+    ensures derived { (items : List part.Item) → length text.now ≤ limits.PROGRAM_BYTES → IsOrderly text.now items → IsRead text.now items result }
 {
     if text.len() > PROGRAM_BYTES {
         return Err(told(
@@ -73,7 +73,7 @@ fn told_of(refused: NameError) -> ParseError
     }
 }
 
-/// The program of items that the grammar gives a text, and whose names are in order: nothing of them is left out.
+/// The program of items that the grammar gives a text, and whose names are in order.
 fn settle_named(
     alloc: Global,
     text: &[u8],
@@ -87,7 +87,7 @@ fn settle_named(
 {
     let settled = settle(alloc, text, &names, items);
     drop(names);
-    settled
+    Ok(settled?)
 }
 
 /// The program of items that the grammar gives a text.
@@ -106,7 +106,7 @@ fn settle_items(alloc: Global, text: &[u8], items: &[Item]) -> Result<Program, P
 fn read(alloc: Global, text: &[u8]) -> Result<Program, ParseError>
     ensures exact { Tells (IsFlawIn text.now) result }
     ensures found { IfOk result (λ p. IsReading text.now p) }
-    ensures plain { (items : List part.Item) → IsPlain text.now items → IsSettledAs text.now items result }
+    ensures derived { (items : List part.Item) → IsOrderly text.now items → IsSettledAs text.now items result }
 {
     let mut tokens = Cursor::new(text);
     let items = program(alloc, &mut tokens, OPEN_CONSTRUCTS + 1)?;

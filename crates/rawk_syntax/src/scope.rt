@@ -1,10 +1,12 @@
 //! What names stand for where a part of a program stands.
 
-ghost use Rattle.std.specs.Prelude.{◌≡◌};
+ghost use Rattle.std.specs.Prelude.{◌≡◌, IsTrue, Some};
 ghost use Rattle.rawk_names.specs.Named.{known, variable_of};
-ghost use Rattle.rawk_syntax.specs.Meant.{array_at, first_parameter, global_array, marked_array, scalar_at, sense_of, unmarked_scalar, variable_array, variable_scalar};
+ghost use Rattle.rawk_syntax.specs.InOrder.{names_array, names_scalar};
+ghost use Rattle.rawk_syntax.specs.Meant.{array_at, first_parameter, global_array, is_there, marked_array, scalar_at, sense_of, unmarked_scalar, variable_array, variable_scalar};
 
 use rawk_names::{Meaning, Names, Variable};
+use rawk_parsing::tree::Name;
 use rawk_tree::{Array, Scalar};
 
 /// The names of a program, and the scope: 0 outside functions, inside one more than the function's number.
@@ -56,11 +58,22 @@ fn scalar_at(scope: &Scope<'_>, meaning: Option<Meaning>) -> Option<Scalar>
     }
 }
 
-/// The scalar that a name stands for, if the settled tree has it. It takes no memory.
-pub fn scalar_of(scope: &Scope<'_>, word: &[u8]) -> Option<Scalar>
+/// The scalar that a name stands for, if it stands for one. It takes no memory.
+fn scalar_of(scope: &Scope<'_>, word: &[u8]) -> Option<Scalar>
     ensures { result ≡ (sense_of scope.now).scalar word.now }
 {
     scalar_at(scope, scope.names.meaning(scope.number, word))
+}
+
+/// The same, of a name that does.
+pub fn the_scalar(scope: &Scope<'_>, name: &Name) -> Scalar
+    requires { IsTrue (names_scalar (sense_of scope.now) name.now) }
+    ensures { (sense_of scope.now).scalar name.now.word ≡ Some result }
+{
+    match scalar_of(scope, name.word.as_slice()) {
+        Some(scalar) => scalar,
+        None => unreachable!(),
+    }
 }
 
 /// The array of a global that is not special, by its place among all variables.
@@ -108,16 +121,31 @@ fn array_at(scope: &Scope<'_>, meaning: Option<Meaning>) -> Option<Array>
     }
 }
 
-/// The array that a name stands for, if the settled tree has it. It takes no memory.
+/// The array that a name stands for, if it stands for one. It takes no memory.
 pub fn array_of(scope: &Scope<'_>, word: &[u8]) -> Option<Array>
     ensures { result ≡ (sense_of scope.now).array word.now }
 {
     array_at(scope, scope.names.meaning(scope.number, word))
 }
 
-/// The number of the function that a name stands for. It takes no memory.
-pub fn called(scope: &Scope<'_>, word: &[u8]) -> Option<usize>
-    ensures { result ≡ (sense_of scope.now).function word.now }
+/// The same, of a name that does.
+pub fn the_array(scope: &Scope<'_>, name: &Name) -> Array
+    requires { IsTrue (names_array (sense_of scope.now) name.now) }
+    ensures { (sense_of scope.now).array name.now.word ≡ Some result }
 {
-    scope.names.entry_of(word)
+    match array_of(scope, name.word.as_slice()) {
+        Some(array) => array,
+        None => unreachable!(),
+    }
+}
+
+/// The number of the function that a name stands for. It takes no memory.
+pub fn the_function(scope: &Scope<'_>, name: &Name) -> usize
+    requires { IsTrue (is_there ((sense_of scope.now).function name.now.word)) }
+    ensures { (sense_of scope.now).function name.now.word ≡ Some result }
+{
+    match scope.names.entry_of(name.word.as_slice()) {
+        Some(function) => function,
+        None => unreachable!(),
+    }
 }

@@ -1,4 +1,6 @@
 //! What is held of an input, and its next record.
+ghost use Rattle.std.specs.Bool.{OnFalse};
+
 use crate::at_end::{last_line, last_paragraph};
 use crate::buffer::Buffer;
 use crate::matches::next_match;
@@ -112,6 +114,14 @@ impl<R: Source + Drop> Tape<R> {
         before
     }
 
+    /// Whether `forget` lets bytes go.
+    #[inline(always)]
+    pub fn is_due(&self) -> bool
+        ensures { OnFalse result (2 * self.now.consumed ≤ length self.now.bytes) }
+    {
+        self.start > self.bytes.len() / 2
+    }
+
     /// Lets consumed bytes go, once they are half of those kept, and answers how many. Each
     /// byte is so moved once on average.
     pub fn forget(&mut self) -> usize
@@ -120,7 +130,7 @@ impl<R: Source + Drop> Tape<R> {
         ensures consumed { self.new.consumed + result ≡ self.old.consumed }
         ensures fewer { 2 * self.new.consumed ≤ length self.new.bytes }
     {
-        if self.start <= self.bytes.len() / 2 {
+        if !self.is_due() {
             return 0;
         }
         let size = self.start;

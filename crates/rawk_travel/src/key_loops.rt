@@ -1,5 +1,6 @@
 //! Loops over the keys of arrays.
 
+ghost use Rattle.std.specs.Bool.{OnTrue};
 ghost use Rattle.std.specs.Prelude.{◌≡◌, IfOk};
 ghost use Rattle.rawk_store.specs.Layout.{Grown};
 ghost use Rattle.rawk_store.specs.Stores.{start_of};
@@ -35,36 +36,36 @@ fn has_next(keys: &KeysLeft) -> bool
 }
 
 /// A loop over the keys of an array begins. It fails where memory is refused.
-pub(crate) fn take_keys(
+pub(crate) fn take_keys<const SAVES: bool>(
     alloc: Global,
     store: &mut Store,
     array: Array,
 ) -> Result<Transfer, AllocError>
     ensures did { IfOk result (λ w. Done (Instr.TakeKeys array) (moving store.old) w (moving store.new)) }
-    ensures start { Grown (start_of store.old) (start_of store.new) }
+    ensures start { OnTrue SAVES (Grown (start_of store.old) (start_of store.new)) }
 {
     let keys = store.array_keys(alloc, array)?;
-    store.keys.begin(keys)?;
+    store.keys.begin::<SAVES>(keys)?;
     Ok(Transfer::Next)
 }
 
 /// Gives a place the next key of the innermost loop, which is visited then; where the place is refused, it is not. It fails where memory is refused.
-pub(crate) fn assign_key(
+pub(crate) fn assign_key<const SAVES: bool>(
     alloc: Global,
     store: &mut Store,
     to: Destination,
 ) -> Result<Transfer, AllocError>
     ensures did { IfOk result (λ w. Done (Instr.AssignKey to) (moving store.old) w (moving store.new)) }
-    ensures start { Grown (start_of store.old) (start_of store.new) }
+    ensures start { OnTrue SAVES (Grown (start_of store.old) (start_of store.new)) }
 {
     let place = target_by(alloc, to, popped_borrowed(&store.operands, 0))?;
     let key = next_key(alloc, &store.keys)?;
     drop_place(store, to);
-    let refused = put_in(alloc, store, &place, Value::String(key))?;
+    let refused = put_in::<SAVES>(alloc, store, &place, Value::String(key))?;
     match refused {
         Some(fault) => Ok(faulted(fault)),
         None => {
-            store.keys.advance()?;
+            store.keys.advance::<SAVES>()?;
             Ok(Transfer::Next)
         }
     }

@@ -14,7 +14,6 @@ mod formulas;
 mod key_loops;
 mod operands;
 mod print;
-pub mod reach;
 mod reading;
 mod replace;
 mod split;

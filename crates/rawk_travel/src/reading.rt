@@ -1,5 +1,6 @@
 //! The reading of a record.
 
+ghost use Rattle.std.specs.Bool.{OnTrue};
 ghost use Rattle.std.specs.Prelude.{◌≡◌, ◌≢◌, ◌≤◌, ◌⊎◌, List, Some, length, slice_range, IfOk, OnOk};
 ghost use Rattle.rawk_store.specs.Layout.{Grown};
 ghost use Rattle.rawk_store.specs.Stores.{start_of};
@@ -69,19 +70,22 @@ fn separator_in<'a>(globals: &'a Cells, separator: usize, digits: &'a mut Buffer
 }
 
 /// The record of a text, by the field separator of now; a separator that is refused changes nothing. It fails where memory is refused.
-fn show(
+fn show<const SAVES: bool>(
     alloc: Global,
     store: &mut Store,
     text: &[u8],
     paragraph: bool,
 ) -> Result<Option<Fault>, AllocError>
     ensures did { IfOk result (λ fault. Shows fault (read_as text.now (text_of (global_in FS store.old.globals.now)) paragraph) (moving store.old) (moving store.new)) }
-    ensures start { start_of store.new ≡ start_of store.old }
+    ensures start { OnTrue SAVES (start_of store.new ≡ start_of store.old) }
     ensures plain { IsPlainMove store.old store.new }
 {
     let mut digits = Buffer::new();
     let separator = separator_in(&store.globals, FS, &mut digits);
-    match store.current.read(alloc, text, separator, paragraph) {
+    match store
+        .current
+        .read::<SAVES>(alloc, text, separator, paragraph)
+    {
         Ok(()) => Ok(None),
         Err(Fault::OutOfMemory) => Err(AllocError),
         Err(fault) => Ok(Some(fault)),
@@ -89,7 +93,7 @@ fn show(
 }
 
 /// The record of a text, and the counters. It fails where memory is refused.
-fn show_counted(
+fn show_counted<const SAVES: bool>(
     alloc: Global,
     store: &mut Store,
     text: &[u8],
@@ -98,14 +102,14 @@ fn show_counted(
     fnr: i64,
 ) -> Result<Reading, AllocError>
     ensures did { IfOk result (λ r. Counts r nr fnr (read_as text.now (text_of (global_in FS store.old.globals.now)) paragraph) (moving store.old) (moving store.new)) }
-    ensures start { start_of store.new ≡ start_of store.old }
+    ensures start { OnTrue SAVES (start_of store.new ≡ start_of store.old) }
     ensures plain { IsPlainMove store.old store.new }
 {
-    match show(alloc, store, text, paragraph)? {
+    match show::<SAVES>(alloc, store, text, paragraph)? {
         Some(fault) => Ok(Reading::Faulted(fault)),
         None => {
-            store.globals.set(NR, Value::Number(nr))?;
-            store.globals.set(FNR, Value::Number(fnr))?;
+            store.globals.set::<SAVES>(NR, Value::Number(nr))?;
+            store.globals.set::<SAVES>(FNR, Value::Number(fnr))?;
             Ok(Reading::Taken)
         }
     }
@@ -113,7 +117,7 @@ fn show_counted(
 
 /// A text becomes the record, and is counted; a fault of a counter or a separator changes nothing. It fails where memory is
 /// refused.
-fn take_text(
+fn take_text<const SAVES: bool>(
     alloc: Global,
     store: &mut Store,
     text: &[u8],
@@ -121,20 +125,20 @@ fn take_text(
 ) -> Result<Reading, AllocError>
     requires { paragraph ≡ is_empty (text_of (global_in RS store.old.globals.now)) }
     ensures did { IfOk result (λ r. Takes r (taken_of text.now (moving store.old)) (moving store.old) (moving store.new)) }
-    ensures start { start_of store.new ≡ start_of store.old }
+    ensures start { OnTrue SAVES (start_of store.new ≡ start_of store.old) }
     ensures plain { IsPlainMove store.old store.new }
 {
     match counter_up(&store.globals, NR) {
         Err(fault) => Ok(Reading::Faulted(fault)),
         Ok(nr) => match counter_up(&store.globals, FNR) {
             Err(fault) => Ok(Reading::Faulted(fault)),
-            Ok(fnr) => show_counted(alloc, store, text, paragraph, nr, fnr),
+            Ok(fnr) => show_counted::<SAVES>(alloc, store, text, paragraph, nr, fnr),
         },
     }
 }
 
 /// A text becomes the newest operand, with these counters. It fails where memory is refused.
-fn put_counted(
+fn put_counted<const SAVES: bool>(
     alloc: Global,
     store: &mut Store,
     text: &[u8],
@@ -142,25 +146,29 @@ fn put_counted(
     fnr: i64,
 ) -> Result<(), AllocError>
     ensures did { OnOk result (moving store.new ≡ with_counted_text nr fnr text.now (moving store.old)) }
-    ensures start { Grown (start_of store.old) (start_of store.new) }
+    ensures start { OnTrue SAVES (Grown (start_of store.old) (start_of store.new)) }
 {
     let copy = Bytes::from_slice(alloc, text)?;
-    store.globals.set(NR, Value::Number(nr))?;
-    store.globals.set(FNR, Value::Number(fnr))?;
-    put(store, 0, Value::Input(copy))
+    store.globals.set::<SAVES>(NR, Value::Number(nr))?;
+    store.globals.set::<SAVES>(FNR, Value::Number(fnr))?;
+    put::<SAVES>(store, 0, Value::Input(copy))
 }
 
 /// A text becomes the newest operand, and is counted; a fault of a counter changes nothing. It fails where memory is refused.
-fn put_text(alloc: Global, store: &mut Store, text: &[u8]) -> Result<Reading, AllocError>
+fn put_text<const SAVES: bool>(
+    alloc: Global,
+    store: &mut Store,
+    text: &[u8],
+) -> Result<Reading, AllocError>
     ensures did { IfOk result (λ r. Takes r (text_taken_of text.now (moving store.old)) (moving store.old) (moving store.new)) }
-    ensures start { Grown (start_of store.old) (start_of store.new) }
+    ensures start { OnTrue SAVES (Grown (start_of store.old) (start_of store.new)) }
 {
     match counter_up(&store.globals, NR) {
         Err(fault) => Ok(Reading::Faulted(fault)),
         Ok(nr) => match counter_up(&store.globals, FNR) {
             Err(fault) => Ok(Reading::Faulted(fault)),
             Ok(fnr) => {
-                put_counted(alloc, store, text, nr, fnr)?;
+                put_counted::<SAVES>(alloc, store, text, nr, fnr)?;
                 Ok(Reading::Taken)
             }
         },
@@ -178,7 +186,7 @@ fn refused(fault: Fault) -> Result<Reading, AllocError>
 }
 
 /// A record that was found becomes the present one, and its bytes are consumed. It fails where memory is refused.
-fn take_found<R: Source + Drop>(
+fn take_found<R: Source + Drop, const SAVES: bool>(
     alloc: Global,
     store: &mut Store,
     tape: &mut Tape<R>,
@@ -190,12 +198,12 @@ fn take_found<R: Source + Drop>(
     requires end_in_range { found.end ≤ length tape.old.bytes }
     requires in_range { found.count ≤ length tape.old.bytes }
     ensures did { IfOk result (λ r. Finds r (taken_of (slice_range tape.old.bytes found.start found.end) (moving store.old)) found.count (moving store.old) (moving store.new)) }
-    ensures start { start_of store.new ≡ start_of store.old }
-    ensures plain { IsPlainMove store.old store.new }
+    ensures start { OnTrue SAVES (start_of store.new ≡ start_of store.old) }
     ensures tape { tape.new ≡ record tape.old { consumed = tape.new.consumed } }
     ensures consumed { IfOk result (λ r. tape.new.consumed ≡ consumed_by r found.count tape.old.consumed) }
+    ensures plain { IsPlainMove store.old store.new }
 {
-    match take_text(alloc, store, tape.text(&found), paragraph)? {
+    match take_text::<SAVES>(alloc, store, tape.text(&found), paragraph)? {
         Reading::Taken => {
             tape.consume(found.count);
             store.registers.now.consumed = found.count;
@@ -207,7 +215,7 @@ fn take_found<R: Source + Drop>(
 
 /// Reads a record: it becomes the present one and is counted, all or nothing. It fails where memory is refused; bytes may be read
 /// ahead then.
-pub fn read<R: Source + Drop>(
+pub fn read<R: Source + Drop, const SAVES: bool>(
     alloc: Global,
     store: &mut Store,
     tape: &mut Tape<R>,
@@ -216,13 +224,13 @@ pub fn read<R: Source + Drop>(
     ensures may { (kept : Input) → MayBe R.may_give tape.new kept → MayBe R.may_give tape.old kept }
     ensures did { IfOk result (λ r. (points : List Point) (gone handed : Bytes) (kept : Input) → MayBe R.may_give tape.new kept → ReadsTo r points gone handed kept (moving store.old) (moving store.new)) }
     ensures registers { IfOk result (λ r. KeepsRegisters (moving store.old) (moving store.new)) }
-    ensures start { start_of store.new ≡ start_of store.old }
-    ensures plain { IsPlainMove store.old store.new }
+    ensures start { OnTrue SAVES (start_of store.new ≡ start_of store.old) }
     ensures consumed { OnOk result (tape.new.consumed ≡ store.new.registers.now.consumed) }
     ensures asks { (tape.new.bytes ≡ tape.old.bytes) ⊎ IsDue (text_of (global_in RS store.old.globals.now)) store.old.registers.now.consumed tape.new.bytes }
     ensures draws { Draws R.over R.handed tape.old tape.new }
     ensures quiet { IfOk result IsQuietReading }
     ensures failed { IfOk result (λ r. r ≡ Reading.Faulted Fault.ReadFailed → R.over tape.new.source ≡ Some Ending.Failed) }
+    ensures plain { IsPlainMove store.old store.new }
 {
     let mut digits = Buffer::new();
     let separator = separator_in(&store.globals, RS, &mut digits);
@@ -230,12 +238,12 @@ pub fn read<R: Source + Drop>(
     match tape.next(separator) {
         Err(fault) => refused(fault),
         Ok(None) => Ok(Reading::Missing),
-        Ok(Some(found)) => take_found(alloc, store, tape, found, paragraph),
+        Ok(Some(found)) => take_found::<R, SAVES>(alloc, store, tape, found, paragraph),
     }
 }
 
 /// The text of a record that was found becomes the newest operand, and its bytes are consumed. It fails where memory is refused.
-fn put_found<R: Source + Drop>(
+fn put_found<R: Source + Drop, const SAVES: bool>(
     alloc: Global,
     store: &mut Store,
     tape: &mut Tape<R>,
@@ -245,11 +253,11 @@ fn put_found<R: Source + Drop>(
     requires end_in_range { found.end ≤ length tape.old.bytes }
     requires in_range { found.count ≤ length tape.old.bytes }
     ensures did { IfOk result (λ r. Finds r (text_taken_of (slice_range tape.old.bytes found.start found.end) (moving store.old)) found.count (moving store.old) (moving store.new)) }
-    ensures start { Grown (start_of store.old) (start_of store.new) }
+    ensures start { OnTrue SAVES (Grown (start_of store.old) (start_of store.new)) }
     ensures tape { tape.new ≡ record tape.old { consumed = tape.new.consumed } }
     ensures consumed { IfOk result (λ r. tape.new.consumed ≡ consumed_by r found.count tape.old.consumed) }
 {
-    match put_text(alloc, store, tape.text(&found))? {
+    match put_text::<SAVES>(alloc, store, tape.text(&found))? {
         Reading::Taken => {
             tape.consume(found.count);
             store.registers.now.consumed = found.count;
@@ -261,7 +269,7 @@ fn put_found<R: Source + Drop>(
 
 /// Reads a record: its text becomes the newest operand and is counted, all or nothing; the present record stays. It fails where memory is refused; bytes may
 /// be read ahead then.
-pub fn read_text<R: Source + Drop>(
+pub fn read_text<R: Source + Drop, const SAVES: bool>(
     alloc: Global,
     store: &mut Store,
     tape: &mut Tape<R>,
@@ -271,7 +279,7 @@ pub fn read_text<R: Source + Drop>(
     ensures did { IfOk result (λ r. (points : List Point) (gone handed : Bytes) (kept : Input) → MayBe R.may_give tape.new kept → ReadsText r points gone handed kept (moving store.old) (moving store.new)) }
     ensures registers { IfOk result (λ r. KeepsRegisters (moving store.old) (moving store.new)) }
     ensures places { IfOk result (λ r. KeepsPlaces (moving store.old) (moving store.new)) }
-    ensures start { Grown (start_of store.old) (start_of store.new) }
+    ensures start { OnTrue SAVES (Grown (start_of store.old) (start_of store.new)) }
     ensures consumed { OnOk result (tape.new.consumed ≡ store.new.registers.now.consumed) }
     ensures asks { (tape.new.bytes ≡ tape.old.bytes) ⊎ IsDue (text_of (global_in RS store.old.globals.now)) store.old.registers.now.consumed tape.new.bytes }
     ensures draws { Draws R.over R.handed tape.old tape.new }
@@ -283,6 +291,6 @@ pub fn read_text<R: Source + Drop>(
     match tape.next(separator) {
         Err(fault) => refused(fault),
         Ok(None) => Ok(Reading::Missing),
-        Ok(Some(found)) => put_found(alloc, store, tape, found),
+        Ok(Some(found)) => put_found::<R, SAVES>(alloc, store, tape, found),
     }
 }

@@ -1,5 +1,6 @@
 //! Places whose element is looked up once.
 
+ghost use Rattle.std.specs.Bool.{OnTrue};
 ghost use Rattle.std.specs.Prelude.{◌≡◌, ℕ, IfOk, OnOk};
 ghost use Rattle.std.specs.Option.{unwrap_or};
 ghost use Rattle.rawk_value.specs.declared.value.Value.{Value};
@@ -78,7 +79,7 @@ pub fn spot_borrowed<'a>(spot: &Spot, store: &'a Store) -> Borrowed<'a>
 }
 
 /// Assigns a place, or answers the fault of that, which changes nothing. It fails where memory is refused.
-pub(crate) fn put_spot(
+pub(crate) fn put_spot<const SAVES: bool>(
     alloc: Global,
     store: &mut Store,
     spot: &Spot,
@@ -86,30 +87,34 @@ pub(crate) fn put_spot(
 ) -> Result<Option<Fault>, AllocError>
     requires { IsSpot spot.now.place spot.now.slot store.old }
     ensures did { IfOk result (λ fault. HasPut spot.now.place value fault (moving store.old) (moving store.new)) }
-    ensures start { Grown (start_of store.old) (start_of store.new) }
+    ensures start { OnTrue SAVES (Grown (start_of store.old) (start_of store.new)) }
 {
     match spot.slot {
         Some(slot) => {
-            store.arrays.set_at(slot, value)?;
+            store.arrays.set_at::<SAVES>(slot, value)?;
             Ok(None)
         }
-        None => put_in(alloc, store, &spot.place, value),
+        None => put_in::<SAVES>(alloc, store, &spot.place, value),
     }
 }
 
 /// What the reading of a place makes: an element that is not there. It fails where memory is refused.
-pub(crate) fn touch_spot(alloc: Global, store: &mut Store, spot: &Spot) -> Result<(), AllocError>
+pub(crate) fn touch_spot<const SAVES: bool>(
+    alloc: Global,
+    store: &mut Store,
+    spot: &Spot,
+) -> Result<(), AllocError>
     requires { IsSpot spot.now.place spot.now.slot store.old }
     ensures did { OnOk result (moving store.new ≡ touched spot.now.place (moving store.old)) }
-    ensures start { Grown (start_of store.old) (start_of store.new) }
+    ensures start { OnTrue SAVES (Grown (start_of store.old) (start_of store.new)) }
 {
     match spot.slot {
         Some(slot) => {
             if store.arrays.value_at(slot).is_none() {
-                store.arrays.set_at(slot, Value::Uninitialized)?;
+                store.arrays.set_at::<SAVES>(slot, Value::Uninitialized)?;
             }
             Ok(())
         }
-        None => touch(alloc, store, &spot.place),
+        None => touch::<SAVES>(alloc, store, &spot.place),
     }
 }

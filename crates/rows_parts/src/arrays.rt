@@ -50,7 +50,7 @@ fn put(
     value: &[u8],
 ) -> Result<(), AllocError> {
     match arrays.place(alloc, array, key)? {
-        Some(place) => arrays.set_at(place, value_of(alloc, value)?),
+        Some(place) => arrays.set_at::<true>(place, value_of(alloc, value)?),
         None => Ok(()),
     }
 }
@@ -95,13 +95,13 @@ pub fn packed(alloc: Global, parts: &[&[u8]]) -> Result<Vec<u8>, AllocError> {
 
 /// Adds an array, makes the elements, deletes all but the last, and packs.
 fn places_of_last(alloc: Global, arrays: &mut Arrays, count: usize) -> Result<Vec<u8>, AllocError> {
-    arrays.add()?;
+    arrays.add::<true>()?;
     for element in 0..count {
         let key = format!(in alloc; "{element}")?.into_bytes();
-        arrays.set(alloc, 0, &key, Value::Number(1))?;
-        arrays.delete(alloc, 0, &key)?;
+        arrays.set::<true>(alloc, 0, &key, Value::Number(1))?;
+        arrays.delete::<true>(alloc, 0, &key)?;
     }
-    arrays.set(alloc, 0, b"last", Value::Number(1))?;
+    arrays.set::<true>(alloc, 0, b"last", Value::Number(1))?;
     arrays.forget();
     let before = arrays.place(alloc, 0, b"last")?.unwrap_or(0);
     arrays.forget();

@@ -1,6 +1,5 @@
 //! `calls` and changes: how many activations there are, and the locals of the newest. A change is `enter`, `local VALUE`,
 //! `local N=VALUE`, `leave` or `leave all`; with `apply` or `there and back` before it, a step of its own, which the second takes back.
-//! `step` ends the step, and `back` takes it back.
 
 use crate::stepped::{self, as_step};
 use rawk_frames::{Frames, FramesChange, Local};
@@ -39,9 +38,7 @@ fn make(alloc: Global, frames: &mut Frames, change: &[u8]) -> Result<(), AllocEr
 /// Makes one change by its call.
 fn call(alloc: Global, frames: &mut Frames, change: &[u8]) -> Result<(), AllocError> {
     match change {
-        b"step" => frames.forget(),
-        b"back" => frames.undo_step(),
-        b"enter" => return frames.enter(8, 3, 101, Some(4), 25),
+        b"enter" => return frames.enter::<true>(8, 3, 101, Some(4), 25),
         b"leave" => {
             let _ = frames.leave();
         }
@@ -57,8 +54,8 @@ fn put_local(alloc: Global, frames: &mut Frames, change: &[u8]) -> Result<(), Al
         return Ok(());
     };
     match written(alloc, local)? {
-        (Some(number), local) => frames.set_local(number, local),
-        (None, local) => frames.add_local(local),
+        (Some(number), local) => frames.set_local::<true>(number, local),
+        (None, local) => frames.add_local::<true>(local),
     }
 }
 

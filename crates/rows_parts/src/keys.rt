@@ -42,9 +42,9 @@ fn call(alloc: Global, left: &mut KeysLeft, change: &[u8]) -> Result<(), AllocEr
         b"back" => left.undo_step(),
         b"clear" => left.clear(),
         _ => match change_of(alloc, change)? {
-            KeysChange::Begin(keys) => return left.begin(keys),
+            KeysChange::Begin(keys) => return left.begin::<true>(keys),
             KeysChange::End(count) => left.end(count),
-            KeysChange::Advance => return left.advance(),
+            KeysChange::Advance => return left.advance::<true>(),
             _ => {}
         },
     }

@@ -36,7 +36,7 @@ struct Place<'a> {
 impl<'a> Place<'a> {
     /// `$0` becomes a text.
     fn read(&mut self, alloc: Global, text: &[u8]) -> Result<(), Fault> {
-        self.current.read(alloc, text, self.fs, false)
+        self.current.read::<true>(alloc, text, self.fs, false)
     }
 
     /// Makes one change.
@@ -75,12 +75,14 @@ impl<'a> Place<'a> {
     fn assign(&mut self, alloc: Global, name: &[u8], value: Value) -> Result<(), Fault> {
         if name == b"NF".as_slice() {
             let count = field_number(&value)?;
-            self.current.set_field_count(alloc, count, self.ofs)?;
+            self.current
+                .set_field_count::<true>(alloc, count, self.ofs)?;
             return Ok(());
         }
         let number = field_number(&value_of(alloc, name)?)?;
         if number != 0 {
-            self.current.set_field(alloc, number, value, self.ofs)?;
+            self.current
+                .set_field::<true>(alloc, number, value, self.ofs)?;
             return Ok(());
         }
         let read = self.become_text(alloc, &value);

@@ -110,15 +110,32 @@ fn operands_change(
     })
 }
 
+/// Ends the step in the parts that are shown, and takes it back.
+fn go_back(alloc: Global, store: &mut Store) -> Result<(), AllocError> {
+    let mut globals = store.globals.finish(alloc)?;
+    store.globals.undo(&mut globals);
+    let mut operands = store.operands.finish(alloc);
+    store.operands.undo(&mut operands);
+    let output = store.output.finish();
+    store.output.undo(output);
+    let mut registers = store.registers.finish();
+    store.registers.undo(&mut registers);
+    Ok(())
+}
+
+/// Takes the step in progress back in the parts that are shown.
+fn undo(store: &mut Store) {
+    store.globals.undo_step();
+    store.operands.undo_step();
+    store.output.undo_step();
+    store.registers.undo_step();
+}
+
 /// Ends the step, or takes it back.
 fn end(alloc: Global, store: &mut Store, word: &[u8]) -> Result<(), AllocError> {
     match word {
-        b"back" => {
-            let mut group = store.finish(alloc)?;
-            store.undo(&mut group);
-            drop(group);
-        }
-        b"undo" => store.undo_step(),
+        b"back" => return go_back(alloc, store),
+        b"undo" => undo(store),
         _ => store.forget(),
     }
     Ok(())
@@ -129,7 +146,7 @@ fn put(alloc: Global, store: &mut Store, word: &[u8], rest: &[u8]) -> Result<(),
     match word {
         b"global" => put_global(alloc, store, rest),
         b"append" => append(alloc, store, rest),
-        b"operand" => store.operands.push(value_of(alloc, rest)?),
+        b"operand" => store.operands.push::<true>(value_of(alloc, rest)?),
         b"text" => store.output.push(rest),
         b"value" => put_value(alloc, store, rest),
         b"number" => store.output.push_number(number_in(rest)),
@@ -145,7 +162,7 @@ fn put_global(alloc: Global, store: &mut Store, global: &[u8]) -> Result<(), All
     match global {
         [_, b'=', ..] => {
             let (number, value) = numbered(alloc, global)?;
-            store.globals.set(number, value)
+            store.globals.set::<true>(number, value)
         }
         value => store.globals.add(value_of(alloc, value)?),
     }
@@ -156,7 +173,7 @@ fn append(alloc: Global, store: &mut Store, global: &[u8]) -> Result<(), AllocEr
     let (number, value) = numbered(alloc, global)?;
     let text = text_of(alloc, &value)?;
     drop(value);
-    store.globals.append(alloc, number, &text)
+    store.globals.append::<true>(alloc, number, &text)
 }
 
 /// Adds a value to the output.

@@ -6,7 +6,7 @@ use Rattle.rawk.proofs.preparing.prepare.Goals as goal
 -- the text is refused
 pub returns-in-Err-clause-refused : goal.returns-in-Err-clause-refused
 returns-in-Err-clause-refused c =
-    subst (λ (r : Report). IsRefused c.args.text.now c.args.settings.now r) (sym c.text_refused.ensures) (text_refused c.in-Err.refusal (record { exact = c.in-Err.ensures.exact; plain = c.in-Err.ensures.plain }))
+    subst (λ (r : Report). IsRefused c.args.text.now c.args.settings.now r) (sym c.text_refused.ensures) (text_refused c.in-Err.refusal (record { exact = c.in-Err.ensures.exact; derived = c.in-Err.ensures.derived }))
 
 -- the first values are refused
 pub returns-then-not-fits-clause-refused : goal.returns-then-not-fits-clause-refused

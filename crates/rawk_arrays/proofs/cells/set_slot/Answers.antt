@@ -7,14 +7,14 @@ use Rattle.rawk_arrays.proofs.Counting.{count_room, counted_put}
 use Rattle.rawk_arrays.proofs.cells.set_slot.Goals as goal
 
 pub recount-requires-clause-room : goal.recount-requires-clause-room
-recount-requires-clause-room c = λ name is.
+recount-requires-clause-room g c = λ name is.
     let laid : IsLaid c.args.index.now c.args.cells.now.now = record { distinct = c.requires.laid.distinct; array_key = c.requires.laid.array_key } in
     let lt : c.args.number < length c.args.cells.now.now = omega (arith, c.if-number-len.false, c.len.ensures) in
     let room = count_room c.args.index.now c.args.cells.now.now c.args.number c.args.value name c.args.counts.now.items laid is lt c.requires.counted in
     omega (arith, room, ap one c.is_some-is.ensures, ap one c.is_filled-was.ensures, c.len-names.ensures)
 
 pub returns-clause-counted : goal.returns-clause-counted
-returns-clause-counted c =
+returns-clause-counted g c =
     let index = c.args.index.now in
     let counts = c.args.counts.now.items in
     let laid : IsLaid index c.args.cells.now.now = record { distinct = c.requires.laid.distinct; array_key = c.requires.laid.array_key } in

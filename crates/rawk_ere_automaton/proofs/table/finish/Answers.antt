@@ -1,5 +1,5 @@
 use Rattle.std.proofs.Common.{◌≡◌, length, sym, ap, subst, ◌∙◌}
-use Rattle.rawk_ere_tree.specs.Begins.{AreBegins}
+use Rattle.rawk_ere_begins.specs.Filters.{IsFilter}
 use Rattle.rawk_ere_automaton.specs.Table.{AreFilled, IsTable}
 use Rattle.rawk_ere_automaton.proofs.BuildLemmas.{some_is}
 use Rattle.rawk_ere_automaton.proofs.table.finish.Goals as goal
@@ -19,6 +19,6 @@ returns-in-Some c =
       wants_all = c.in_ok-wants.ensures.all;
       wants_are = c.in_ok-wants.ensures.each;
       none = c.find_dead-dead.ensures;
-      begin_with = subst (λ n. AreBegins n c.in_ok-ends.ends.items c.args.later c.find_dead-dead.result c.find_begins-begins.result) c.deref.ensures.value
-          (subst (λ e. AreBegins c.deref.result.now e c.args.later c.find_dead-dead.result c.find_begins-begins.result) c.deref-in-Some.ensures.value c.find_begins-begins.ensures);
+      begin_with = subst (λ n. IsFilter n c.in_ok-ends.ends.items c.args.later c.find_dead-dead.result c.find_filter-begins.result) c.deref.ensures.value
+          (subst (λ e. IsFilter c.deref.result.now e c.args.later c.find_dead-dead.result c.find_filter-begins.result) c.deref-in-Some.ensures.value c.find_filter-begins.ensures);
     }

@@ -1,4 +1,4 @@
-use Rattle.std.proofs.Common.{rules, arith}
+use Rattle.std.proofs.Common.{arith}
 use Rattle.std.proofs.lemmas.Grind.{common_steps}
 use Rattle.rawk_grammar.specs.Items.{names, names_from}
 use Rattle.rawk_parsing.proofs.Turns.{one_more, no_more}

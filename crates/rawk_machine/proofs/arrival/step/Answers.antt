@@ -7,9 +7,6 @@ returns-in-Ok-clause-did g c =
     step_arrives g.R.Source.may_give c.args.code.now c.travel.new.tape c.in-Ok.to c.args.count c.args.limit (moving c.args.store.now) (moving c.travel.new.store) (moving c.settle.new.store)
     c.in-Ok.ensures.stops c.requires.running c.in-Ok.ensures.keeps c.in-Ok.ensures.did c.settle.ensures.did
 
-pub returns-in-Ok-clause-reach : goal.returns-in-Ok-clause-reach
-returns-in-Ok-clause-reach g c = c.settle.ensures.reach c.args.store.now c.requires.rest c.in-Ok.ensures.reach
-
 pub returns-in-Ok-clause-may : goal.returns-in-Ok-clause-may
 returns-in-Ok-clause-may g c = c.travel.ensures.may
 
@@ -48,9 +45,6 @@ returns-in-Err-clause-quiet g c = tt
 
 pub returns-in-Err-clause-failed : goal.returns-in-Err-clause-failed
 returns-in-Err-clause-failed g c = tt
-
-pub returns-in-Err-clause-reach : goal.returns-in-Err-clause-reach
-returns-in-Err-clause-reach g c = tt
 
 pub returns-in-Err-clause-counted : goal.returns-in-Err-clause-counted
 returns-in-Err-clause-counted g c = c.travel.ensures.counted

@@ -1,36 +1,23 @@
-use Rattle.std.proofs.Common.{◌≡◌, ◌+◌, ◌*◌, map, max, take, true}
+use Rattle.std.proofs.Common.{◌+◌, ◌*◌, max, take}
 use denote.Param.Weighed.{most}
 use Rattle.rawk_parsing.proofs.tree.Expr.TheLaws as expr
 use Rattle.rawk_parsing.proofs.tree.Link.TheLaws as link
 use Rattle.rawk_parsing.proofs.tree.Place.TheLaws as place
-use Rattle.rawk_syntax.specs.Covered.{all_fit, each, cover_of, covers, covers_link}
 use Rattle.rawk_syntax.specs.Meant.{sense_of}
 use Rattle.rawk_syntax.specs.Settled.{Settles, SomeArguments, SomeLinks, SomeTests, SomeExprs}
 use Rattle.rawk_syntax.proofs.expressions.+settle.Given as goal
 
 abbrev pub invariant-settle_links-loop-link : goal.invariant-settle_links-loop-link
-invariant-settle_links-loop-link l = record {
-  settled : Settles (sense_of l.scope) (SomeLinks (take l.link-index l.links) l.settled.items);
-  judged : each (covers_link (sense_of l.scope)) (take l.link-index l.links) ≡ true;
-}
+invariant-settle_links-loop-link l = Settles (sense_of l.scope) (SomeLinks (take l.link-index l.links) l.settled.items)
 
 abbrev pub invariant-settle_tests-loop-test : goal.invariant-settle_tests-loop-test
-invariant-settle_tests-loop-test l = record {
-  settled : Settles (sense_of l.scope) (SomeTests l.logic (take l.test-index l.tests) l.settled.items);
-  judged : each (covers (sense_of l.scope)) (take l.test-index l.tests) ≡ true;
-}
+invariant-settle_tests-loop-test l = Settles (sense_of l.scope) (SomeTests l.logic (take l.test-index l.tests) l.settled.items)
 
 abbrev pub invariant-settle_list-loop-e : goal.invariant-settle_list-loop-e
-invariant-settle_list-loop-e l = record {
-  settled : Settles (sense_of l.scope) (SomeExprs (take l.e-index l.list) l.settled.items);
-  judged : each (covers (sense_of l.scope)) (take l.e-index l.list) ≡ true;
-}
+invariant-settle_list-loop-e l = Settles (sense_of l.scope) (SomeExprs (take l.e-index l.list) l.settled.items)
 
 abbrev pub invariant-settle_arguments-loop-i : goal.invariant-settle_arguments-loop-i
-invariant-settle_arguments-loop-i l = record {
-  settled : Settles (sense_of l.scope) (SomeArguments ((sense_of l.scope).kinds l.function) (take l.i l.arguments) l.values.items l.arrays.items);
-  judged : all_fit ((sense_of l.scope).kinds l.function) (map (cover_of (sense_of l.scope)) (take l.i l.arguments)) ≡ true;
-}
+invariant-settle_arguments-loop-i l = Settles (sense_of l.scope) (SomeArguments ((sense_of l.scope).kinds l.function) (take l.i l.arguments) l.values.items l.arrays.items)
 
 -- the depth, and whose calls come first where it stays
 
@@ -86,7 +73,7 @@ abbrev pub decreases-settle_parted : goal.decreases-settle_parted
 decreases-settle_parted l = 5 * expr.the_size l.text.now + 2
 
 abbrev pub decreases-settle_separator : goal.decreases-settle_separator
-decreases-settle_separator l = 5 * expr.the_size l.e.now + 1
+decreases-settle_separator l = 5 * expr.the_size l.e.now + 2
 
 abbrev pub decreases-settle_split : goal.decreases-settle_split
 decreases-settle_split l = 5 * goal.size-settle_split l + 3
@@ -109,11 +96,11 @@ decreases-settle_chain l = 5 * max (expr.the_size l.first.now) (most link.the_si
 abbrev pub decreases-settle_choice : goal.decreases-settle_choice
 decreases-settle_choice l = 5 * max (expr.the_size l.test.now) (max (expr.the_size l.yes.now) (expr.the_size l.no.now)) + 2
 
+abbrev pub decreases-settle_before : goal.decreases-settle_before
+decreases-settle_before l = 5 * goal.size-settle_before l + 1
+
 abbrev pub decreases-settle_assign : goal.decreases-settle_assign
 decreases-settle_assign l = 5 * max (place.the_size l.place.now) (expr.the_size l.value.now) + 2
-
-abbrev pub decreases-settle_element : goal.decreases-settle_element
-decreases-settle_element l = 5 * goal.size-settle_element l + 2
 
 abbrev pub decreases-settle_in : goal.decreases-settle_in
 decreases-settle_in l = 5 * goal.size-settle_in l + 2

@@ -4,7 +4,6 @@ use Rattle.rawk_parsing.specs.declared.tree.Expr as parsed
 use Rattle.rawk_tree.specs.declared.tree.Expr.{Expr}
 use Rattle.rawk_syntax.specs.Meant.{Sense, sense_of}
 use Rattle.rawk_syntax.specs.Settled.{Settles, SomeExprs, Prints}
-use Rattle.rawk_syntax.proofs.Coverings.{none_uncovered}
 use Rattle.rawk_syntax.proofs.Settlements.{all_printed, record_printed}
 use Rattle.rawk_syntax.proofs.expressions.settle_printed.Goals as goal
 
@@ -12,13 +11,10 @@ all_if : {E : Type 0} (r : Result (Vec Expr) E) (means : Sense) (es : List parse
 all_if (Ok s) means es some h = all_printed means es s.items some h
 all_if (Err e) means es some h = tt
 
-pub returns-then-list-eq0-clause-settled : goal.returns-then-list-eq0-clause-settled
-returns-then-list-eq0-clause-settled c =
+pub returns-then-list-eq0 : goal.returns-then-list-eq0
+returns-then-list-eq0 c =
     record_printed (sense_of c.args.scope.now) c.args.list.now c.push.new.values.items c.in_ok-whole.whole c.if-list-eq0.true
     (c.in_ok-push.ensures ∙ ap (λ xs. xs ++ c.in_ok-whole.whole ∷ []) c.new-list.ensures.items) c.in_ok-whole.ensures
 
-pub returns-then-list-eq0-clause-judged : goal.returns-then-list-eq0-clause-judged
-returns-then-list-eq0-clause-judged c = none_uncovered (sense_of c.args.scope.now) c.args.list.now c.args.left c.if-list-eq0.true
-
-pub returns-clause-settled : goal.returns-clause-settled
-returns-clause-settled c = all_if c.settle_list.result (sense_of c.args.scope.now) c.args.list.now (omega arith) c.settle_list.ensures.settled
+pub returns : goal.returns
+returns c = all_if c.settle_list.result (sense_of c.args.scope.now) c.args.list.now (omega arith) c.settle_list.ensures

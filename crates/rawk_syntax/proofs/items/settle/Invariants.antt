@@ -1,5 +1,5 @@
-use Rattle.std.proofs.Common.{◌≡◌, ◌≤◌, length, take, drop}
-use Rattle.rawk_syntax.specs.Covered.{gap_from, program_gap}
+use Rattle.std.proofs.Common.{◌≡◌, ◌≤◌, length, take, drop, true}
+use Rattle.rawk_syntax.specs.InOrder.{items_in_order}
 use Rattle.rawk_names.specs.Named.{known}
 use Rattle.rawk_syntax.specs.Meant.{sense}
 use Rattle.rawk_syntax.specs.Laid.{IsLaidWith}
@@ -9,6 +9,6 @@ abbrev pub invariant-loop-item : goal.invariant-loop-item
 invariant-loop-item l = record {
   text : l.sites.text.now ≡ l.fn.text;
   settled : IsLaidWith l.fn.text (sense (known l.names)) (take l.item-index l.items) l.program l.sites.lines.items;
-  judged : gap_from (sense (known l.names)) (length l.program.functions.items) (drop l.item-index l.items) ≡ program_gap (sense (known l.names)) l.items;
+  in_order : items_in_order (sense (known l.names)) (length l.program.functions.items) (drop l.item-index l.items) ≡ true;
   bounded : l.program.ranges ≤ length l.program.rules.items;
 }

@@ -6,8 +6,8 @@ use Rattle.rawk_tree.specs.declared.tree.Link.TheVariants as tree_link
 use Rattle.rawk_syntax.specs.Settled.{IsRecord}
 use Rattle.rawk_syntax.proofs.nodes.settle_ere.Goals as goal
 
-pub returns-clause-settled : goal.returns-clause-settled
-returns-clause-settled c = record {
+pub returns : goal.returns
+returns c = record {
   first = c.in_ok-first.first;
   more = c.push.new.values;
   whole = subst (λ (e : Expr). IsRecord e) (sym c.in_ok-first.ensures) c.in_ok-whole.ensures;

@@ -12,5 +12,5 @@ pub returns-in-Err-clause-exact : goal.returns-in-Err-clause-exact
 returns-in-Err-clause-exact c = λ ne.
     short_refused c.args.text.now c.in-Err.refused c.told-in-Err.result (omega (arith, c.if-text-gt-PROGRAM_BYTES.false)) (c.in-Err.ensures.exact (λ out. ne (told_memory c.args.text.now c.in-Err.refused c.told-in-Err.result c.told-in-Err.ensures out))) c.told-in-Err.ensures
 
-pub returns-in-Err-clause-plain : goal.returns-in-Err-clause-plain
-returns-in-Err-clause-plain c = λ items short plain. told_memory c.args.text.now c.in-Err.refused c.told-in-Err.result c.told-in-Err.ensures (c.in-Err.ensures.plain items plain)
+pub returns-in-Err-clause-derived : goal.returns-in-Err-clause-derived
+returns-in-Err-clause-derived c = λ items short orderly. told_memory c.args.text.now c.in-Err.refused c.told-in-Err.result c.told-in-Err.ensures (c.in-Err.ensures.derived items orderly)

@@ -1,7 +1,6 @@
-use Rattle.std.proofs.Common.{◌≡◌, ◌+◌, ◌*◌, max, take, None}
+use Rattle.std.proofs.Common.{◌≡◌, ◌+◌, ◌*◌, max, take}
 use Rattle.rawk_grammar.proofs.tree.Head.TheLaws as head
 use Rattle.rawk_grammar.proofs.tree.Stmt.TheLaws as stmt
-use Rattle.rawk_syntax.specs.Covered.{first_of, gap, branch_gap}
 use Rattle.rawk_syntax.specs.Meant.{sense_of}
 use Rattle.rawk_syntax.specs.Laid.{Lays, SomeStmts, SomeBranches}
 use Rattle.rawk_syntax.proofs.statements.+statements.Given as goal
@@ -10,14 +9,12 @@ abbrev pub invariant-settle_statements-loop-s : goal.invariant-settle_statements
 invariant-settle_statements-loop-s l = record {
   text : l.sites.text ≡ l.fn.sites.text;
   settled : Lays l.fn.sites.text.now (sense_of l.scope) (SomeStmts (take l.s-index l.all) l.settled.items) l.fn.sites.lines.items l.sites.lines.items;
-  judged : first_of (gap (sense_of l.scope)) (take l.s-index l.all) ≡ None;
 }
 
 abbrev pub invariant-settle_branches-loop-b : goal.invariant-settle_branches-loop-b
 invariant-settle_branches-loop-b l = record {
   text : l.sites.text ≡ l.fn.sites.text;
   settled : Lays l.fn.sites.text.now (sense_of l.scope) (SomeBranches (take l.b-index l.all) l.settled.items) l.fn.sites.lines.items l.sites.lines.items;
-  judged : first_of (branch_gap (sense_of l.scope)) (take l.b-index l.all) ≡ None;
 }
 
 -- the depth, and whose calls come first where it stays
@@ -39,9 +36,6 @@ decreases-settle_branches l = 5 * goal.size-settle_branches l + 1
 
 abbrev pub decreases-settle_other : goal.decreases-settle_other
 decreases-settle_other l = 5 * goal.size-settle_other l + 2
-
-abbrev pub decreases-settle_head : goal.decreases-settle_head
-decreases-settle_head l = 5 * goal.size-settle_head l + 3
 
 abbrev pub decreases-settle_while : goal.decreases-settle_while
 decreases-settle_while l = 5 * goal.size-settle_while l + 2

@@ -17,8 +17,8 @@ returns-in-Continue-clause-settled c =
 
 pub returns-in-Exit-clause-settled : goal.returns-in-Exit-clause-settled
 returns-in-Exit-clause-settled c =
-    exit_jumps (sense_of c.args.scope.now) c.settle_exit.result c.args.sites.now.text.now c.args.left c.args.jump.now c.in-Exit.status c.len-site.result c.args.sites.now.lines.items c.add.new.self.lines.items c.in-Exit.is (c.len-site.ensures ∙ c.args.sites.now.lines.ok.0) c.in_ok-add.ensures.lines c.settle_exit.ensures.settled
+    exit_jumps (sense_of c.args.scope.now) c.settle_exit.result c.args.sites.now.text.now c.args.left c.args.jump.now c.in-Exit.status c.len-site.result c.args.sites.now.lines.items c.add.new.self.lines.items c.in-Exit.is (c.len-site.ensures ∙ c.args.sites.now.lines.ok.0) c.in_ok-add.ensures.lines c.settle_exit.ensures
 
 pub returns-in-Return-clause-settled : goal.returns-in-Return-clause-settled
 returns-in-Return-clause-settled c =
-    return_jumps (sense_of c.args.scope.now) c.settle_return.result c.args.sites.now.text.now c.args.left c.args.jump.now c.in-Return.value c.len-site.result c.args.sites.now.lines.items c.add.new.self.lines.items c.in-Return.is (c.len-site.ensures ∙ c.args.sites.now.lines.ok.0) c.in_ok-add.ensures.lines c.settle_return.ensures.settled
+    return_jumps (sense_of c.args.scope.now) c.settle_return.result c.args.sites.now.text.now c.args.left c.args.jump.now c.in-Return.value c.len-site.result c.args.sites.now.lines.items c.add.new.self.lines.items c.in-Return.is (c.len-site.ensures ∙ c.args.sites.now.lines.ok.0) c.in_ok-add.ensures.lines c.settle_return.ensures

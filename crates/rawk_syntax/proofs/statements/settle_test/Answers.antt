@@ -8,4 +8,4 @@ returns-in-None-clause-settled c =
 
 pub returns-in-Some-clause-settled : goal.returns-in-Some-clause-settled
 returns-in-Some-clause-settled c =
-    given_tests (sense_of c.args.scope.now) c.settle_expr.result c.args.test.now c.in-Some.e c.get.result.now c.in-Some.is c.get.ensures c.settle_expr.ensures.settled
+    given_tests (sense_of c.args.scope.now) c.settle_expr.result c.args.test.now c.in-Some.e c.get.result.now c.in-Some.is c.get.ensures c.settle_expr.ensures

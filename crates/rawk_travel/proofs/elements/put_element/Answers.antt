@@ -8,10 +8,10 @@ use Rattle.rawk_travel.proofs.Subscripts.{element_faults, element_put, subscript
 use Rattle.rawk_travel.proofs.elements.put_element.Goals as goal
 
 pub returns-in-Err-clause-did : goal.returns-in-Err-clause-did
-returns-in-Err-clause-did c = element_faults c.args.array c.args.from.now (moving c.args.store.now) c.in_ok-subscript.subscript c.in-Err.fault c.faulted.result c.in_ok-subscript.ensures c.in-Err.is c.faulted.ensures
+returns-in-Err-clause-did g c = element_faults c.args.array c.args.from.now (moving c.args.store.now) c.in_ok-subscript.subscript c.in-Err.fault c.faulted.result c.in_ok-subscript.ensures c.in-Err.is c.faulted.ensures
 
 pub returns-in_ok-put-in-Ok-clause-did : goal.returns-in_ok-put-in-Ok-clause-did
-returns-in_ok-put-in-Ok-clause-did c =
+returns-in_ok-put-in-Ok-clause-did g c =
     let m = moving c.spot_of.new.store in
     let before = c.in_ok-subscript.ensures ∙ ap (λ (y : Moving). subscript_in c.args.from.now y) (sym c.spot_of.ensures.same) in
     subst (λ (y : Moving). Done (instr.Do (does.ElementAt c.args.array c.args.from.now)) y transfer.Next (moving c.put.new.store)) c.spot_of.ensures.same

@@ -7,7 +7,7 @@ use Rattle.rawk_travel.proofs.Replaces.{left_below, left_parts, left_read, place
 use Rattle.rawk_travel.proofs.replace.replace_in.Goals as goal
 
 pub returns-in-Err-clause-did : goal.returns-in-Err-clause-did
-returns-in-Err-clause-did c =
+returns-in-Err-clause-did g c =
     let m = moving c.args.store.now in
     let mid = moving c.drop_place.new.store in
     let at = c.in_ok-place.ensures m.operands c.popped_borrowed.ensures in
@@ -15,7 +15,7 @@ returns-in-Err-clause-did c =
     replace_refused c.args.extent c.args.from.now c.args.to m mid c.in-Err.fault c.faulted.result c.drop_place.ensures.did is c.faulted.ensures
 
 pub returns-in-Ok-None-clause-did : goal.returns-in-Ok-None-clause-did
-returns-in-Ok-None-clause-did c =
+returns-in-Ok-None-clause-did g c =
     let m = moving c.args.store.now in
     let mid = moving c.drop_place.new.store in
     let read = moving c.touch.new.store in
@@ -27,7 +27,7 @@ returns-in-Ok-None-clause-did c =
     replace_misses c.args.extent c.args.from.now c.args.to m bare (moving c.put.new.store) left c.in_ok-put-in-Ok-None.ensures.did is
 
 pub returns-in-Some-clause-did : goal.returns-in-Some-clause-did
-returns-in-Some-clause-did c =
+returns-in-Some-clause-did g c =
     let m = moving c.args.store.now in
     let x = c.args.to in
     let from = c.args.from.now in
@@ -41,7 +41,7 @@ returns-in-Some-clause-did c =
     (replace_assigns c.args.extent from x m r is) at refl (subst (λ (y : Moving). HasPut c.in_ok-place.place (String r.text) c.in_ok-refused-in-Ok-Some.refused y (moving c.put_in.new.store)) left c.in_ok-refused-in-Ok-Some.ensures.did) c.in-Some.is c.faulted-in-Some.ensures
 
 pub returns-clause-did : goal.returns-clause-did
-returns-clause-did c =
+returns-clause-did g c =
     let m = moving c.args.store.now in
     let x = c.args.to in
     let from = c.args.from.now in

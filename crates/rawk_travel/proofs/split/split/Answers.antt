@@ -16,13 +16,13 @@ use Rattle.rawk_travel.proofs.Splits.{parts_in, split_faults, split_makes}
 use Rattle.rawk_travel.proofs.split.split.Goals as goal
 
 pub returns-in-Err-clause-did : goal.returns-in-Err-clause-did
-returns-in-Err-clause-did c =
+returns-in-Err-clause-did g c =
     let from = c.args.from.now in
     let m = moving c.args.store.now in
     split_faults c.args.how c.args.array from m c.in-Err.fault c.faulted.result (subst (λ (r : Result Fields Fault). Separates (text_of (left_in from m)) (parts_in c.args.how from m) r) c.in-Err.is c.in_ok-made.ensures) c.faulted.ensures
 
 pub returns-in_ok-put-in-Ok-clause-did : goal.returns-in_ok-put-in-Ok-clause-did
-returns-in_ok-put-in-Ok-clause-did c =
+returns-in_ok-put-in-Ok-clause-did g c =
     let from = c.args.from.now in
     let m = moving c.args.store.now in
     let text = text_of (left_in from m) in

@@ -12,4 +12,4 @@ invariant_of-self g c =
 pub returns-clause-draws : goal.returns-clause-draws
 returns-clause-draws g c =
     subst (λ (s : Staged g.row.R.Denot). Draws g.R.Source.over g.R.Source.handed (work_of s.machine) (work_of c.advance.new.self)) c.self.view_is
-    (draws_is g.R.Source.over g.R.Source.handed c.self.inside.machine c.advance.new.self c.advance.ensures.draws)
+    (draws_is g.R.Source.over g.R.Source.handed c.self.inside.machine c.advance.new.self c.advance.ensures.draws c.advance.ensures.ran)

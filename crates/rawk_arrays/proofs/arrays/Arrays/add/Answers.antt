@@ -5,7 +5,7 @@ use Rattle.rawk_arrays.specs.ListLaws.{added_arrays}
 use Rattle.rawk_arrays.proofs.arrays.Arrays.add.Goals as goal
 
 pub returns-clause-did : goal.returns-clause-did
-returns-clause-did c =
+returns-clause-did g c =
     let s = c.self.inside in
     let next : c.in-Some.live ≡ s.live + 1 = omega (arith, c.in-Some.ensures) in
     ap (λ n. arrays_of (record { index = s.index; slots = c.empty.new.cells.now; live = n })) next

@@ -3,8 +3,8 @@ use Rattle.rawk_arrays.specs.Laid.{Laid, arrays_of}
 use Rattle.rawk_arrays.specs.ListLaws.{same_arrays}
 use Rattle.rawk_arrays.proofs.arrays.Arrays.pack.Goals as goal
 
-pub returns-then-self-len-clause-now : goal.returns-then-self-len-clause-now
-returns-then-self-len-clause-now c =
+pub returns-then-is_sparse-clause-now : goal.returns-then-is_sparse-clause-now
+returns-then-is_sparse-clause-now c =
     let s = c.self.inside in
     let l : Laid = record { index = s.index; slots = s.cells.now; live = s.live } in
     let m : Laid = record { index = c.pack.new.index; slots = c.pack.new.cells.now; live = s.live } in

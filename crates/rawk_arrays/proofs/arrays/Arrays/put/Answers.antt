@@ -9,7 +9,7 @@ on_err (Ok x) P p = tt
 on_err (Err e) P p = p
 
 pub returns-in_err-put-clause-err : goal.returns-in_err-put-clause-err
-returns-in_err-put-clause-err c =
+returns-in_err-put-clause-err g c =
     let s = c.self.inside in
     let l : Laid = record { index = s.index; slots = s.cells.now; live = s.live } in
     let m : Laid = record { index = c.put.new.index; slots = c.put.new.cells.now; live = s.live } in
@@ -17,14 +17,14 @@ returns-in_err-put-clause-err c =
     (spread_arrays l m refl c.self.invariant.laid.array_key c.put.ensures.more c.in_err-put.ensures.err ∙ ap (λ w. arrays_of w.now) c.self.view_is)
 
 pub returns-in_ok-put-clause-did : goal.returns-in_ok-put-clause-did
-returns-in_ok-put-clause-did c =
+returns-in_ok-put-clause-did g c =
     let s = c.self.inside in
     let l : Laid = record { index = s.index; slots = s.cells.now; live = s.live } in
     let m : Laid = record { index = c.put.new.index; slots = c.put.new.cells.now; live = s.live } in
     put_arrays l m c.args.array c.args.key.now c.args.value refl c.if-array-self.true c.in_ok-put.ensures.did ∙ ap (λ w. with_put c.args.array c.args.key.now c.args.value (arrays_of w.now)) c.self.view_is
 
 pub returns-else-array-self-clause-did : goal.returns-else-array-self-clause-did
-returns-else-array-self-clause-did c =
+returns-else-array-self-clause-did g c =
     let s = c.self.inside in
     let l : Laid = record { index = s.index; slots = s.cells.now; live = s.live } in
     rw (← ap (λ w. arrays_of w.now) c.self.view_is) (no_put l c.args.array (put (array_at c.args.array (arrays_of l)) c.args.key.now c.args.value) c.if-array-self.false)

@@ -5,7 +5,7 @@ use Rattle.rawk_arrays.specs.ListLaws.{place_set}
 use Rattle.rawk_arrays.proofs.arrays.Arrays.set_at.Goals as goal
 
 pub returns-clause-did : goal.returns-clause-did
-returns-clause-did c = λ a k h.
+returns-clause-did g c = λ a k h.
     let s = c.self.inside in
     let l : Laid = record { index = s.index; slots = s.cells.now; live = s.live } in
     let m : Laid = record { index = s.index; slots = c.set_slot.new.cells.now; live = s.live } in

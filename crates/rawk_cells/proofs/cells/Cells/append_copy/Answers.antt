@@ -9,11 +9,11 @@ use Rattle.rawk_cells.proofs.Puts.{longer_past}
 use Rattle.rawk_cells.proofs.cells.Cells.append_copy.Goals as goal
 
 pub returns-in-None-clause-did : goal.returns-in-None-clause-did
-returns-in-None-clause-did c =
+returns-in-None-clause-did g c =
     subst (λ (xs : List Value). xs ≡ longer_at c.args.place c.args.more.now xs) (ap (λ j. j.now) c.self.view_is) (sym (longer_past c.self.inside.slots.now c.args.place c.args.more.now (sym c.in-None.ensures)))
 
 pub returns-in_ok-longer-in-Some-clause-did : goal.returns-in_ok-longer-in-Some-clause-did
-returns-in_ok-longer-in-Some-clause-did c =
+returns-in_ok-longer-in-Some-clause-did g c =
     let xs = c.self.inside.slots.now in
     let same : xs ≡ c.args.self.now.now = ap (λ j. j.now) c.self.view_is in
     let was = get_or_from_slice_get xs c.args.place c.in-Some.value.now Uninitialized (sym c.in-Some.ensures) in

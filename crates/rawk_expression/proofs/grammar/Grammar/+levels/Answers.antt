@@ -1,4 +1,4 @@
-use Rattle.std.proofs.Common.{◌≡◌, ◌-◌, None, rules, arith}
+use Rattle.std.proofs.Common.{◌≡◌, ◌-◌, None, arith}
 use Rattle.std.proofs.lemmas.Grind.{common_steps}
 use Rattle.rawk_expression.specs.Expression.{links, links_from, level, expression, link}
 use Rattle.rawk_parsing.proofs.Turns.{one_more, no_more, deeper}

@@ -1,4 +1,4 @@
-use Rattle.std.proofs.Common.{true, rules, arith}
+use Rattle.std.proofs.Common.{true, arith}
 use Rattle.std.proofs.lemmas.Grind.{common_steps}
 use Rattle.rawk_expression.specs.Expression.{list, list_from, whole, expression}
 use Rattle.rawk_parsing.proofs.Turns.{one_more, no_more}

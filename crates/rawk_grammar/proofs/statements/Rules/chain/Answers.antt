@@ -1,4 +1,4 @@
-use Rattle.std.proofs.Common.{sym, ap, ◌∙◌, rules, arith}
+use Rattle.std.proofs.Common.{sym, ap, ◌∙◌, arith}
 use Rattle.std.proofs.lemmas.Grind.{common_steps}
 use Rattle.rawk_grammar.specs.Statement.{chain, chain_from, statement}
 use Rattle.rawk_grammar.specs.Dangling.{branch_dangles}

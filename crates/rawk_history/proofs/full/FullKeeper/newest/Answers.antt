@@ -1,6 +1,5 @@
 use Rattle.std.proofs.Common.{◌∙◌, ap, sym, take, reverse}
-use Rattle.rawk_history.proofs.RingLemmas.{lent_some}
-use Rattle.rawk_history.proofs.Flats.{newest_is, slice_is}
+use Rattle.rawk_history.proofs.Flats.{lent_some, newest_is, slice_is}
 use Rattle.rawk_history.proofs.full.FullKeeper.newest.Goals as goal
 
 pub returns-in-Some : goal.returns-in-Some

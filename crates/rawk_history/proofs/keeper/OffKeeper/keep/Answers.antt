@@ -5,4 +5,4 @@ use Rattle.rawk_history.proofs.keeper.OffKeeper.keep.Goals as goal
 pub returns-clause-did : goal.returns-clause-did
 returns-clause-did c =
     let item : Kept = record { step = c.in_ok-_step._step; sets = c.args.sets.now.items } in
-    record { item = item; back = c.in_ok-_step.ensures.back; fits = c.in_ok-_step.ensures.fits; sets = refl; front = record { rest = item ∷ []; is = refl }; count = refl }
+    record { item = item; back = c.in_ok-_step.ensures.back; fits = c.in_ok-_step.ensures.fits; once = c.in_ok-_step.ensures.once; sets = refl; front = record { rest = item ∷ []; is = refl }; count = refl }

@@ -1,28 +1,31 @@
-use Rattle.std.proofs.Common.{◌∙◌, ◌-◌, ap, sym, refl, length, take, reverse}
-use Rattle.rawk_history.specs.Steps.{Kept}
-use Rattle.rawk_store.specs.GroupBack.{put_back}
-use Rattle.rawk_history.specs.Keeping.{forth_of}
+use Rattle.std.proofs.Common.{◌<◌, ◌-◌, ◌++◌, ◌∙◌, ap, sym, arith, take}
 use Rattle.rawk_store.specs.Stores.{now_of}
-use Rattle.rawk_history.proofs.RingLemmas.{newest_is, newest_stands, none_missing, others_are}
+use Rattle.rawk_history.specs.Parts.{kept_in}
+use Rattle.rawk_history.proofs.Parts.{first_last, put_back_last, within_last}
 use Rattle.rawk_history.proofs.ring.RingKeeper.put_back.Goals as goal
 
-pub exchange-requires : goal.exchange-requires
-exchange-requires c =
-    let xs = c.args.self.now.items.items in
-    c.requires c.in-Some.item (reverse (take (length xs - 1) xs)) (newest_stands xs c.in-Some.item (sym c.pop_back.ensures.value ∙ c.in-Some.is))
+pub put_back-requires : goal.put_back-requires
+put_back-requires c = λ item rest e.
+    let i = c.self.inside in
+    let behind = kept_in c.come_forward.new.older.items in
+    let some : 0 < i.count = omega (arith, c.if-self-eq0.false) in
+    c.requires item (take (i.count - 1) (rest ++ behind)) (sym (ap (λ k. k.kept) c.self.view_is) ∙ first_last i.count (i.newest.kept ++ kept_in i.older.items) c.come_forward.new.newest.kept behind item rest some c.come_forward.ensures.all e)
 
-pub returns-in-Some-clause-back : goal.returns-in-Some-clause-back
-returns-in-Some-clause-back c = λ item rest e.
-    let xs = c.args.self.now.items.items in
-    let last = sym c.pop_back.ensures.value ∙ c.in-Some.is in
-    let is = newest_is xs rest c.in-Some.item item last e in
-    let x = c.exchange.ensures in
+pub invariant_of-self : goal.invariant_of-self
+invariant_of-self c =
+    let i = c.self.inside in
+    let v = c.self.invariant in
+    let some : 0 < i.count = omega (arith, c.if-self-eq0.false) in
     record {
-      now = x.now ∙ ap (λ (k : Kept). put_back (now_of c.args.store.now) k.step) (sym is);
-      sets = x.ready ∙ ap (λ (k : Kept). k.sets) (sym is);
-      left = ap (λ b. reverse b.items) c.pop_back.ensures.items ∙ others_are xs rest c.in-Some.item item last e;
-      forth = record { forth = forth_of c.exchange.new.self; is = refl; globals = x.globals; arrays = x.arrays; fits = x.fits; current = x.current; sets = x.stood };
+      filled = c.come_forward.ensures.filled v.filled;
+      within = within_last i.count i.gone (i.newest.kept ++ kept_in i.older.items) c.come_forward.new.newest.kept c.put_back.new.self.kept (kept_in c.come_forward.new.older.items) some v.within c.come_forward.ensures.all (c.come_forward.ensures.some v.filled) (λ item rest e. (c.put_back.ensures.back item rest e).left);
+      few = omega (arith, v.few);
     }
 
-pub returns-in_default-clause-back : goal.returns-in_default-clause-back
-returns-in_default-clause-back c = λ item rest e. absurd (none_missing c.args.self.now.items.items rest item (sym c.pop_back.ensures.value ∙ c.in_default.is) e)
+pub returns-clause-back : goal.returns-clause-back
+returns-clause-back c = λ item rest e.
+    let i = c.self.inside in
+    let some : 0 < i.count = omega (arith, c.if-self-eq0.false) in
+    put_back_last i.count (i.newest.kept ++ kept_in i.older.items) c.come_forward.new.newest.kept c.put_back.new.self.kept (kept_in c.come_forward.new.older.items) item rest
+    (now_of c.args.store.now) (now_of c.put_back.new.store) c.args.sets.now.items c.put_back.new.sets.items c.put_back.new.self.forth
+    some c.come_forward.ensures.all (c.come_forward.ensures.some c.self.invariant.filled) c.put_back.ensures.back (ap (λ k. k.kept) c.self.view_is ∙ e)

@@ -59,7 +59,7 @@ invariant_of-self-2 g c =
     let none = no_groups l i.sets.items (reverse i.here.items) (ap (λ (m : Standing g.row.R.Denot). m.unset) c.self.view_is ∙ c.requires) in
     record {
       rest = ap (λ (x : Layout). record x { registers = record x.registers { consumed = k } }) v.rest;
-      sound = record { arrays = v.sound.arrays; frames = v.sound.frames; keys = v.sound.keys; operands = v.sound.operands };
+      sound = record { arrays = v.sound.arrays; frames = v.sound.frames; nested = v.sound.nested; keys = v.sound.keys; operands = v.sound.operands };
       consumed = omega (arith, c.forget-size.ensures.consumed, c.consumed-consumed.ensures.value);
       below = v.below;
       within = v.within;

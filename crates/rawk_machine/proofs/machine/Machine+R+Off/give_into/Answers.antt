@@ -21,7 +21,7 @@ invariant_of-self g c =
     ∙ sym (ap (λ (j : Journaled Bytes). record l { output = j.now }) c.give.ensures.rest) in
     record {
       rest = rested;
-      sound = record { arrays = v.sound.arrays; frames = v.sound.frames; keys = v.sound.keys; operands = v.sound.operands };
+      sound = record { arrays = v.sound.arrays; frames = v.sound.frames; nested = v.sound.nested; keys = v.sound.keys; operands = v.sound.operands };
       consumed = v.consumed;
       below = v.below;
       within = v.within;

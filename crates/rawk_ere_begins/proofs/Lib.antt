@@ -1,0 +1,3 @@
+mod LaneLemmas
+mod FilterLemmas
+mod SeekLemmas

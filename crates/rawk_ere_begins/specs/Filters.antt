@@ -1,0 +1,40 @@
+-- Marks of bytes, and what they tell of the places of a text.
+use Rattle.std.specs.Prelude.{◌≡◌, ◌≢◌, ◌↔◌, ℕ, ◌+◌, ◌*◌, ◌/◌, ◌%◌, ◌<◌, ◌⊎◌, Bool, true, false, List, length, slice_index, slice_index_or, bit_and}
+use Rattle.std.specs.Int.{bit_at}
+use Rattle.std.specs.Option.{ForSome}
+use Rattle.rawk_ere_begins.specs.declared.nibbles.Nibbles.{Nibbles}
+use Rattle.rawk_ere_begins.specs.declared.filter.Filter.{Filter}
+
+-- the byte has the mark
+abbrev pub HasMark : Nibbles → ℕ → ℕ → Type 0
+HasMark n b i = (bit_at (slice_index n.low (b % 16)) i ≡ 1) × (bit_at (slice_index n.high (b / 16)) i ≡ 1)
+
+-- the marks of the byte, as the bits of a number
+abbrev pub marks_of : Nibbles → ℕ → ℕ
+marks_of n b = bit_and (slice_index n.low (b % 16)) (slice_index n.high (b / 16))
+
+-- what has a mark in the old one has it in the new one
+abbrev pub KeepsMarks : Nibbles → Nibbles → Type 0
+KeepsMarks old new = (b i : ℕ) → HasMark old b i → HasMark new b i
+
+-- the marks that both bytes have
+abbrev pub pair_marks : Filter → ℕ → ℕ → ℕ
+pair_marks f a b = bit_and (marks_of f.first a) (marks_of f.second b)
+
+-- the two bytes are the only ones that have a mark in common
+abbrev pub IsOnly : Nibbles → Nibbles → ℕ × ℕ → Type 0
+IsOnly first second p = (x y : ℕ) → x < 256 → y < 256 → (bit_and (marks_of first x) (marks_of second y) ≢ 0) ↔ ((x ≡ p.0) × (y ≡ p.1))
+
+-- In a table of rows, of which `next` has 256 entries each for where the bytes lead: where the filter is empty, all bytes lead
+-- from the row `later` to the row `dead`; so does a byte without marks; and of two bytes without a mark in common so does the first, or it leads to a row that is no end, and the second from there to `dead`.
+pub record IsFilter (next : List ℕ) (ends : List Bool) (later dead : ℕ) (f : Filter) : Type 0 where
+  pub only : ForSome f.only (IsOnly f.first f.second)
+  pub empty : f.is_empty ≡ true → (a : ℕ) → a < 256 → slice_index next (later * 256 + a) ≡ dead
+  pub single : (a : ℕ) → a < 256 → marks_of f.first a ≡ 0 → slice_index next (later * 256 + a) ≡ dead
+  pub pair : (a b : ℕ) → a < 256 → b < 256 → pair_marks f a b ≡ 0
+      → (slice_index next (later * 256 + a) ≡ dead)
+      ⊎ ((slice_index_or ends (slice_index next (later * 256 + a)) false ≡ false) × (slice_index next (slice_index next (later * 256 + a) * 256 + b) ≡ dead))
+
+-- no place passes, or the byte at the place has no marks, or it and the next one have none in common
+abbrev pub IsPassedOver : Filter → List ℕ → ℕ → Type 0
+IsPassedOver f s k = (f.is_empty ≡ true) ⊎ ((marks_of f.first (slice_index s k) ≡ 0) ⊎ ((k + 1 < length s) × (pair_marks f (slice_index s k) (slice_index s (k + 1)) ≡ 0)))

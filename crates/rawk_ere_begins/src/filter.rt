@@ -1,0 +1,91 @@
+//! Which bytes a way may begin with, and which may come next.
+
+ghost use Rattle.std.specs.Prelude.{◌≡◌, ◌≢◌, ℕ, ◌+◌, ◌*◌, ◌<◌, ◌≤◌, ◌⊎◌, true, false, length, slice_index, slice_index_or};
+ghost use Rattle.std.specs.Option.{ForSome};
+ghost use Rattle.rawk_ere_begins.specs.Filters.{HasMark, KeepsMarks, IsFilter, IsOnly, marks_of};
+
+use crate::nibbles::Nibbles;
+
+/// The first bytes of ways and their second bytes: those of one way have a mark in common.
+#[derive(Clone, Copy)]
+pub struct Filter {
+    pub first: Nibbles,
+    pub second: Nibbles,
+    /// Whether no way reads a byte.
+    pub is_empty: bool,
+    /// The only two bytes that have a mark in common, if no others do.
+    pub only: Option<(u8, u8)>,
+}
+
+/// Gives a mark to the bytes that may come after one that led to the row.
+fn give_nexts(second: &mut Nibbles, next: &[u8], is_end: bool, row: usize, dead: usize, mark: usize)
+    requires row { 256 * (row + 1) ≤ length next.now }
+    requires mark { mark < 8 }
+    ensures keeps { KeepsMarks second.old second.new }
+    ensures has { (b : ℕ) → b < 256 → (is_end ≡ true) ⊎ (slice_index next.now (row * 256 + b) ≢ dead) → HasMark second.new b mark }
+{
+    for byte in 0..256usize {
+        if is_end || next[row * 256 + byte] as usize != dead {
+            second.give(byte as u8, mark);
+        }
+    }
+}
+
+/// The only byte that has marks, if no other has.
+fn only_marked(marks: &Nibbles) -> Option<u8>
+    ensures { ForSome result (λ a. (x : ℕ) → x < 256 → marks_of marks.now x ≢ 0 → x ≡ a) }
+{
+    let mut only = None;
+    for byte in 0..256usize {
+        if marks.of(byte as u8) != 0 {
+            if only.is_some() {
+                return None;
+            }
+            only = Some(byte as u8);
+        }
+    }
+    only
+}
+
+/// The only two bytes that have a mark in common, if no others do.
+fn find_only(first: &Nibbles, second: &Nibbles) -> Option<(u8, u8)>
+    ensures { ForSome result (IsOnly first.now second.now) }
+{
+    let a = only_marked(first)?;
+    let b = only_marked(second)?;
+    if first.of(a) & second.of(b) == 0 {
+        return None;
+    }
+    Some((a, b))
+}
+
+/// The filter of a table of rows: by the bytes that lead on from the row `later`, and those that lead on from there. Bytes that
+/// lead to the same row have the same mark.
+pub fn find_filter(next: &[u8], ends: &[bool], later: usize, dead: usize) -> Filter
+    requires later { later < length ends.now }
+    requires all { length next.now ≡ 256 * length ends.now }
+    requires rows { (k : ℕ) → k < length next.now → slice_index next.now k < length ends.now }
+    ensures { IsFilter next.now ends.now later dead result }
+{
+    let mut first = Nibbles::none();
+    let mut second = Nibbles::none();
+    let mut mark = 0;
+    let mut row = dead;
+    for byte in 0..256usize {
+        let to = next[later * 256 + byte] as usize;
+        if to != dead {
+            if to != row {
+                mark = (mark + 1) % 8;
+                row = to;
+                give_nexts(&mut second, next, ends[row], row, dead, mark);
+            }
+            first.give(byte as u8, mark);
+        }
+    }
+    Filter {
+        first,
+        second,
+        is_empty: row == dead,
+        only: find_only(&first, &second),
+    }
+}

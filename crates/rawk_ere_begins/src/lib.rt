@@ -1,0 +1,7 @@
+//! Where a match may begin, told from the bytes of a text, many places at once.
+#![tactic(auto)]
+
+pub mod filter;
+mod lanes;
+pub mod nibbles;
+pub mod seek;

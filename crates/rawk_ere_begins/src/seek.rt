@@ -1,0 +1,90 @@
+//! The next place where a way may begin.
+
+ghost use Rattle.std.specs.Prelude.{◌≡◌, ◌≢◌, ℕ, ◌+◌, ◌<◌, ◌≤◌, length, slice_index};
+ghost use Rattle.std.specs.Int.{bit_at};
+ghost use Rattle.std.specs.Option.{ForSome};
+ghost use Rattle.rawk_ere_begins.specs.Filters.{pair_marks, IsPassedOver, IsOnly};
+
+use crate::filter::Filter;
+use crate::lanes::{
+    bits_from, both, both_bits, by_high_bits, by_low_bits, equal, load, lowest, nonzero,
+};
+
+/// How long a text is at least in which places are passed over.
+pub const LONG: usize = 33;
+
+/// Which of 32 places may be where a way begins, by the bytes there and the next ones.
+#[inline(always)]
+fn has_marks(filter: &Filter, text: &[u8], at: usize) -> u64
+    requires { at + 33 ≤ length text.now }
+    ensures set { (k : ℕ) → k < 32 → pair_marks filter.now (slice_index text.now (at + k)) (slice_index text.now (at + k + 1)) ≢ 0 → bit_at result k ≡ 1 }
+    ensures only { (k : ℕ) → bit_at result k ≡ 1 → (k < 32) × (pair_marks filter.now (slice_index text.now (at + k)) (slice_index text.now (at + k + 1)) ≢ 0) }
+{
+    let first = load(text, at);
+    let second = load(text, at + 1);
+    let low = by_low_bits(&filter.first.low, first);
+    let high = by_high_bits(&filter.first.high, first);
+    let next_low = by_low_bits(&filter.second.low, second);
+    let next_high = by_high_bits(&filter.second.high, second);
+    nonzero(both(both(low, high), both(next_low, next_high)))
+}
+
+/// The same where two bytes alone have a mark in common: where they stand side by side.
+#[inline(always)]
+fn has_pair(text: &[u8], at: usize, pair: (u8, u8)) -> u64
+    requires { at + 33 ≤ length text.now }
+    ensures set { (k : ℕ) → k < 32 → slice_index text.now (at + k) ≡ pair.0 → slice_index text.now (at + k + 1) ≡ pair.1 → bit_at result k ≡ 1 }
+    ensures only { (k : ℕ) → bit_at result k ≡ 1 → (k < 32) × (slice_index text.now (at + k) ≡ pair.0) × (slice_index text.now (at + k + 1) ≡ pair.1) }
+{
+    let first = equal(load(text, at), pair.0);
+    let second = equal(load(text, at + 1), pair.1);
+    both_bits(first, second)
+}
+
+/// The same by the quicker of the two ways.
+#[inline(always)]
+fn may_begin(filter: &Filter, text: &[u8], at: usize) -> u64
+    requires room { at + 33 ≤ length text.now }
+    requires only { ForSome filter.now.only (IsOnly filter.now.first filter.now.second) }
+    ensures set { (k : ℕ) → k < 32 → pair_marks filter.now (slice_index text.now (at + k)) (slice_index text.now (at + k + 1)) ≢ 0 → bit_at result k ≡ 1 }
+    ensures only { (k : ℕ) → bit_at result k ≡ 1 → (k < 32) × (pair_marks filter.now (slice_index text.now (at + k)) (slice_index text.now (at + k + 1)) ≢ 0) }
+{
+    match filter.only {
+        Some(pair) => has_pair(text, at, pair),
+        None => has_marks(filter, text, at),
+    }
+}
+
+/// The first place from a place on where a way may begin; the end of the text, if there is none. A text that is not long is not
+/// looked at.
+#[inline]
+pub fn seek(filter: &Filter, text: &[u8], from: usize) -> usize
+    requires within { from ≤ length text.now }
+    requires only { ForSome filter.now.only (IsOnly filter.now.first filter.now.second) }
+    ensures low { from ≤ result }
+    ensures high { result ≤ length text.now }
+    ensures passed { (k : ℕ) → from ≤ k → k < result → IsPassedOver filter.now text.now k }
+    ensures stops { 33 ≤ length text.now → result < length text.now → IsPassedOver filter.now text.now result → ⊥ }
+{
+    if filter.is_empty {
+        return text.len();
+    }
+    if text.len() < LONG {
+        return from;
+    }
+    let end = text.len() - 1;
+    let last = end - 32;
+    let mut at = from;
+    while at < end {
+        let start = at.min(last);
+        let marked = bits_from(may_begin(filter, text, start), at - start);
+        if marked != 0 {
+            return at + lowest(marked);
+        }
+        at = start + 32;
+    }
+    if at == end && filter.first.of(text[end]) == 0 {
+        return text.len();
+    }
+    at
+}
