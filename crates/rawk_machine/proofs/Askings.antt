@@ -15,7 +15,7 @@ use Rattle.rawk_code.specs.Actions.{Point, Given, SetAt}
 use Rattle.rawk_code.specs.Trace.{FirstValue}
 use Rattle.rawk_code.specs.Correct.{first, after}
 use Rattle.rawk_travel.specs.Asking.{Asks, Draws, asked_behind}
-use Rattle.rawk_travel.specs.Moving.{Moving, moving_of, going}
+use Rattle.rawk_operands.specs.Moving.{Moving, moving_of, going}
 use Rattle.rawk_travel.specs.Reading.{run_in}
 use Rattle.rawk_machine.specs.Standing.{Ground, StandsAt, run_at, config_at, whole}
 use Rattle.rawk_machine.specs.Reached.{stands_reached}

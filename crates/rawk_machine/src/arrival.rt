@@ -8,7 +8,7 @@ ghost use Rattle.rawk_store.specs.Layout.{Grown, IsSound};
 ghost use Rattle.rawk_store.specs.Stores.{BeganNested, now_of, start_of};
 ghost use Rattle.rawk_travel.specs.Travel.{HasRoom};
 ghost use Rattle.rawk_travel.specs.Asking.{Asks, Draws};
-ghost use Rattle.rawk_travel.specs.Moving.{moving};
+ghost use Rattle.rawk_operands.specs.Moving.{moving};
 ghost use Rattle.rawk_machine.specs.Arrival.{settled, site_by, with_registers, Arrives, ends_quietly, EndsByRead, IsSettled};
 
 use rawk_code::Code;

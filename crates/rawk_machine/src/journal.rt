@@ -8,7 +8,7 @@ ghost use Rattle.rawk_history.specs.Keeping.{keeps_any};
 ghost use Rattle.rawk_store.specs.Layout.{Layout, Grown, IsSound};
 ghost use Rattle.rawk_store.specs.Stores.{BeganNested, now_of, start_of};
 ghost use Rattle.rawk_travel.specs.Asking.{Asks, Draws};
-ghost use Rattle.rawk_travel.specs.Moving.{moving};
+ghost use Rattle.rawk_operands.specs.Moving.{moving};
 ghost use Rattle.rawk_machine.specs.Arrival.{Arrives, ends_quietly, EndsByRead, IsSettled};
 ghost use Rattle.rawk_machine.specs.Closing.{Closes, FitAll};
 ghost use Rattle.rawk_machine.specs.Kept.{all_back, AllArraysFit, arrays_forth, globals_forth, record_forth};

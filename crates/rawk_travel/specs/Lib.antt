@@ -1,11 +1,6 @@
-pub mod Moving
-pub mod Spots
+pub mod Activations
 pub mod Reading
-pub mod Borrowed
 pub mod Travel
 pub mod Gets
 pub mod Asking
-pub mod Line
 pub mod Plain
-pub mod AtOnce
-pub mod Replacing

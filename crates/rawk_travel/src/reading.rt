@@ -5,9 +5,9 @@ ghost use Rattle.std.specs.Prelude.{◌≡◌, ◌≢◌, ◌≤◌, ◌⊎◌, 
 ghost use Rattle.rawk_store.specs.Layout.{Grown};
 ghost use Rattle.rawk_store.specs.Stores.{start_of};
 ghost use Rattle.rawk_travel.specs.Plain.{IsPlainMove};
-ghost use Rattle.rawk_travel.specs.Moving.{moving};
+ghost use Rattle.rawk_operands.specs.Moving.{moving};
 ghost use Rattle.rawk_travel.specs.Reading.{counter_up, taken_of, with_counted_text, text_taken_of, Takes, Shows, Counts, Finds, consumed_by, ReadsTo, ReadsText, KeepsRegisters, KeepsPlaces, IsQuietReading};
-ghost use Rattle.rawk_travel.specs.Borrowed.{global_in};
+ghost use Rattle.rawk_operands.specs.Borrowed.{global_in};
 ghost use Rattle.rawk_travel.specs.Asking.{Draws, IsDue};
 ghost use Rattle.rawk_record.specs.Shown.{read_as};
 ghost use Rattle.rawk_value.specs.Values.{Bytes, text_of, is_empty};
@@ -16,10 +16,10 @@ ghost use Rattle.rawk_tape.specs.Tapes.{MayBe};
 ghost use Rattle.rawk_tape.specs.declared.source.Ending.{Ending};
 ghost use Rattle.rawk_code.specs.Actions.{Point};
 
-use crate::act::put;
-use crate::at_once::global_number;
-use crate::borrowed::global_borrowed;
 use itoa::Buffer;
+use rawk_act::at_once::global_number;
+use rawk_operands::borrowed::global_borrowed;
+use rawk_operands::stack::put;
 use rawk_operators::{number, text_borrowed};
 use rawk_special::{FNR, FS, NR, RS};
 use rawk_store::{Cells, Store};

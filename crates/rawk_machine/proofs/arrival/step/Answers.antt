@@ -1,4 +1,4 @@
-use Rattle.rawk_travel.specs.Moving.{moving}
+use Rattle.rawk_operands.specs.Moving.{moving}
 use Rattle.rawk_machine.proofs.Arrivals.{step_arrives}
 use Rattle.rawk_machine.proofs.arrival.step.Goals as goal
 

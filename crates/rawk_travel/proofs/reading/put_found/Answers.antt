@@ -1,5 +1,5 @@
 use Rattle.std.specs.Prelude.{slice_range}
-use Rattle.rawk_travel.specs.Moving.{moving}
+use Rattle.rawk_operands.specs.Moving.{moving}
 use Rattle.rawk_travel.specs.Reading.{text_taken_of}
 use Rattle.rawk_travel.proofs.Readings.{finds_taken}
 use Rattle.rawk_travel.proofs.reading.put_found.Goals as goal

@@ -1,7 +1,7 @@
 use Rattle.std.proofs.Common.{◌≡◌, Some, refl}
 use Rattle.std.specs.Prelude.{slice_range}
 use Rattle.rawk_tape.specs.declared.source.Ending.TheVariants.{Failed}
-use Rattle.rawk_travel.specs.Moving.{moving}
+use Rattle.rawk_operands.specs.Moving.{moving}
 use Rattle.rawk_travel.specs.Reading.{taken_of, ReadsTo}
 use Rattle.rawk_travel.proofs.Quiets.{quiet_taken}
 use Rattle.rawk_travel.proofs.Readings.{reads_found, reads_missing, reads_fault, found_did, missing_did, fault_did, fault_quiet, found_quiet, found_calm}

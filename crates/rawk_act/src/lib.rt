@@ -1,0 +1,5 @@
+//! What an instruction does to the parts of the state, and where it leads.
+#![tactic(auto, using(rawk_store::specs::Growth::grows))]
+
+pub mod act;
+pub mod at_once;

@@ -1,0 +1,2 @@
+pub mod BorrowedLemmas
+pub mod Puts

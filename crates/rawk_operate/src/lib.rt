@@ -1,0 +1,11 @@
+//! What operations do to the parts of the state.
+#![tactic(auto, using(rawk_store::specs::Growth::grows))]
+
+pub mod append;
+pub mod assign;
+pub mod elements;
+pub mod key_loops;
+pub mod print;
+pub mod replace;
+pub mod split;
+pub mod transfer;

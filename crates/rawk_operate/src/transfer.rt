@@ -1,0 +1,40 @@
+//! Where an instruction leads.
+
+ghost use Rattle.std.specs.Prelude.{◌≡◌};
+
+use rawk_store::registers::Ending;
+use rawk_value::Fault;
+
+/// Where an instruction leads.
+#[derive(Clone, Copy)]
+pub enum Transfer {
+    /// to the next instruction
+    Next,
+    /// past so many instructions behind the next
+    Skip(usize),
+    /// to a place
+    To(usize),
+    /// to the end of the run
+    Over(Ending),
+    /// to a point with this site, which is still to be entered
+    Point(Option<usize>),
+    /// to a record that is still to be read; past so many instructions where there is none
+    Read(usize),
+    /// to a record whose text is still to be read; past so many instructions where there is none
+    ReadText(usize),
+    /// to the END actions, or in them to the end
+    Quit,
+    /// to the reading of the next record, where a main rule runs
+    NextRecord,
+    /// to the entry of a function, with so many operands that are still to be taken
+    Call(usize, usize),
+    /// out of the innermost activation, which is still to be removed
+    Return,
+}
+
+/// A fault ends the run.
+pub fn faulted(fault: Fault) -> Transfer
+    ensures { result ≡ Transfer.Over (Ending.Faulted fault) }
+{
+    Transfer::Over(Ending::Faulted(fault))
+}
