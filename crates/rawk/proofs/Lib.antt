@@ -1,5 +1,6 @@
 mod Stages
 mod SoFar
 mod DialogSoFar
+mod LinesInMemory
 mod Runs
 mod Sessions

@@ -14,7 +14,7 @@ use Rattle.rawk_debug.specs.Positions.{Position}
 use Rattle.rawk_debug.specs.Moves.{Stand}
 use Rattle.rawk.specs.declared.dialog.Over.{Over}
 use Rattle.rawk.specs.Dialogs.{IsHeld, report_over}
-use Rattle.rawk.specs.Reads.{IsUnstood}
+use Rattle.rawk.specs.Reads.{IsUnheld}
 use Rattle.rawk.specs.declared.report.Report.{Report}
 use Rattle.rawk.specs.declared.report.Cause.TheVariants as cause
 use Rattle.rawk.specs.Reports.{stopped_by, refused_by}
@@ -31,21 +31,19 @@ stand_at position = record { machine = position; stops = []; made = 0 }
 abbrev pub first_stand : Program → List FirstValue → ℕ → Option ℕ → Stand
 first_stand p settings steps history = stand_at (first_position p settings steps history)
 
--- What a report says of a session, with how its source was left, what was read of its commands, what is so where none was read, and what the sink took.
-pub data Debugs {S V : Type 0} (may_give : S → Input → Type 0) (over : S → Option Ending) (handed : S → ℕ) (asks : Bytes → Input → Type 0) (unread : Type 0) (may_hold : V → Bytes → Type 0) (text : Bytes) (settings : List FirstValue) (source left : S) (steps : ℕ) (history : Option ℕ) (sink now : V) : Report → Type 0 where
+-- What a report says of a session, by whether its commands are read or lie in memory, with how its source was left, what was read of its commands, what is so where none was read, and what the sink took.
+pub data Debugs {S V : Type 0} (is_read : Type 0) (may_give : S → Input → Type 0) (over : S → Option Ending) (handed : S → ℕ) (asks : Bytes → Input → Type 0) (unread : Type 0) (may_hold : V → Bytes → Type 0) (text : Bytes) (settings : List FirstValue) (source left : S) (steps : ℕ) (history : Option ℕ) (sink now : V) : Report → Type 0 where
   -- The text was refused, nothing was read of the source, nothing was written, and no command read. A text to which the grammar gives items with names in order, within the limits, is refused for want of memory alone.
-  text_refused : (refusal : Refusal) → IsRefusedText text refusal → left ≡ source → now ≡ sink → unread → Debugs may_give over handed asks unread may_hold text settings source left steps history sink now (refused_by refusal)
+  text_refused : (refusal : Refusal) → IsRefusedText text refusal → left ≡ source → now ≡ sink → unread → Debugs is_read may_give over handed asks unread may_hold text settings source left steps history sink now (refused_by refusal)
   -- a first value can't be assigned: nothing was read of the source, nothing was written, and no command read
   settings_refused : (p : Program) → IsProgram text p → settings_fit p settings ≡ false → left ≡ source → now ≡ sink → unread
-      → Debugs may_give over handed asks unread may_hold text settings source left steps history sink now (stopped_by cause.BadAssignment 0)
-  -- memory was refused before there was a machine: nothing was read of the source, nothing was written, and no command read
-  never_begun : left ≡ source → now ≡ sink → unread → Debugs may_give over handed asks unread may_hold text settings source left steps history sink now (stopped_by (cause.Faulted fault.OutOfMemory) 0)
-  -- memory was refused before a machine of the program stood at point 0: of the source was read what a run reads up to there, nothing was written, and no command read
-  never_stood : (p : Program) → IsProgram text p → settings_fit p settings ≡ true → IsUnstood may_give over handed p settings source steps left → now ≡ sink → unread
-      → Debugs may_give over handed asks unread may_hold text settings source left steps history sink now (stopped_by (cause.Faulted fault.OutOfMemory) 0)
+      → Debugs is_read may_give over handed asks unread may_hold text settings source left steps history sink now (stopped_by cause.BadAssignment 0)
+  -- memory was refused before a session over a program of the text stood: of the source nothing was read, or what a run reads up to point 0, nothing was written, and no command read
+  never_stood : (p : Program) → IsProgram text p → settings_fit p settings ≡ true → IsUnheld may_give over handed p settings source steps left → now ≡ sink → unread
+      → Debugs is_read may_give over handed asks unread may_hold text settings source left steps history sink now (stopped_by (cause.Faulted fault.OutOfMemory) 0)
   -- the session was held over a program of the text: the sink took what the report says of its transcript
-  held : (p : Program) (end : Over) → IsProgram text p → settings_fit p settings ≡ true → IsHeld may_give over handed asks may_hold source left (first_stand p settings steps history) sink now end
-      → Debugs may_give over handed asks unread may_hold text settings source left steps history sink now (report_over end)
+  held : (p : Program) (end : Over) → IsProgram text p → settings_fit p settings ≡ true → IsHeld is_read may_give over handed asks may_hold source left (first_stand p settings steps history) sink now end
+      → Debugs is_read may_give over handed asks unread may_hold text settings source left steps history sink now (report_over end)
 
 -- commands in memory are one input, which ends, and a beginning of it is read
 abbrev pub asks_all : Bytes → Bytes → Input → Type 0

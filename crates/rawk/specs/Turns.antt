@@ -1,4 +1,4 @@
--- What became of the line of the commands that is due.
+-- What became of the line that is due, of commands that are read.
 use Rattle.std.specs.Prelude.{◌≡◌, ℕ, ◌+◌, ◌≤◌, length, drop}
 use Rattle.rawk_value.specs.Values.{Bytes}
 use Rattle.rawk_tape.specs.Records.{Input}
@@ -15,7 +15,7 @@ pub record TakesTurn {M C : Type 0} (may_be : M → Input → Type 0) (may_give 
   pub turn : Turn
   pub count : ℕ
   pub reads : ReadsMore may_give handed old held.bytes new all
-  pub next : (rest : Input) → may_give new rest → IsNextTurn (before all rest) 0 turn count
+  pub next : (rest : Input) → may_give new rest → IsNextTurn (Unit {0}) (before all rest) 0 turn count
   pub within : count ≤ length all
   pub left : now.bytes ≡ drop count all
   pub taken : now.taken ≡ held.taken + 1

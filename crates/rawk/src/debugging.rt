@@ -1,18 +1,21 @@
 //! Sessions, answered as they go.
 
-ghost use Rattle.std.specs.Prelude.{◌≡◌, ◌≤◌, [], true, None, IfOk, IfErr, OnErr};
-ghost use Rattle.rawk_tape.specs.Inputs.{CountsUp, cut_off, left_from};
+ghost use Rattle.std.specs.Prelude.{◌≡◌, ◌≤◌, [], true, None, IfOk, IfErr};
+ghost use Rattle.rawk_value.specs.Values.{Bytes};
+ghost use Rattle.rawk_tape.specs.Inputs.{CountsUp};
 ghost use Rattle.rawk_history.specs.Keeping.{keeps_any};
 ghost use Rattle.rawk_code.specs.Correct.{CodeOf};
 ghost use Rattle.rawk_machine.specs.Standing.{MayCome};
+ghost use Rattle.rawk.specs.Preparing.{IsReady};
 ghost use Rattle.rawk.specs.Staged.{position_of, work_of};
-ghost use Rattle.rawk.specs.Reads.{IsUnheld, IsUnstood, ReadsOf, WasRead};
+ghost use Rattle.rawk.specs.Reads.{IsUnstood, ReadsOf, WasRead};
 ghost use Rattle.rawk.specs.Reports.{read_failures, write_failures};
 ghost use Rattle.rawk.specs.Dialogs.{IsHeld, report_over};
 ghost use Rattle.rawk_limits.specs.History.{IsHistory};
-ghost use Rattle.rawk.specs.Debugs.{Debugs, asks_all, first_position, first_stand, stand_at};
+ghost use Rattle.rawk.specs.Debugs.{Debugs, asks_all, first_position, stand_at};
 
-use crate::dialog::{Over, hold};
+use crate::dialog::{Dialog, Over};
+use crate::in_memory::InMemory;
 use crate::preparing::{Prepared, prepare};
 use crate::report::{Cause, Report, stopped};
 use crate::running::Finished;
@@ -21,9 +24,9 @@ use rawk_code::Settings;
 use rawk_debug::{Session, Stepper};
 use rawk_history::{Full, Keeper, Ring};
 use rawk_machine::Machine;
-use rawk_tape::{BytesSource, Lines, Sink, Source};
+use rawk_tape::{Lines, Sink, Source};
 use rawk_value::Fault;
-use std::alloc::{AllocError, Global};
+use std::alloc::Global;
 
 /// The report of a session, by how its dialog was over.
 fn report_of(over: Over) -> Report
@@ -51,24 +54,22 @@ struct Held<R: Source + Drop> {
     source: R,
 }
 
-/// Holds a session on a machine, from where it stands, with commands from a source, and hands the program's source back.
-fn session_on<M: Stepper, C: Source, W: Sink>(
+/// Holds a session on a machine, from where it stands, by a dialog, and hands the program's source back.
+fn session_on<M: Stepper, D: Dialog<C>, C, W: Sink>(
     alloc: Global,
     machine: M,
-    mut lines: Lines,
+    dialog: D,
     commands: &mut C,
     sink: &mut W,
 ) -> Held<M::Device>
-    requires fresh { lines ≡ record { bytes = []; over = None; taken = 0 } }
-    requires unread { C.over commands.old ≡ None }
+    requires { D.begins dialog commands.old }
     ensures held { (source : M.Device) → ReadsOf M.Device.may_give M.Device.handed (M.may_be machine) (M.work machine) source
-        → IsHeld M.Device.may_give M.Device.over M.Device.handed (WasRead C.may_give C.handed commands.old commands.new) W.may_hold source result.source (stand_at (M.position machine)) sink.old sink.new result.over }
+        → IsHeld D.is_read M.Device.may_give M.Device.over M.Device.handed (D.asks dialog commands.old commands.new) W.may_hold source result.source (stand_at (M.position machine)) sink.old sink.new result.over }
     ensures failures { CountsUp (W.failures sink.old) (W.failures sink.new) (write_failures (report_over result.over).cause) }
-    ensures read { CountsUp (C.failures commands.old) (C.failures commands.new) (read_failures (report_over result.over).cause) }
+    ensures read { CountsUp (D.failures commands.old) (D.failures commands.new) (read_failures (report_over result.over).cause) }
 {
     let mut session = Session::new(alloc, machine);
-    let over = hold(alloc, &mut session, &mut lines, commands, sink);
-    drop(lines);
+    let over = dialog.hold(alloc, &mut session, commands, sink);
     let machine = session.into_machine();
     machine.known();
     let source = machine.into_source();
@@ -102,81 +103,75 @@ fn stage_of<R: Source + Drop, K: Keeper>(
     }
 }
 
-/// Holds a session over a program that is ready to run, under a keeper that keeps, and hands the program's source back. It fails where memory is refused
-/// before the session stands.
-fn session_over<R: Source + Drop, K: Keeper, C: Source, W: Sink>(
+/// Holds a session over a program that is ready to run, under a keeper that keeps. Its text is any that the program was made of.
+fn session_over<R: Source + Drop, K: Keeper, D: Dialog<C>, C, W: Sink>(
     alloc: Global,
     settings: &Settings,
     prepared: Prepared,
     source: R,
     keeper: K,
+    dialog: D,
     commands: &mut C,
     sink: &mut W,
     steps: u64,
-) -> Result<Held<R>, R>
+) -> Finished<R>
     requires compiled { CodeOf prepared.program prepared.code }
     requires open { R.over source ≡ None }
-    requires unread { C.over commands.old ≡ None }
+    requires begins { D.begins dialog commands.old }
     requires empty { K.kept keeper ≡ [] }
     requires keeps { keeps_any (K.limit keeper) ≡ true }
-    ensures held { IfOk result (λ h. IsHeld R.may_give R.over R.handed (WasRead C.may_give C.handed commands.old commands.new) W.may_hold source h.source (first_stand prepared.program settings.now steps (K.limit keeper)) sink.old sink.new h.over) }
-    ensures failures { IfOk result (λ h. CountsUp (W.failures sink.old) (W.failures sink.new) (write_failures (report_over h.over).cause)) }
-    ensures read { IfOk result (λ h. CountsUp (C.failures commands.old) (C.failures commands.new) (read_failures (report_over h.over).cause)) }
-    ensures left { IfErr result (λ left. IsUnheld R.may_give R.over R.handed prepared.program settings.now source steps left) }
-    ensures err { OnErr result (sink.new ≡ sink.old) }
-    ensures none { OnErr result (commands.new ≡ commands.old) }
+    ensures reported { (text : Bytes) → IsReady text settings.now prepared.program prepared.code
+        → Debugs D.is_read R.may_give R.over R.handed (D.asks dialog commands.old commands.new) (commands.new ≡ commands.old) W.may_hold text settings.now source result.source steps (K.limit keeper) sink.old sink.new result.report }
+    ensures failures { CountsUp (W.failures sink.old) (W.failures sink.new) (write_failures result.report.cause) }
+    ensures read { CountsUp (D.failures commands.old) (D.failures commands.new) (read_failures result.report.cause) }
 {
-    let lines = match Lines::new(alloc) {
-        Ok(lines) => lines,
-        Err(_) => {
-            drop(prepared);
-            drop(keeper);
-            return Err(source);
-        }
-    };
     match stage_of(alloc, settings, prepared, source, keeper, steps) {
-        Ok(stage) => Ok(session_on(alloc, stage, lines, commands, sink)),
+        Ok(stage) => {
+            let held = session_on(alloc, stage, dialog, commands, sink);
+            let Held { over, source } = held;
+            let report = report_of(over);
+            Finished { report, source }
+        }
         Err(source) => {
-            drop(lines);
-            Err(source)
+            drop(dialog);
+            let report = stopped(Cause::Faulted(Fault::OutOfMemory), 0);
+            Finished { report, source }
         }
     }
 }
 
-/// Holds a session over a program that is ready to run, keeps so many steps, or all, and hands the program's source back. It fails where memory is refused
-/// before the session stands.
-fn session_kept<R: Source + Drop, C: Source, W: Sink>(
+/// Holds a session over a program that is ready to run, and keeps so many steps, or all. Its text is any that the program was made of.
+fn session_kept<R: Source + Drop, D: Dialog<C>, C, W: Sink>(
     alloc: Global,
     settings: &Settings,
     prepared: Prepared,
     source: R,
+    dialog: D,
     commands: &mut C,
     sink: &mut W,
     steps: u64,
     history: Option<u64>,
-) -> Result<Held<R>, R>
+) -> Finished<R>
     requires compiled { CodeOf prepared.program prepared.code }
     requires history { IsHistory history }
     requires open { R.over source ≡ None }
-    requires unread { C.over commands.old ≡ None }
-    ensures held { IfOk result (λ h. IsHeld R.may_give R.over R.handed (WasRead C.may_give C.handed commands.old commands.new) W.may_hold source h.source (first_stand prepared.program settings.now steps history) sink.old sink.new h.over) }
-    ensures failures { IfOk result (λ h. CountsUp (W.failures sink.old) (W.failures sink.new) (write_failures (report_over h.over).cause)) }
-    ensures read { IfOk result (λ h. CountsUp (C.failures commands.old) (C.failures commands.new) (read_failures (report_over h.over).cause)) }
-    ensures left { IfErr result (λ left. IsUnheld R.may_give R.over R.handed prepared.program settings.now source steps left) }
-    ensures err { OnErr result (sink.new ≡ sink.old) }
-    ensures none { OnErr result (commands.new ≡ commands.old) }
+    requires begins { D.begins dialog commands.old }
+    ensures reported { (text : Bytes) → IsReady text settings.now prepared.program prepared.code
+        → Debugs D.is_read R.may_give R.over R.handed (D.asks dialog commands.old commands.new) (commands.new ≡ commands.old) W.may_hold text settings.now source result.source steps history sink.old sink.new result.report }
+    ensures failures { CountsUp (W.failures sink.old) (W.failures sink.new) (write_failures result.report.cause) }
+    ensures read { CountsUp (D.failures commands.old) (D.failures commands.new) (read_failures result.report.cause) }
 {
     match history {
         None => {
             let keeper = Full::new(alloc);
             session_over(
-                alloc, settings, prepared, source, keeper, commands, sink, steps,
+                alloc, settings, prepared, source, keeper, dialog, commands, sink, steps,
             )
         }
         Some(count) => {
             let ring = Ring::new(alloc, count as usize);
             session_over(
-                alloc, settings, prepared, source, ring, commands, sink, steps,
+                alloc, settings, prepared, source, ring, dialog, commands, sink, steps,
             )
         }
     }
@@ -206,7 +201,7 @@ pub fn debug_from<R: Source + Drop, C: Source, W: Sink>(
     requires history { IsHistory history }
     requires open { R.over source ≡ None }
     requires unread { C.over commands.old ≡ None }
-    ensures reported { Debugs R.may_give R.over R.handed (WasRead C.may_give C.handed commands.old commands.new) (commands.new ≡ commands.old) W.may_hold program.now settings.now source result.source steps history sink.old sink.new result.report }
+    ensures reported { Debugs (Unit {0}) R.may_give R.over R.handed (WasRead C.may_give C.handed commands.old commands.new) (commands.new ≡ commands.old) W.may_hold program.now settings.now source result.source steps history sink.old sink.new result.report }
     ensures failures { CountsUp (W.failures sink.old) (W.failures sink.new) (write_failures result.report.cause) }
     ensures read { CountsUp (C.failures commands.old) (C.failures commands.new) (read_failures result.report.cause) }
 {
@@ -214,31 +209,20 @@ pub fn debug_from<R: Source + Drop, C: Source, W: Sink>(
         Ok(prepared) => prepared,
         Err(report) => return Finished { report, source },
     };
-    match session_kept(
-        alloc, settings, prepared, source, commands, sink, steps, history,
-    ) {
-        Ok(held) => {
-            let Held { over, source } = held;
-            let report = report_of(over);
-            Finished { report, source }
-        }
-        Err(source) => {
+    match Lines::new(alloc) {
+        Ok(lines) => session_kept(
+            alloc, settings, prepared, source, lines, commands, sink, steps, history,
+        ),
+        Err(_) => {
+            drop(prepared);
             let report = stopped(Cause::Faulted(Fault::OutOfMemory), 0);
             Finished { report, source }
         }
     }
 }
 
-/// Commands in memory, as a source. It fails where memory is refused.
-fn source_of(alloc: Global, commands: &[u8]) -> Result<BytesSource, AllocError>
-    ensures open { IfOk result (λ source. source.over ≡ None) }
-    ensures all { IfOk result (λ source. left_from source.bytes.items source.at source.ending ≡ cut_off commands.now None) }
-{
-    let bytes = Vec::from_slice(alloc, commands)?;
-    Ok(BytesSource::new(bytes, Vec::new(alloc), None))
-}
-
-/// `debug_from` with commands in memory, one on each line.
+/// `debug_from` with commands in memory, one on each line. Each is carried out, whatever its length: none is read, so that none needs memory for its
+/// reading or is passed over. F12 is reported only where memory was refused before the session stood, and F10 never.
 pub fn debug_with<R: Source + Drop, W: Sink>(
     alloc: Global,
     settings: &Settings,
@@ -252,17 +236,22 @@ pub fn debug_with<R: Source + Drop, W: Sink>(
     requires limit { steps ≤ 9223372036854775807 }
     requires history { IsHistory history }
     requires open { R.over source ≡ None }
-    ensures reported { Debugs R.may_give R.over R.handed (asks_all commands.now) (Unit {0}) W.may_hold program.now settings.now source result.source steps history sink.old sink.new result.report }
+    ensures reported { Debugs ⊥ R.may_give R.over R.handed (asks_all commands.now) (Unit {0}) W.may_hold program.now settings.now source result.source steps history sink.old sink.new result.report }
     ensures failures { CountsUp (W.failures sink.old) (W.failures sink.new) (write_failures result.report.cause) }
 {
-    match source_of(alloc, commands) {
-        Ok(mut lines) => debug_from(
-            alloc, settings, program, source, &mut lines, sink, steps, history,
-        ),
-        Err(_) => Finished {
-            report: stopped(Cause::Faulted(Fault::OutOfMemory), 0),
+    match prepare(alloc, settings, program) {
+        Ok(prepared) => session_kept(
+            alloc,
+            settings,
+            prepared,
             source,
-        },
+            InMemory { commands },
+            &mut (),
+            sink,
+            steps,
+            history,
+        ),
+        Err(report) => Finished { report, source },
     }
 }
 
@@ -278,7 +267,7 @@ pub fn debug<R: Source + Drop, W: Sink>(
 ) -> Finished<R>
     requires limit { steps ≤ 9223372036854775807 }
     requires open { R.over source ≡ None }
-    ensures reported { Debugs R.may_give R.over R.handed (asks_all commands.now) (Unit {0}) W.may_hold program.now settings.now source result.source steps None sink.old sink.new result.report }
+    ensures reported { Debugs ⊥ R.may_give R.over R.handed (asks_all commands.now) (Unit {0}) W.may_hold program.now settings.now source result.source steps None sink.old sink.new result.report }
     ensures failures { CountsUp (W.failures sink.old) (W.failures sink.new) (write_failures result.report.cause) }
 {
     debug_with(

@@ -3,6 +3,7 @@
 
 mod debugging;
 mod dialog;
+mod in_memory;
 mod preparing;
 mod report;
 mod running;
