@@ -3,3 +3,4 @@
 
 pub mod act;
 pub mod at_once;
+mod popped;

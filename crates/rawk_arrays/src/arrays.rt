@@ -214,6 +214,7 @@ impl Arrays {
 
     /// The place of an element, to read it and to write it with one search, until the step ends; `None` for a number that has no array.
     /// The element itself is not made. It fails where memory is refused, and then no element has changed.
+    #[inline(always)]
     pub fn place(
         &mut self,
         alloc: Global,
@@ -239,6 +240,7 @@ impl Arrays {
     }
 
     /// The element at a place, if it is there.
+    #[inline(always)]
     pub fn value_at(&self, place: usize) -> Option<&Value>
         ensures { (a : ℕ) (k : Bytes) → IsPlaceOf a k place self.now.now → option_copied result ≡ element_at a k (arrays_of self.now.now) }
     {
@@ -246,6 +248,7 @@ impl Arrays {
     }
 
     /// Assigns to the element at a place. It fails where memory is refused, and then no element has changed.
+    #[inline(always)]
     pub fn set_at<const SAVES: bool>(
         &mut self,
         place: usize,

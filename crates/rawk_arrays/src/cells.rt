@@ -73,6 +73,7 @@ fn cover(cells: &mut ElementSlots, count: usize) -> Result<(), AllocError>
 }
 
 /// The slot of a key, which is added, and empty, where it is missing. It fails where memory is refused; what was added stays.
+#[inline(always)]
 pub(crate) fn slot_for(
     alloc: Global,
     index: &mut Keys,
@@ -99,6 +100,7 @@ pub(crate) fn slot_for(
 }
 
 /// Fills or empties a slot, and counts what it was and is; a number that is no slot changes nothing. It fails where memory is refused, and then nothing has changed.
+#[inline(always)]
 pub(crate) fn set_slot<const SAVES: bool>(
     index: &Keys,
     cells: &mut ElementSlots,
@@ -127,6 +129,7 @@ pub(crate) fn set_slot<const SAVES: bool>(
 }
 
 /// Fills or empties the slot of a key. It fails where memory is refused, and then no element has changed.
+#[inline(always)]
 pub(crate) fn put<const SAVES: bool>(
     alloc: Global,
     index: &mut Keys,

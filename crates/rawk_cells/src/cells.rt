@@ -147,6 +147,32 @@ fn settle<const SAVES: bool>(
     }
 }
 
+/// Writes a slot; a number that is no slot changes nothing. Where nothing is saved, no call lets go what stood there, unless it is a text. It fails where memory is refused, and
+/// then nothing has changed.
+#[inline(always)]
+fn put<const SAVES: bool>(
+    slots: &mut Slots<Value>,
+    place: usize,
+    value: Value,
+) -> Result<(), AllocError>
+    ensures did { OnOk result (slots.new.now ≡ slice_set slots.old.now place value) }
+    ensures start { OnTrue SAVES (slots.new.start ≡ slots.old.start) }
+    ensures size { length slots.new.start ≡ length slots.old.start }
+    ensures err { OnErr result (slots.new.now ≡ slots.old.now) }
+{
+    if SAVES || place >= slots.len() {
+        return slots.set::<SAVES>(place, value);
+    }
+    match slots.take_changed::<SAVES>(place, value) {
+        Some(Value::String(text)) => drop(text),
+        Some(Value::Input(text)) => drop(text),
+        Some(Value::Number(_)) => {}
+        Some(Value::Uninitialized) => {}
+        None => {}
+    }
+    Ok(())
+}
+
 /// Where a text grew, if old values are saved.
 #[inline(always)]
 fn noted<const SAVES: bool>(grown: Grown) -> Option<Grown>
@@ -200,7 +226,7 @@ impl Cells {
     {
         settle::<SAVES>(self.alloc, &mut self.slots, self.grown)?;
         self.grown = None;
-        self.slots.set::<SAVES>(place, value)
+        put::<SAVES>(&mut self.slots, place, value)
     }
 
     /// Adds a global, which the step's beginning then has too. It fails where memory is refused, and then nothing has changed.

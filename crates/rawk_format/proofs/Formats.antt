@@ -1,7 +1,7 @@
 -- Lemmas on the items of a format.
-use Rattle.std.proofs.Common.{◌≡◌, refl, sym, ap, ◌∙◌, ℕ, ◌≤◌, zero, suc, List, [], ◌∷◌, ◌++◌, length, arith, append_assoc, append-nil, Result, Ok, Err, le_refl}
+use Rattle.std.proofs.Common.{◌≡◌, refl, sym, ap, ◌∙◌, ℕ, ◌≤◌, zero, suc, List, [], ◌∷◌, ◌++◌, length, arith, append_assoc, append-nil, subst, true, Result, Ok, Err, le_refl}
 use Rattle.rawk_value.specs.Values.{Bytes, next_ok}
-use Rattle.rawk_format.specs.Format.{Item, item, item_after, items_text, prefixed, formatted, IsSoFar}
+use Rattle.rawk_format.specs.Format.{Item, item, percent_item, is_percent, item_after, items_text, prefixed, formatted, IsSoFar}
 use Rattle.rawk_value.specs.declared.value.Value.{Value}
 use Rattle.rawk_value.specs.declared.fault.Fault.{Fault}
 
@@ -9,12 +9,8 @@ prefixed_prefixed : (a b : Bytes) (r : Result Bytes Fault) → prefixed a (prefi
 prefixed_prefixed a b (Ok t) = ap Ok (sym (append_assoc a b t))
 prefixed_prefixed a b (Err f) = refl
 
-prefixed_nil : (r : Result Bytes Fault) → r ≡ prefixed [] r
-prefixed_nil (Ok t) = refl
-prefixed_nil (Err f) = refl
-
-pub so_far_start : (text : Bytes) (values : List Value) → IsSoFar (formatted text values) [] text values
-so_far_start text values = record { turns = length text; enough = le_refl (length text); more = prefixed_nil (items_text (length text) text values) }
+pub so_far_start : (before text : Bytes) (values : List Value) → IsSoFar (prefixed before (formatted text values)) before text values
+so_far_start before text values = record { turns = length text; enough = le_refl (length text); more = refl }
 
 parts_of : (before after rest : Bytes) (values : List Value) (turns : ℕ) (i : Item) → after ≡ before ++ i.text → rest ≡ i.rest → values ≡ i.values
     → prefixed before (prefixed i.text (items_text turns i.rest i.values)) ≡ prefixed after (items_text turns rest values)
@@ -54,3 +50,22 @@ end_from before values (suc turns) = ap Ok (append-nil before)
 
 pub so_far_end : (whole : Result Bytes Fault) (before : Bytes) (values : List Value) → IsSoFar whole before [] values → whole ≡ Ok before
 so_far_end whole before values far = far.more ∙ end_from before values far.turns
+
+prefixed_fault : (before : Bytes) (r : Result Bytes Fault) (fault : Fault) → prefixed before r ≡ Err fault → r ≡ Err fault
+prefixed_fault before (Ok t) fault e = absurd (cc)
+prefixed_fault before (Err f) fault e = e
+
+item_percent : (b : ℕ) (text : Bytes) (values : List Value) → is_percent b ≡ true → item b text values ≡ percent_item text values
+item_percent b text values e = rw e
+
+pub percent_next : (whole : Result Bytes Fault) (before after from : Bytes) (b : ℕ) (text rest : Bytes) (values left : List Value)
+    → IsSoFar whole before from values → from ≡ b ∷ text → is_percent b ≡ true → Ok (record { text = after; rest = rest; values = left }) ≡ item_after before (percent_item text values) → length rest ≤ length text → IsSoFar whole after rest left
+percent_next whole before after from b text rest values left far is p e h =
+    let P : Bytes → Type 0 = λ x. IsSoFar whole before x values in
+    so_far_next whole before after b text rest values left (subst P is far) (e ∙ ap (item_after before) (sym (item_percent b text values p))) h
+
+pub percent_fault : (old before from : Bytes) (b : ℕ) (text : Bytes) (values : List Value) (made : Result Bytes Fault) (fault : Fault)
+    → IsSoFar (prefixed old made) before from values → from ≡ b ∷ text → is_percent b ≡ true → percent_item text values ≡ Err fault → made ≡ Err fault
+percent_fault old before from b text values made fault far is p e =
+    let P : Bytes → Type 0 = λ x. IsSoFar (prefixed old made) before x values in
+    prefixed_fault old made fault (so_far_fault (prefixed old made) before b text values fault (subst P is far) (item_percent b text values p ∙ e))

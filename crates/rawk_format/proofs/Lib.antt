@@ -1,3 +1,5 @@
 pub mod Figures
 pub mod Formats
+pub mod Grown
+pub mod Plains
 pub mod Rows

@@ -1,10 +1,11 @@
 //! Numbers as a conversion writes them, and how they are filled up to a width.
 
-ghost use Rattle.std.specs.Prelude.{◌≡◌, ℕ, false, not, ◌&&◌, ◌||◌, ◌+◌, ◌-◌, ◌≤◌, ◌++◌, ◌∷◌, [], length, replicate, map, OnOk, OnErr, if◌then◌else◌};
+ghost use Rattle.std.specs.Prelude.{◌≡◌, ℕ, false, not, ◌&&◌, ◌||◌, ◌+◌, ◌-◌, ◌≤◌, ◌++◌, ◌∷◌, [], drop, length, replicate, map, OnOk, OnErr, if◌then◌else◌};
 ghost use Rattle.std.specs.Int.Digits.{digits_of};
 ghost use Rattle.std.specs.Fmt.{digit_glyph};
 ghost use Rattle.rawk_value.specs.Scans.{held};
 ghost use Rattle.rawk_value.specs.Values.{is_zero};
+ghost use Rattle.rawk_format.specs.Grown.{Follows};
 ghost use Rattle.rawk_format.specs.Format.{sign_of, fills_whole, unsigned_figure, figure_as, twos, digits_text, head_text, figure_body, padded, octal_least};
 
 use crate::layout::{Figure, Head, Layout};
@@ -164,6 +165,7 @@ fn digits_len(base: u64, n: u64) -> usize
     }
 }
 
+#[inline(always)]
 fn digit_glyph(upper: bool, digit: u8) -> u8
     requires { digit ≤ 15 }
     ensures { result ≡ digit_glyph upper digit }
@@ -177,22 +179,53 @@ fn digit_glyph(upper: bool, digit: u8) -> u8
     }
 }
 
-// Adds the digits of a number, none for 0. On an error a part of them may be there.
-fn push_digits(out: &mut Vec<u8>, base: u64, upper: bool, n: u64) -> Result<(), AllocError>
+// Writes the digits of a number to the end of the buffer, none for 0; it gives where they begin.
+fn write_digits(buffer: &mut [u8; 64], base: u64, upper: bool, n: u64) -> usize
     requires { (2 ≤ base) × (base ≤ 16) }
-    ensures { OnOk result (out.new.items ≡ out.old.items ++ map (digit_glyph upper) (digits_of base n)) }
+    ensures written { drop result buffer.new ≡ map (digit_glyph upper) (digits_of base n) }
+    ensures within { result ≤ 64 }
 {
-    if n == 0 {
-        return Ok(());
+    let mut at = 64;
+    let mut left = n;
+    'digits: while 0 < left {
+        at -= 1;
+        buffer[at] = digit_glyph(upper, (left % base) as u8);
+        left /= base;
     }
-    push_digits(out, base, upper, n / base)?;
-    out.push(digit_glyph(upper, (n % base) as u8))?;
-    Ok(())
+    at
+}
+
+/// Adds bytes; none of them, and one alone, without the copy of a block.
+#[inline(always)]
+pub fn push_bytes(out: &mut Vec<u8>, bytes: &[u8]) -> Result<(), AllocError>
+    ensures added { OnOk result (out.new.items ≡ out.old.items ++ bytes.now) }
+    ensures kept { Follows out.old.items out.new.items }
+{
+    match bytes {
+        [] => Ok(()),
+        [byte] => {
+            out.push(*byte)?;
+            Ok(())
+        }
+        _ => out.extend_from_slice(bytes),
+    }
 }
 
 /// Adds the byte so many times.
+#[inline(always)]
 pub fn push_fill(out: &mut Vec<u8>, count: usize, byte: u8) -> Result<(), AllocError>
-    ensures { OnOk result (out.new.items ≡ out.old.items ++ replicate count byte) }
+    ensures added { OnOk result (out.new.items ≡ out.old.items ++ replicate count byte) }
+    ensures kept { Follows out.old.items out.new.items }
+{
+    if count == 0 {
+        return Ok(());
+    }
+    fill(out, count, byte)
+}
+
+fn fill(out: &mut Vec<u8>, count: usize, byte: u8) -> Result<(), AllocError>
+    ensures added { OnOk result (out.new.items ≡ out.old.items ++ replicate count byte) }
+    ensures kept { Follows out.old.items out.new.items }
 {
     match out.len().checked_add(count) {
         None => Err(AllocError),
@@ -200,19 +233,21 @@ pub fn push_fill(out: &mut Vec<u8>, count: usize, byte: u8) -> Result<(), AllocE
     }
 }
 
-fn push_number_digits(out: &mut Vec<u8>, figure: Figure) -> Result<(), AllocError>
-    requires { (2 ≤ figure.base) × (figure.base ≤ 16) }
-    ensures { OnOk result (out.new.items ≡ out.old.items ++ digits_text figure.base figure.upper figure.least figure.size) }
+// Adds the digits, and zeros before them up to the least number of digits.
+#[inline]
+fn push_number_digits(out: &mut Vec<u8>, least: usize, digits: &[u8]) -> Result<(), AllocError>
+    ensures added { OnOk result (out.new.items ≡ out.old.items ++ (replicate (least - length digits.now) 48 ++ digits.now)) }
+    ensures kept { Follows out.old.items out.new.items }
 {
-    let len = digits_len(figure.base, figure.size);
-    push_fill(out, figure.least.saturating_sub(len), b'0')?;
-    push_digits(out, figure.base, figure.upper, figure.size)?;
-    Ok(())
+    push_fill(out, least.saturating_sub(digits.len()), b'0')?;
+    out.extend_from_slice(digits)
 }
 
 // Adds the point, where there is one.
+#[inline]
 fn push_point(out: &mut Vec<u8>, point: bool) -> Result<(), AllocError>
-    ensures { OnOk result (out.new.items ≡ out.old.items ++ (if point then 46 ∷ [] else [])) }
+    ensures added { OnOk result (out.new.items ≡ out.old.items ++ (if point then 46 ∷ [] else [])) }
+    ensures kept { Follows out.old.items out.new.items }
 {
     if point {
         out.push(b'.')?;
@@ -220,26 +255,31 @@ fn push_point(out: &mut Vec<u8>, point: bool) -> Result<(), AllocError>
     Ok(())
 }
 
-fn push_body(out: &mut Vec<u8>, figure: Figure) -> Result<(), AllocError>
-    requires { (2 ≤ figure.base) × (figure.base ≤ 16) }
-    ensures { OnOk result (out.new.items ≡ out.old.items ++ figure_body figure) }
+// Adds what follows a head; the digits are the figure's.
+#[inline]
+fn push_body(out: &mut Vec<u8>, figure: Figure, digits: &[u8]) -> Result<(), AllocError>
+    requires { digits.now ≡ map (digit_glyph figure.upper) (digits_of figure.base figure.size) }
+    ensures added { OnOk result (out.new.items ≡ out.old.items ++ figure_body figure) }
+    ensures kept { Follows out.old.items out.new.items }
 {
-    push_number_digits(out, figure)?;
+    push_number_digits(out, figure.least, digits)?;
     push_point(out, figure.point)?;
     push_fill(out, figure.zeros, b'0')?;
     Ok(())
 }
 
-// How long the body is, at most the greatest of 64 bits.
-fn body_len(figure: Figure) -> usize
-    requires { (2 ≤ figure.base) × (figure.base ≤ 16) }
+// How long the body is, with so many digits of the figure, at most the greatest of 64 bits.
+#[inline]
+fn body_len(figure: Figure, digits: usize) -> usize
+    requires { digits ≡ length (digits_of figure.base figure.size) }
     ensures { result ≡ held (length (figure_body figure)) }
 {
-    let digits = digits_len(figure.base, figure.size).max(figure.least);
+    let digits = digits.max(figure.least);
     let point = if figure.point { 1 } else { 0 };
     digits.saturating_add(point).saturating_add(figure.zeros)
 }
 
+#[inline]
 fn head_text(head: Head) -> &'static [u8]
     ensures { result.now ≡ head_text head }
 {
@@ -260,7 +300,21 @@ fn room(width: usize, head: usize, body: usize) -> usize
     width.saturating_sub(head).saturating_sub(body)
 }
 
-/// Adds a number, filled up to the width.
+#[inline(always)]
+fn room_if(takes: bool, room: usize) -> usize
+    ensures { result ≡ (if takes then room else 0) }
+{
+    if takes { room } else { 0 }
+}
+
+#[inline(always)]
+fn room_unless(leaves: bool, room: usize) -> usize
+    ensures { result ≡ (if leaves then 0 else room) }
+{
+    if leaves { 0 } else { room }
+}
+
+/// Adds a number, filled up to the width. It fails where memory is refused, and a part of it may then be there.
 pub fn push_figure(
     out: &mut Vec<u8>,
     left: bool,
@@ -268,30 +322,35 @@ pub fn push_figure(
     figure: Figure,
 ) -> Result<(), AllocError>
     requires { (2 ≤ figure.base) × (figure.base ≤ 16) }
-    ensures { OnOk result (out.new.items ≡ out.old.items ++ padded left figure.filled width (head_text figure.head) (figure_body figure)) }
+    ensures added { OnOk result (out.new.items ≡ out.old.items ++ padded left figure.filled width (head_text figure.head) (figure_body figure)) }
+    ensures kept { Follows out.old.items out.new.items }
 {
+    let mut buffer = [0; 64];
+    let at = write_digits(&mut buffer, figure.base, figure.upper, figure.size);
+    let digits = &buffer[at..];
     let head = head_text(figure.head);
-    let room = room(width, head.len(), body_len(figure));
-    push_fill(out, if left || figure.filled { 0 } else { room }, b' ')?;
-    out.extend_from_slice(head)?;
-    push_fill(out, if figure.filled { room } else { 0 }, b'0')?;
-    push_body(out, figure)?;
-    push_fill(out, if left { room } else { 0 }, b' ')?;
+    let room = room(width, head.len(), body_len(figure, digits.len()));
+    push_fill(out, room_unless(left || figure.filled, room), b' ')?;
+    push_bytes(out, head)?;
+    push_fill(out, room_if(figure.filled, room), b'0')?;
+    push_body(out, figure, digits)?;
+    push_fill(out, room_if(left, room), b' ')?;
     Ok(())
 }
 
-/// Adds a text, filled up to the width by spaces.
+/// Adds a text, filled up to the width by spaces. It fails where memory is refused, and a part of it may then be there.
 pub fn push_padded(
     out: &mut Vec<u8>,
     left: bool,
     width: usize,
     text: &[u8],
 ) -> Result<(), AllocError>
-    ensures { OnOk result (out.new.items ≡ out.old.items ++ padded left false width [] text.now) }
+    ensures added { OnOk result (out.new.items ≡ out.old.items ++ padded left false width [] text.now) }
+    ensures kept { Follows out.old.items out.new.items }
 {
     let room = width.saturating_sub(text.len());
-    push_fill(out, if left { 0 } else { room }, b' ')?;
+    push_fill(out, room_unless(left, room), b' ')?;
     out.extend_from_slice(text)?;
-    push_fill(out, if left { room } else { 0 }, b' ')?;
+    push_fill(out, room_if(left, room), b' ')?;
     Ok(())
 }

@@ -6,4 +6,4 @@ mod layout;
 mod printf;
 mod specification;
 
-pub use printf::format;
+pub use printf::{format, push_format};

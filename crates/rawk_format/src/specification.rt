@@ -1,13 +1,14 @@
 //! Conversion specifications of `printf`, as a format writes them.
 
-ghost use Rattle.std.specs.Prelude.{◌≡◌, ℕ, ◌≤◌, length, Ok, IfOk};
-ghost use Rattle.std.specs.List.{prefix_len};
-ghost use Rattle.rawk_value.specs.Values.{next_ok};
+ghost use Rattle.std.specs.Prelude.{◌≡◌, ℕ, ◌≤◌, ◌==◌, ◌||◌, length, Ok, IfOk};
+ghost use Rattle.std.specs.List.{prefix_len, take_while};
+ghost use Rattle.std.specs.Str.Parse.{digits_value};
+ghost use Rattle.rawk_value.specs.Values.{is_digit, next_ok};
 ghost use Rattle.rawk_value.specs.Scans.{held};
 ghost use Rattle.rawk_format.specs.Format.{is_flag, flags_of, limited, written_width, width_size, written_precision, precision_size, conversion_named, read_conversion, read_precision, read_width, directive, seen};
 
 use rawk_value::fault::Fault;
-use rawk_value::scan::{after, begins_with, begins_with_digit, digits};
+use rawk_value::scan::{Run, after, begins_with, begins_with_digit, digits};
 
 /// The greatest width and precision.
 pub const LIMIT: u64 = 1_000_000;
@@ -72,15 +73,32 @@ fn flags_len(text: &[u8]) -> usize
     text.iter().take_while(|b| is_flag(**b)).count()
 }
 
+// The flags, and the one that a byte asks for.
+#[inline(always)]
+fn with_flag(byte: u8, flags: Flags) -> Flags
+    ensures { result ≡ record { minus = (byte == 45) || flags.minus; plus = (byte == 43) || flags.plus; space = (byte == 32) || flags.space; alternate = (byte == 35) || flags.alternate; zero = (byte == 48) || flags.zero } }
+{
+    Flags {
+        minus: byte == b'-' || flags.minus,
+        plus: byte == b'+' || flags.plus,
+        space: byte == b' ' || flags.space,
+        alternate: byte == b'#' || flags.alternate,
+        zero: byte == b'0' || flags.zero,
+    }
+}
+
 fn flags_of(run: &[u8]) -> Flags
     ensures { result ≡ flags_of run.now }
 {
-    Flags {
-        minus: run.contains(&b'-'),
-        plus: run.contains(&b'+'),
-        space: run.contains(&b' '),
-        alternate: run.contains(&b'#'),
-        zero: run.contains(&b'0'),
+    match run {
+        [] => Flags {
+            minus: false,
+            plus: false,
+            space: false,
+            alternate: false,
+            zero: false,
+        },
+        [first, rest @ ..] => with_flag(*first, flags_of(rest)),
     }
 }
 
@@ -95,26 +113,32 @@ fn given(size: u64) -> Result<Amount, Fault>
     }
 }
 
-fn written_width(text: &[u8]) -> Result<Amount, Fault>
+// The width that a text begins with, beside the digits that it begins with.
+#[inline]
+fn written_width(text: &[u8], digits: Run) -> Result<Amount, Fault>
+    requires { digits.size ≡ held (digits_value 10 (take_while is_digit text.now)) }
     ensures { result ≡ written_width text.now }
 {
     if begins_with(text, b'*') {
         Ok(Amount::Argument)
     } else if begins_with_digit(text) {
-        given(digits(text).size)
+        given(digits.size)
     } else {
         Ok(Amount::Missing)
     }
 }
 
-fn width_size(text: &[u8]) -> usize
+#[inline]
+fn width_size(text: &[u8], digits: Run) -> usize
+    requires len { digits.len ≡ prefix_len is_digit text.now }
+    requires inside { digits.len ≤ length text.now }
     ensures value { result ≡ width_size text.now }
     ensures within { result ≤ length text.now }
 {
     if begins_with(text, b'*') {
         1
     } else {
-        digits(text).len
+        digits.len
     }
 }
 
@@ -137,7 +161,8 @@ fn precision_size(text: &[u8]) -> usize
     ensures within { result ≤ length text.now }
 {
     if begins_with(text, b'.') {
-        1 + width_size(after(text, 1))
+        let number = after(text, 1);
+        1 + width_size(number, digits(number))
     } else {
         0
     }
@@ -199,8 +224,9 @@ fn read_width(flags: Flags, text: &[u8]) -> Result<Directive<'_>, Fault>
     ensures value { seen result ≡ read_width flags text.now }
     ensures shorter { IfOk result (λ d. length d.rest.now ≤ length text.now) }
 {
-    let width = written_width(text)?;
-    read_precision(flags, width, after(text, width_size(text)))
+    let digits = digits(text);
+    let width = written_width(text, digits)?;
+    read_precision(flags, width, after(text, width_size(text, digits)))
 }
 
 /// The specification that follows a percent sign: flags, a width, a precision and a conversion (POSIX XBD 5, File Format

@@ -107,6 +107,7 @@ impl Frames {
     }
 
     /// A local of the newest activation, by its number from 0.
+    #[inline(always)]
     pub fn local(&self, number: usize) -> Option<&Local>
         ensures { option_copied result ≡ slice_get (locals_now (frames_of self.now.now)) number }
     {
@@ -114,6 +115,7 @@ impl Frames {
     }
 
     /// Writes a local of the newest activation; a number that is none changes nothing. It fails where memory is refused, and then nothing has changed.
+    #[inline(always)]
     pub fn set_local<const SAVES: bool>(
         &mut self,
         number: usize,
@@ -128,6 +130,7 @@ impl Frames {
     }
 
     /// Adds an activation with no locals. It fails where memory is refused.
+    #[inline(always)]
     pub fn enter<const SAVES: bool>(
         &mut self,
         function: usize,
@@ -152,6 +155,7 @@ impl Frames {
     }
 
     /// Adds a local to the newest activation. It fails where memory is refused.
+    #[inline(always)]
     pub fn add_local<const SAVES: bool>(&mut self, local: Local) -> Result<(), AllocError>
         ensures did { OnOk result (frames_of self.new.now ≡ with_more local (frames_of self.old.now)) }
         ensures returns { OnOk result (returns_of self.new.now ≡ returns_of self.old.now) }
@@ -162,6 +166,7 @@ impl Frames {
     }
 
     /// Drops the newest activation with its locals, and gives what is kept of it beside them.
+    #[inline(always)]
     pub fn leave(&mut self) -> Option<Activation>
         ensures left { MatchOption result (frames_of self.old.now ≡ []) (λ a. (f : Frame) × (frames_of self.old.now ≡ f ∷ frames_of self.new.now) × IsOf a f) }
         ensures returns { MatchOption result (returns_of self.old.now ≡ []) (λ a. returns_of self.old.now ≡ a.return_to ∷ returns_of self.new.now) }
@@ -344,6 +349,7 @@ fn frame_of<'a>(
 }
 
 /// Where a local of the newest activation stands.
+#[inline(always)]
 fn place_of(frames: &Stack<Activation>, locals: &Stack<Local>, number: usize) -> Option<usize>
     ensures found { IfSome result (λ p. IsPlace number (live_values frames.now.now) (live_slots locals.now.now) p) }
     ensures absent { IfNone result (length (locals_now (frames_from (live_values frames.now.now) (live_slots locals.now.now))) ≤ number) }
@@ -362,6 +368,7 @@ fn place_of(frames: &Stack<Activation>, locals: &Stack<Local>, number: usize) ->
 }
 
 /// A local of the newest activation.
+#[inline(always)]
 fn local_of<'a>(
     frames: &Stack<Activation>,
     locals: &'a Stack<Local>,
@@ -376,6 +383,7 @@ fn local_of<'a>(
 }
 
 /// Writes a local of the newest activation.
+#[inline(always)]
 fn set_local_of<const SAVES: bool>(
     frames: &Stack<Activation>,
     locals: &mut Stack<Local>,

@@ -30,6 +30,7 @@ pub fn touch<const SAVES: bool>(
 
 /// Assigns a place, or answers the fault of that, which changes nothing; a local that is not there stays away, and so does an element of an array that is not. It fails where
 /// memory is refused.
+#[inline(always)]
 pub fn put_in<const SAVES: bool>(
     alloc: Global,
     store: &mut Store,

@@ -29,6 +29,7 @@ pub struct Spot {
 
 /// The slot of the element that a place is, by one search; none of another place, and of an array that is not there. The element is not made. It fails where
 /// memory is refused.
+#[inline(always)]
 fn slot_of(alloc: Global, store: &mut Store, place: &Target) -> Result<Option<usize>, AllocError>
     ensures slot { IfOk result (λ slot. IsSpot place.now slot store.new) }
     ensures same { moving store.new ≡ moving store.old }
@@ -47,6 +48,7 @@ fn slot_of(alloc: Global, store: &mut Store, place: &Target) -> Result<Option<us
 }
 
 /// A place with its slot, for as long as the step lasts. It fails where memory is refused.
+#[inline(always)]
 pub fn spot_of(alloc: Global, store: &mut Store, place: Target) -> Result<Spot, AllocError>
     ensures place { IfOk result (λ spot. spot.place ≡ place) }
     ensures spot { IfOk result (λ spot. IsSpot spot.place spot.slot store.new) }
@@ -58,6 +60,7 @@ pub fn spot_of(alloc: Global, store: &mut Store, place: Target) -> Result<Spot, 
 }
 
 /// The element of a slot; one that is not there has no value.
+#[inline(always)]
 fn slot_borrowed(arrays: &Arrays, slot: usize) -> Borrowed<'_>
     ensures { (a : ℕ) (k : Bytes) → IsPlaceOf a k slot arrays.now.now → borrowed_value result ≡ unwrap_or (element_at a k (arrays_of arrays.now.now)) Value.Uninitialized }
 {
@@ -68,6 +71,7 @@ fn slot_borrowed(arrays: &Arrays, slot: usize) -> Borrowed<'_>
 }
 
 /// The value of a place, whose reading makes no element.
+#[inline(always)]
 pub fn spot_borrowed<'a>(spot: &Spot, store: &'a Store) -> Borrowed<'a>
     requires { IsSpot spot.now.place spot.now.slot store.now }
     ensures { borrowed_value result ≡ target_value spot.now.place (moving store.now) }
@@ -79,6 +83,7 @@ pub fn spot_borrowed<'a>(spot: &Spot, store: &'a Store) -> Borrowed<'a>
 }
 
 /// Assigns a place, or answers the fault of that, which changes nothing. It fails where memory is refused.
+#[inline(always)]
 pub fn put_spot<const SAVES: bool>(
     alloc: Global,
     store: &mut Store,

@@ -6,3 +6,4 @@ pub mod Replaces
 pub mod Splits
 pub mod Subscripts
 pub mod Visits
+pub mod InPlace

@@ -5,3 +5,4 @@ pub mod Replacing
 pub mod Quiets
 pub mod Touches
 pub mod AssignLaws
+pub mod InPlace

@@ -24,6 +24,7 @@ pub fn place(left: Borrowed<'_>, right: Borrowed<'_>) -> i64
 }
 
 /// A copy of the part of its text from a place on; with a count, so many bytes. It fails where memory is refused.
+#[inline(always)]
 pub fn part(
     alloc: Global,
     value: Borrowed<'_>,
@@ -38,6 +39,7 @@ pub fn part(
 }
 
 /// The part of a text from a place on, so many bytes, or the fault of a number. It fails where memory is refused.
+#[inline(always)]
 pub fn make_part(
     alloc: Global,
     value: Borrowed<'_>,

@@ -1,7 +1,7 @@
 //! Slots whose content can be put back as it stood when the step began.
 
-ghost use Rattle.std.specs.Prelude.{◌≡◌, ◌<◌, ◌≤◌, ◌+◌, ◌++◌, ◌∷◌, [], ℕ, IfSome, List, OnErr, OnOk, Some, drop, if◌then◌else◌, length, slice_get, slice_range, slice_set, take};
-ghost use Rattle.std.specs.Bool.{OnTrue};
+ghost use Rattle.std.specs.Prelude.{◌≡◌, ◌<◌, ◌≤◌, ◌+◌, ◌++◌, ◌∷◌, [], ℕ, IfSome, IsSome, List, OnErr, OnOk, Some, drop, if◌then◌else◌, length, slice_get, slice_range, slice_set, take};
+ghost use Rattle.std.specs.Bool.{OnFalse, OnTrue};
 ghost use Rattle.std.specs.Option.{is_some, option_copied};
 ghost use Rattle.rawk_slots.specs.Back.{back, AreBelow, AreDistinctFrom, HasAdded};
 ghost use Rattle.rawk_slots.specs.Journaled.{Longer, at_rest};
@@ -58,6 +58,7 @@ impl<T: Drop> Slots<T> {
     }
 
     /// What stands in a slot, and `None` for a number that is no slot.
+    #[inline(always)]
     pub fn value(&self, place: usize) -> Option<&T>
         ensures { option_copied result ≡ slice_get self.now.now place }
     {
@@ -132,6 +133,7 @@ impl<T: Drop> Slots<T> {
     pub fn take_changed<const SAVES: bool>(&mut self, place: usize, spare: T) -> Option<T>
         requires { place < length self.old.now }
         ensures value { IfSome result (λ v. slice_get self.old.now place ≡ Some v) }
+        ensures unsaved { OnFalse SAVES (IsSome result) }
         ensures after { self.new.now ≡ (if is_some result then slice_set self.old.now place spare else self.old.now) }
         ensures start { OnTrue SAVES (self.new.start ≡ self.old.start) }
         ensures size { length self.new.start ≡ length self.old.start }
@@ -158,6 +160,7 @@ impl<T: Drop> Slots<T> {
     }
 
     /// Writes the slot behind the first `count`, and adds it where it is missing. It fails where memory is refused.
+    #[inline(always)]
     pub fn append<const SAVES: bool>(&mut self, count: usize, value: T) -> Result<(), AllocError>
         requires { count ≤ length self.old.now }
         ensures did { OnOk result (take (count + 1) self.new.now ≡ take count self.old.now ++ value ∷ []) }

@@ -66,6 +66,7 @@ impl<T: Drop> Stack<T> {
     }
 
     /// A value, counted from the newest, which is 0.
+    #[inline(always)]
     pub fn newest(&self, number: usize) -> Option<&T>
         ensures { option_copied result ≡ slice_get (live_values self.now.now) number }
     {
@@ -94,6 +95,7 @@ impl<T: Drop> Stack<T> {
     }
 
     /// Adds a value. It fails where memory is refused, and then the values are as they were.
+    #[inline(always)]
     pub fn push<const SAVES: bool>(&mut self, value: T) -> Result<(), AllocError>
         ensures did { OnOk result (live_values self.new.now ≡ value ∷ live_values self.old.now) }
         ensures err { OnErr result (self.new.now ≡ self.old.now) }

@@ -2,10 +2,11 @@
 
 ghost use Rattle.std.specs.Prelude.{◌≡◌, ◌≤◌, ◌++◌, [], OnErr, OnOk, length, take};
 ghost use Rattle.rawk_value.specs.Values.{int_text, text_of};
+ghost use Rattle.rawk_format.specs.Format.{AddsText, formatted};
 ghost use Rattle.rawk_slots.specs.Journaled.{at_rest};
 
 use rawk_slots::Reversible;
-use rawk_value::{Value, push_number, push_text};
+use rawk_value::{Fault, Value, push_number, push_text};
 use std::alloc::{AllocError, Global};
 use std::marker::Model;
 use std::mem;
@@ -71,6 +72,16 @@ impl Output {
         ensures err { OnErr result (self.new.now ≡ self.old.now) }
     {
         push_number(&mut self.bytes, number)
+    }
+
+    /// Adds what `printf` writes for a format and its arguments, with the faults of `rawk_format::push_format`; after one of them the
+    /// bytes are as they were.
+    pub fn push_format(&mut self, format: &[u8], values: &[Value]) -> Result<(), Fault>
+        ensures did { AddsText self.old.now self.new.now result (formatted format.now values.now) }
+        ensures start { self.new.start ≡ self.old.start }
+        ensures err { OnErr result (self.new.now ≡ self.old.now) }
+    {
+        rawk_format::push_format(&mut self.bytes, format, values)
     }
 
     /// Gives the bytes away into a buffer, whose room is used for the next ones. It takes no memory.

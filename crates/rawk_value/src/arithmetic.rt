@@ -121,7 +121,7 @@ fn great_power(x: i64, n: u64) -> Result<i64, Fault>
 }
 
 /// What an operator makes of two numbers, with the faults of `add`, `sub`, `mul`, `div`, `rem` and `pow`. It takes no memory.
-#[inline]
+#[inline(always)]
 pub fn combine(operator: Arithmetic, x: i64, y: i64) -> Result<i64, Fault>
     ensures { result ≡ combined operator x y }
 {

@@ -22,6 +22,7 @@ impl Model for Bytes {
 
 impl Bytes {
     /// A copy of a slice. It fails where memory is refused.
+    #[inline(always)]
     pub fn from_slice(alloc: Global, bytes: &[u8]) -> Result<Self, AllocError>
         ensures { IfOk result (λ b. b ≡ bytes.now) }
     {
@@ -49,7 +50,7 @@ impl Bytes {
     }
 
     /// A copy. It takes no memory, and fails only where the count of owners is full.
-    #[inline]
+    #[inline(always)]
     pub fn copy(&self) -> Result<Self, AllocError>
         ensures { IfOk result (λ b. b ≡ self.now) }
     {
@@ -76,6 +77,7 @@ impl Bytes {
     }
 
     /// The bytes.
+    #[inline(always)]
     pub fn as_slice(&self) -> &[u8]
         ensures { result.now ≡ self.now }
     {

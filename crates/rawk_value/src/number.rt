@@ -19,7 +19,7 @@ pub fn input_number(text: &[u8]) -> Result<i64, Fault>
 
 /// The number of a value, where one is needed (POSIX awk, Expressions in awk): an uninitialized value is 0, and a text has
 /// the number of its front, with the faults of `input_number`. It takes no memory.
-#[inline]
+#[inline(always)]
 pub fn number_of(value: &Value) -> Result<i64, Fault>
     ensures { result ≡ number_of value.now }
 {

@@ -6,7 +6,7 @@ use Rattle.rawk_operate.specs.declared.transfer.Transfer.TheVariants as transfer
 use Rattle.rawk_operate.specs.Done.{Done}
 use Rattle.rawk_operands.specs.Moving.{Moving, moving}
 use Rattle.rawk_operate.proofs.Subscripts.{element_faults, element_put, subscript_in}
-use Rattle.rawk_operate.proofs.elements.put_element.Goals as goal
+use Rattle.rawk_operate.proofs.elements.put_element_whole.Goals as goal
 
 pub returns-in-Err-clause-did : goal.returns-in-Err-clause-did
 returns-in-Err-clause-did g c = element_faults c.args.array c.args.from.now (moving c.args.store.now) c.in_ok-subscript.subscript c.in-Err.fault c.faulted.result c.in_ok-subscript.ensures c.in-Err.is c.faulted.ensures

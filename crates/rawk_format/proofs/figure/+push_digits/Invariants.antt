@@ -1,5 +1,0 @@
--- The number falls.
-use Rattle.rawk_format.proofs.figure.+push_digits.Given as goal
-
-abbrev pub decreases-push_digits : goal.decreases-push_digits
-decreases-push_digits l = l.n
