@@ -76,30 +76,33 @@ fn flags_len(text: &[u8]) -> usize
 // The flags, and the one that a byte asks for.
 #[inline(always)]
 fn with_flag(byte: u8, flags: Flags) -> Flags
-    ensures { result ≡ record { minus = (byte == 45) || flags.minus; plus = (byte == 43) || flags.plus; space = (byte == 32) || flags.space; alternate = (byte == 35) || flags.alternate; zero = (byte == 48) || flags.zero } }
+    ensures { result ≡ record { minus = flags.minus || (byte == 45); plus = flags.plus || (byte == 43); space = flags.space || (byte == 32); alternate = flags.alternate || (byte == 35); zero = flags.zero || (byte == 48) } }
 {
     Flags {
-        minus: byte == b'-' || flags.minus,
-        plus: byte == b'+' || flags.plus,
-        space: byte == b' ' || flags.space,
-        alternate: byte == b'#' || flags.alternate,
-        zero: byte == b'0' || flags.zero,
+        minus: flags.minus || byte == b'-',
+        plus: flags.plus || byte == b'+',
+        space: flags.space || byte == b' ',
+        alternate: flags.alternate || byte == b'#',
+        zero: flags.zero || byte == b'0',
     }
 }
 
 fn flags_of(run: &[u8]) -> Flags
     ensures { result ≡ flags_of run.now }
 {
-    match run {
-        [] => Flags {
-            minus: false,
-            plus: false,
-            space: false,
-            alternate: false,
-            zero: false,
-        },
-        [first, rest @ ..] => with_flag(*first, flags_of(rest)),
+    let mut flags = Flags {
+        minus: false,
+        plus: false,
+        space: false,
+        alternate: false,
+        zero: false,
+    };
+    let mut left = run;
+    'flags: while let [first, rest @ ..] = left {
+        flags = with_flag(*first, flags);
+        left = rest;
     }
+    flags
 }
 
 // A written width or precision, of which the size is held.
