@@ -13,7 +13,9 @@ ghost use Rattle.rawk_arrays.specs.Laid.{GrownArrays, IsLaid, IsPlaceOf, arrays_
 ghost use Rattle.rawk_arrays.specs.ArraysBack.{FitsArrays, arrays_back};
 ghost use Rattle.rawk_arrays.specs.Slotted.{IsSlotOf};
 
-use crate::cells::{ElementSlots, element, empty, filled, keys, pack, put, set_slot, slot_for};
+use crate::cells::{
+    ElementSlots, element, empty, filled, is_filled, keys, pack, put, set_slot, slot_for,
+};
 use crate::counts::{count, recount_back};
 use rawk_keys::Keys;
 use rawk_slots::{Reversible, SlotGroup, Slots};
@@ -37,7 +39,7 @@ pub struct Arrays {
     counts: Vec<usize>,
     live: usize,
     began: usize,
-    // How many slots were emptied since the empty ones were last removed, at least.
+    // How many slots were emptied and not filled again since the empty ones were last removed, about: one that was empty counts too where its array is cleared.
     emptied: usize,
 }
 
@@ -86,6 +88,16 @@ pub enum ArraysChange {
     AddEmpty(usize),
     /// to so many at most
     Truncate(usize),
+}
+
+/// Of so many slots that were emptied, how many are left so where this one is filled. One that was added last was not emptied.
+#[inline(always)]
+fn left_empty(emptied: usize, cells: &ElementSlots, place: usize) -> usize {
+    if place < cells.len().saturating_sub(1) && !is_filled(cells, place) {
+        emptied.saturating_sub(1)
+    } else {
+        emptied
+    }
 }
 
 impl Arrays {
@@ -209,7 +221,10 @@ impl Arrays {
         ensures err { OnErr result (arrays_of self.new.now ≡ arrays_of self.old.now) }
         ensures start { OnTrue SAVES (GrownArrays self.old.start self.new.start) }
     {
-        self.put::<SAVES>(alloc, array, key, Some(value))
+        match self.place(alloc, array, key)? {
+            Some(place) => self.set_at::<SAVES>(place, value),
+            None => Ok(()),
+        }
     }
 
     /// The place of an element, to read it and to write it with one search, until the step ends; `None` for a number that has no array.
@@ -258,6 +273,7 @@ impl Arrays {
         ensures err { OnErr result (self.new.now ≡ self.old.now) }
         ensures start { OnTrue SAVES (self.new.start ≡ self.old.start) }
     {
+        self.emptied = left_empty(self.emptied, &self.cells, place);
         set_slot::<SAVES>(
             &self.index,
             &mut self.cells,
