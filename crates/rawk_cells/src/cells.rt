@@ -147,6 +147,16 @@ fn settle<const SAVES: bool>(
     }
 }
 
+/// Whether no text stands in a slot. It is looked at before the slot is written: else all of what stood there would be read first.
+#[inline(always)]
+fn is_plain(slots: &Slots<Value>, place: usize) -> bool {
+    match slots.value(place) {
+        Some(Value::Uninitialized) => true,
+        Some(Value::Number(_)) => true,
+        _ => false,
+    }
+}
+
 /// Writes a slot; a number that is no slot changes nothing. Where nothing is saved, no call lets go what stood there, unless it is a text. It fails where memory is refused, and
 /// then nothing has changed.
 #[inline(always)]
@@ -160,7 +170,7 @@ fn put<const SAVES: bool>(
     ensures size { length slots.new.start ≡ length slots.old.start }
     ensures err { OnErr result (slots.new.now ≡ slots.old.now) }
 {
-    if SAVES || place >= slots.len() {
+    if SAVES || place >= slots.len() || !is_plain(slots, place) {
         return slots.set::<SAVES>(place, value);
     }
     match slots.take_changed::<SAVES>(place, value) {

@@ -1,7 +1,8 @@
 //! Slots whose content can be put back as it stood when the step began.
 
-ghost use Rattle.std.specs.Prelude.{◌≡◌, ◌<◌, ◌≤◌, ◌+◌, ◌++◌, ◌∷◌, [], ℕ, IfSome, IsSome, List, OnErr, OnOk, Some, drop, if◌then◌else◌, length, slice_get, slice_range, slice_set, take};
+ghost use Rattle.std.specs.Prelude.{◌≡◌, ◌<◌, ◌≤◌, ◌+◌, ◌++◌, ◌∷◌, [], ℕ, IfSome, IsSome, List, OnErr, OnOk, Some, drop, if◌then◌else◌, length, slice_get, slice_range, slice_set, take, vec_len};
 ghost use Rattle.std.specs.Bool.{OnFalse, OnTrue};
+ghost use Rattle.std.specs.Vec.{vec_capacity};
 ghost use Rattle.std.specs.Option.{is_some, option_copied};
 ghost use Rattle.rawk_slots.specs.Back.{back, AreBelow, AreDistinctFrom, HasAdded};
 ghost use Rattle.rawk_slots.specs.Journaled.{Longer, at_rest};
@@ -36,6 +37,19 @@ impl<T> Model for Slots<T> {
     ghost view = { λ s. record { now = s.items.items; start = back s.items.items s.saved.items } };
 
     ghost invariant = { λ s. IsJournal s.items.items s.marks.items s.saved.items };
+}
+
+/// Room for one more old value: for one alone where there is none yet, since most steps save few. It fails where memory is refused.
+#[inline]
+fn reserve_one<T>(saved: &mut Vec<Saved<T>>) -> Result<(), AllocError>
+    ensures items { saved.new.items ≡ saved.old.items }
+    ensures len { vec_len saved.new ≡ vec_len saved.old }
+    ensures ok { OnOk result (vec_len saved.new < vec_capacity saved.new) }
+{
+    if saved.capacity() == 0 {
+        return saved.reserve_exact(1);
+    }
+    saved.reserve(1)
 }
 
 impl<T: Drop> Slots<T> {
@@ -94,7 +108,7 @@ impl<T: Drop> Slots<T> {
             self.items[place] = value;
             return Ok(());
         }
-        self.saved.reserve(1)?;
+        reserve_one(&mut self.saved)?;
         let old = mem::replace(&mut self.items[place], value);
         self.marks[place] = self.saved.len();
         self.saved.push_reserved(Saved { place, old });

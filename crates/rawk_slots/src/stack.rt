@@ -109,6 +109,7 @@ impl<T: Drop> Stack<T> {
     }
 
     /// Writes a value, counted from the oldest; a number that has none changes nothing. It fails where memory is refused, and then nothing has changed.
+    #[inline(always)]
     pub fn set_oldest<const SAVES: bool>(
         &mut self,
         number: usize,

@@ -16,8 +16,8 @@ invariant_of-self-2 g c =
     let items = c.self.inside.items.items in
     let saved = c.self.inside.saved.items in
     let e : Saved g.row.T.Denot = record { place = c.args.place; old = c.replace-old.result } in
-    let pushed : c.push_reserved.new.self.items ≡ saved ++ e ∷ [] = c.push_reserved.ensures.items ∙ ap (λ (xs : List (Saved g.row.T.Denot)). xs ++ e ∷ []) c.reserve.ensures.items in
-    let count : c.len.result ≡ length saved = c.len.ensures ∙ (c.reserve.ensures.len ∙ c.self.inside.saved.ok.0) in
+    let pushed : c.push_reserved.new.self.items ≡ saved ++ e ∷ [] = c.push_reserved.ensures.items ∙ ap (λ (xs : List (Saved g.row.T.Denot)). xs ++ e ∷ []) c.reserve_one.ensures.items in
+    let count : c.len.result ≡ length saved = c.len.ensures ∙ (c.reserve_one.ensures.len ∙ c.self.inside.saved.ok.0) in
     let inside : c.args.place < length items = rw (← ap (λ j. length j.now) c.self.view_is) at c.requires in
     let hit = rw (c.deref.ensures.value, c.deref-2.ensures.value) at c.if-is_saved.ensures.1 in
     let no = λ (s : IsSavedAt saved (get_or c.self.inside.marks.items c.args.place 0) c.args.place). false≢true (hit s) in
@@ -29,7 +29,7 @@ returns-clause-start g c =
     let items = c.self.inside.items.items in
     let saved = c.self.inside.saved.items in
     let e : Saved g.row.T.Denot = record { place = c.args.place; old = c.replace-old.result } in
-    let pushed : c.push_reserved.new.self.items ≡ saved ++ e ∷ [] = c.push_reserved.ensures.items ∙ ap (λ (xs : List (Saved g.row.T.Denot)). xs ++ e ∷ []) c.reserve.ensures.items in
+    let pushed : c.push_reserved.new.self.items ≡ saved ++ e ∷ [] = c.push_reserved.ensures.items ∙ ap (λ (xs : List (Saved g.row.T.Denot)). xs ++ e ∷ []) c.reserve_one.ensures.items in
     let before : e.old ≡ get_or items c.args.place e.old = rw c.replace-old.ensures.value c.index_mut-2.ensures.value in
     OnTrue-any _ _ (back_saved items saved c.push_reserved.new.self.items e c.replace-old.new.dest pushed before ∙ ap (λ j. j.start) c.self.view_is)
 
