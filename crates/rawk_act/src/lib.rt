@@ -4,3 +4,4 @@
 pub mod act;
 pub mod at_once;
 mod popped;
+pub mod variables;
