@@ -20,7 +20,7 @@ use Rattle.rawk_travel.specs.Reading.{run_in}
 use Rattle.rawk_machine.specs.Standing.{Ground, StandsAt, run_at, config_at, whole}
 use Rattle.rawk_machine.specs.Reached.{stands_reached}
 use Rattle.rawk_machine.specs.Kept.{moment_in}
-use Rattle.rawk_machine.specs.Arrival.{site_for}
+use Rattle.rawk_steps.specs.Arrival.{site_for}
 use Rattle.rawk_machine.specs.Asked.{HasAsked, asked_wider}
 
 -- what a step has asked for, from where its instructions begin

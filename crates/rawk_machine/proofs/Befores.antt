@@ -17,7 +17,8 @@ use Rattle.rawk_history.specs.Steps.{Forth}
 use Rattle.rawk_machine.specs.Last as last
 use Rattle.rawk_store.specs.Observed.{Observed}
 use Rattle.rawk_machine.proofs.Forths.{laid_in, laid_forth}
-use Rattle.rawk_machine.specs.Kept.{arrays_forth, pasts, back_in, globals_forth, before_of}
+use Rattle.rawk_machine.specs.Kept.{pasts, before_of}
+use Rattle.rawk_steps.specs.Leading.{arrays_forth, back_in, globals_forth}
 
 length_forth : (xs : List Value) (gs : List Group) → length (globals_forth xs gs) ≡ length xs
 length_forth xs [] = refl

@@ -15,9 +15,10 @@ use Rattle.std.proofs.lemmas.List.{append-nil, length-reverse}
 use Rattle.rawk_code.specs.Actions.{SetAt, sets_at}
 use Rattle.rawk_frames.specs.LaidFrames.{returns_of}
 use Rattle.rawk_frames.specs.FramesLaws.{returns_of-grown}
-use Rattle.rawk_machine.specs.Arrival.{site_for}
+use Rattle.rawk_steps.specs.Arrival.{site_for}
 use Rattle.rawk_machine.specs.Standing.{Moment, Earlier, Past, LastMade}
-use Rattle.rawk_machine.specs.Kept.{moment_in, newest_first, but_last, below, all_back, unsets, back_in, pasts, IsPlaced, FitHere, EndsWith, Chain}
+use Rattle.rawk_machine.specs.Kept.{moment_in, but_last, below, unsets, pasts, IsPlaced, FitHere, EndsWith, Chain}
+use Rattle.rawk_steps.specs.Leading.{newest_first, all_back, back_in}
 use Rattle.rawk_machine.proofs.SetLists.{own_dropped, ends_next, below_next, ends_push, below_push, LastSet, last_set, below_but_last, take_front, none_at}
 
 abbrev moment_by : State → List Value → List (List Bytes) → List ℕ → Registers → Moment

@@ -15,7 +15,8 @@ use Rattle.rawk_store.specs.Layout.{Layout}
 use Rattle.rawk_store.specs.Observed.{Observed}
 use Rattle.rawk_history.specs.Steps.{Kept}
 use Rattle.rawk_code.specs.Actions.{SetAt}
-use Rattle.rawk_machine.specs.Kept.{back_in, pasts, seen_first}
+use Rattle.rawk_machine.specs.Kept.{pasts, seen_first}
+use Rattle.rawk_steps.specs.Leading.{back_in}
 use Rattle.rawk_machine.proofs.Befores.{LaidBefore}
 
 -- a key without a slot had no element

@@ -14,7 +14,8 @@ use Rattle.rawk_machine.specs.declared.last_move.LastMove.{LastMove}
 use Rattle.rawk_machine.specs.declared.last_move.LastMove.TheVariants as move
 use Rattle.rawk_machine.specs.Last as last
 use Rattle.rawk_machine.specs.Standing.{Past}
-use Rattle.rawk_machine.specs.Kept.{AllArraysFit, LastFits, arrays_forth, before_of, seen_forth}
+use Rattle.rawk_machine.specs.Kept.{LastFits, before_of, seen_forth}
+use Rattle.rawk_steps.specs.Leading.{AllArraysFit, arrays_forth}
 
 in-grown : (l m : Laid) (o : Option Others) → GrownArrays l m → ArraysFit o l → GrownArrays (arrays_in l o) (arrays_in m o)
 in-grown l m None g h = g

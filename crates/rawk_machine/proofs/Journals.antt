@@ -11,8 +11,9 @@ use Rattle.rawk_store.specs.GroupBack.{put_back}
 use Rattle.rawk_code.specs.Actions.{SetAt}
 use Rattle.rawk_store.specs.Observed.{seen}
 use Rattle.rawk_machine.specs.Standing.{Past}
-use Rattle.rawk_machine.specs.Kept.{moment_in, newest_first, unsets, pasts, seen_first, IsPlaced, FitHere, Chain, Few, back_in, below}
-use Rattle.rawk_machine.specs.Closing.{Closes, FitAll}
+use Rattle.rawk_machine.specs.Kept.{moment_in, unsets, pasts, seen_first, IsPlaced, FitHere, Chain, Few, below}
+use Rattle.rawk_steps.specs.Leading.{newest_first, back_in}
+use Rattle.rawk_steps.specs.Closing.{Closes, FitAll}
 use Rattle.rawk_machine.proofs.SetLists.{ends_next}
 use Rattle.rawk_machine.proofs.Chains.{ends_with, chain_step, pasts_step, chain_front, pasts_front, length-pasts, chain-size}
 
@@ -117,7 +118,3 @@ moved l s n point old_size size sets here old new limit = moved_by (keeps_any li
 pub fit_groups : (l : Layout) (point size : ℕ) (here : List Group) → FitHere l point size here → FitAll l here
 fit_groups l point size [] h = tt
 fit_groups l point size (g ∷ gs) (f, p, h) = (f, fit_groups (put_back l g) point size gs h)
-
--- what a closed step is, by whether any step is kept
-pub closes_by : (b c : Bool) (start now : Layout) (old new : List Kept) (here : List Group) (limit : Option ℕ) → b ≡ c → Closes b start now old new here limit → Closes c start now old new here limit
-closes_by b c start now old new here limit e k = subst (λ (x : Bool). Closes x start now old new here limit) e k

@@ -22,9 +22,10 @@ use Rattle.rawk_code.specs.Trace.{FirstValue}
 use Rattle.rawk_machine.specs.Last.{Last}
 use Rattle.rawk_machine.specs.Last as last
 use Rattle.rawk_machine.specs.Standing.{Standing, Moment, Earlier, Past, gone_back, taken_back, set_made}
-use Rattle.rawk_machine.specs.Kept.{moment_in, but_last, below, newest_first, back_in, before_of, unsets, pasts, arrays_forth, globals_forth, record_forth, Chain, LastFits}
-use Rattle.rawk_machine.specs.Arrival.{site_for}
-use Rattle.rawk_machine.specs.Written.{IsWritten}
+use Rattle.rawk_machine.specs.Kept.{moment_in, but_last, below, before_of, unsets, pasts, Chain, LastFits}
+use Rattle.rawk_steps.specs.Leading.{newest_first, back_in, arrays_forth, globals_forth, record_forth}
+use Rattle.rawk_steps.specs.Arrival.{site_for}
+use Rattle.rawk_steps.specs.Written.{IsWritten}
 use Rattle.rawk_machine.specs.Stood.{standing_of}
 use Rattle.rawk_machine.proofs.Forths.{before-grown}
 use Rattle.rawk_machine.proofs.Chains.{fit_here, moment-grown, unsets-grown, pasts-grown, pasts_unset, pasts_set, unsets_set}

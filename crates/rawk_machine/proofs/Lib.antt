@@ -1,11 +1,9 @@
 pub mod Savings
-pub mod Arrivals
 pub mod Stands
 pub mod SetLists
 pub mod Chains
 pub mod Journals
 pub mod Gives
-pub mod Undos
 pub mod Leads
 pub mod Forths
 pub mod Befores

@@ -9,7 +9,8 @@ use Rattle.rawk_store.specs.Saving.{saved_in}
 use Rattle.rawk_history.specs.Saving.{saved_in_groups, saved_by, saved_by_all, saved_in_groups-reverse}
 use Rattle.rawk_code.specs.Actions.{SetAt}
 use Rattle.rawk_machine.specs.Standing.{Earlier, Past, saved_of, saved_before}
-use Rattle.rawk_machine.specs.Kept.{moment_in, but_last, below, newest_first, unsets, back_in, pasts}
+use Rattle.rawk_machine.specs.Kept.{moment_in, but_last, below, unsets, pasts}
+use Rattle.rawk_steps.specs.Leading.{newest_first, back_in}
 
 pub saved_here : (l : Layout) (sets : List SetAt) (here : List Group) → saved_of (unsets l sets here) ≡ saved_in_groups here
 saved_here l sets [] = refl

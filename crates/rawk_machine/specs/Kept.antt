@@ -1,5 +1,5 @@
 -- What groups lead back to.
-use Rattle.std.specs.Prelude.{◌≡◌, ℕ, ◌-◌, ◌<◌, ◌≤◌, nat_lt, List, [], ◌∷◌, ◌++◌, length, take, filter, reverse, Option, None, Some}
+use Rattle.std.specs.Prelude.{◌≡◌, ℕ, ◌-◌, ◌<◌, ◌≤◌, nat_lt, List, [], ◌∷◌, ◌++◌, length, take, filter, Option, None, Some}
 use Rattle.rawk_value.specs.declared.value.Value.{Value}
 use Rattle.rawk_record.specs.Shown.{Shown, record_back}
 use Rattle.rawk_arrays.specs.Laid.{Laid, arrays_of}
@@ -11,7 +11,8 @@ use Rattle.rawk_store.specs.Back.{back}
 use Rattle.rawk_store.specs.Saving.{saved_in}
 use Rattle.rawk_store.specs.GroupBack.{ArraysFit, FitsIn, arrays_in, put_back}
 use Rattle.rawk_frames.specs.LaidFrames.{returns_of}
-use Rattle.rawk_machine.specs.Arrival.{site_for}
+use Rattle.rawk_steps.specs.Arrival.{site_for}
+use Rattle.rawk_steps.specs.Leading.{AllArraysFit, all_back, arrays_forth, back_in, globals_forth, newest_first, record_forth}
 use Rattle.rawk_code.specs.Actions.{SetAt}
 use Rattle.rawk_machine.specs.Last.{Last}
 use Rattle.rawk_machine.specs.Last as last
@@ -30,10 +31,6 @@ moment_in l = record {
   site = site_for l.registers.ending l.registers.site;
 }
 
--- the groups of one point's sets, the newest first
-abbrev pub newest_first : Kept → List Group
-newest_first item = reverse item.sets
-
 -- the sets but for the last
 abbrev pub but_last : List SetAt → List SetAt
 but_last sets = take (length sets - 1) sets
@@ -42,19 +39,10 @@ but_last sets = take (length sets - 1) sets
 abbrev pub below : ℕ → List SetAt → List SetAt
 below point sets = filter (λ e. nat_lt e.point point) sets
 
--- with each group put back, the newest first
-abbrev pub all_back : Layout → List Group → Layout
-all_back l [] = l
-all_back l (g ∷ gs) = all_back (put_back l g) gs
-
 -- how it stood before each set of a point
 abbrev pub unsets : Layout → List SetAt → List Group → List Earlier
 unsets l sets [] = []
 unsets l sets (g ∷ gs) = record { moment = moment_in (put_back l g); sets = but_last sets; saved = saved_in g } ∷ unsets (put_back l g) (but_last sets) gs
-
--- the point before, as it lies in the parts
-abbrev pub back_in : Layout → List Group → Kept → Layout
-back_in l here item = put_back (all_back l here) item.step
 
 -- how it stood at each earlier point
 abbrev pub pasts : Layout → List SetAt → ℕ → List Group → List Kept → List Past
@@ -71,19 +59,6 @@ abbrev pub seen_first : List Past → Option Observed
 seen_first [] = None
 seen_first (p ∷ ps) = Some (seen p.last.moment.state)
 
--- what was seen before the groups were put back, which lead forward now, the oldest first
-abbrev pub globals_forth : List Value → List Group → List Value
-globals_forth xs [] = xs
-globals_forth xs (g ∷ gs) = globals_forth (back xs g.globals) gs
-
-abbrev pub arrays_forth : Laid → List Group → Laid
-arrays_forth l [] = l
-arrays_forth l (g ∷ gs) = arrays_forth (arrays_in l g.others) gs
-
-abbrev pub record_forth : Shown → List Group → Shown
-record_forth s [] = s
-record_forth s (g ∷ gs) = record_forth (record_back s g.current) gs
-
 abbrev pub seen_forth : List Value → Laid → Shown → Forth → Observed
 seen_forth globals arrays current forth = record {
   globals = globals_forth (back globals forth.globals) forth.sets;
@@ -98,12 +73,7 @@ before_of last.Nothing globals arrays current history = None
 before_of last.On globals arrays current history = seen_first history
 before_of (last.Back forth) globals arrays current history = Some (seen_forth globals arrays current forth)
 
--- each place that the groups lead forward to is one of the arrays
-abbrev pub AllArraysFit : Laid → List Group → Type 0
-AllArraysFit l [] = Unit {0}
-AllArraysFit l (g ∷ gs) = ArraysFit g.others l × AllArraysFit (arrays_in l g.others) gs
-
--- so is each of a step that was put back
+-- each place that a step leads forward to which was put back is one of the arrays
 abbrev pub LastFits : Last → Laid → Type 0
 LastFits last.Nothing l = Unit {0}
 LastFits last.On l = Unit {0}

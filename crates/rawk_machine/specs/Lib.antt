@@ -3,9 +3,6 @@ pub mod Reached
 pub mod InTrace
 pub mod Last
 pub mod Kept
-pub mod Written
-pub mod Closing
-pub mod Arrival
 pub mod Stood
 pub mod Elements
 pub mod Drops

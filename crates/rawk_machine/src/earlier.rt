@@ -9,7 +9,7 @@ ghost use Rattle.rawk_arrays.specs.Laid.{Laid};
 ghost use Rattle.rawk_arrays.specs.Slotted.{held_in};
 ghost use Rattle.rawk_store.specs.Back.{back};
 ghost use Rattle.rawk_store.specs.GroupBack.{arrays_in};
-ghost use Rattle.rawk_machine.specs.Kept.{arrays_forth, globals_forth, record_forth};
+ghost use Rattle.rawk_steps.specs.Leading.{arrays_forth, globals_forth, record_forth};
 ghost use Rattle.rawk_store.specs.Observed.{Observed};
 
 use crate::last_move::LastMove;

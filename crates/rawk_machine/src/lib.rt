@@ -1,15 +1,11 @@
 //! A machine that runs the code of a program from point to point.
 #![tactic(auto, using(rawk_store::specs::Growth::grows))]
 
-mod arrival;
-mod back;
 mod earlier;
 mod getters;
-mod journal;
 mod last_move;
 mod machine;
 mod runner;
-mod start;
 mod step;
 
 pub use machine::Machine;

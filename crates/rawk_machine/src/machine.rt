@@ -15,15 +15,15 @@ ghost use Rattle.rawk_machine.specs.Standing.{Standing, MayCome, IsAt, Stood, st
 ghost use Rattle.rawk_machine.specs.Asked.{AskedBy, Unstood};
 ghost use Rattle.rawk_travel.specs.Asking.{Draws};
 
-use crate::arrival::{site_at, step};
-use crate::back::{drop_newest, go_back, write_copy};
-use crate::journal::journaled;
 use crate::last_move::LastMove;
-use crate::start::{copy_settings, fill_first};
 use crate::step::Step;
 use rawk_code::{Code, SetAt, Settings};
 use rawk_history::{Keeper, Off, saved_in_groups};
 use rawk_patterns::Expressions;
+use rawk_steps::arrival::{site_at, step};
+use rawk_steps::back::{drop_newest, go_back, write_copy};
+use rawk_steps::journal::journaled;
+use rawk_steps::start::{copy_settings, fill_first};
 use rawk_store::{Ending, Group, Phase, Registers, Store, Target};
 use rawk_tape::{Source, Tape};
 use rawk_travel::count::Count;

@@ -3,7 +3,7 @@ use Rattle.std.proofs.lemmas.List.{drop_more}
 use Rattle.rawk_store.specs.Groups.{Group}
 use Rattle.rawk_store.specs.Back.{back}
 use Rattle.rawk_store.specs.BackLaws.{length-back}
-use Rattle.rawk_machine.specs.Kept.{globals_forth}
+use Rattle.rawk_steps.specs.Leading.{globals_forth}
 use Rattle.rawk_machine.proofs.earlier.led_through.Goals as goal
 
 pub loop-group-preserved : goal.loop-group-preserved

@@ -1,7 +1,7 @@
 use Rattle.std.proofs.Common.{◌≡◌, ◌<◌, List, length, drop, slice_get}
 use Rattle.std.specs.Prelude.{option_copied}
 use Rattle.rawk_value.specs.declared.value.Value.{Value}
-use Rattle.rawk_machine.specs.Kept.{globals_forth}
+use Rattle.rawk_steps.specs.Leading.{globals_forth}
 use Rattle.rawk_machine.proofs.earlier.led_through.Given as goal
 
 abbrev pub invariant-loop-group : goal.invariant-loop-group

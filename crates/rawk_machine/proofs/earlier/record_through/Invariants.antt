@@ -1,7 +1,7 @@
 use Rattle.std.proofs.Common.{◌≡◌, drop}
 use Rattle.std.specs.Prelude.{option_copied}
 use Rattle.rawk_record.specs.Shown.{Shown, record_back}
-use Rattle.rawk_machine.specs.Kept.{record_forth}
+use Rattle.rawk_steps.specs.Leading.{record_forth}
 use Rattle.rawk_machine.proofs.earlier.record_through.Given as goal
 
 abbrev pub invariant-loop-group : goal.invariant-loop-group

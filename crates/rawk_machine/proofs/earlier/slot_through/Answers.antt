@@ -3,7 +3,7 @@ use Rattle.std.proofs.lemmas.List.{drop_more}
 use Rattle.rawk_store.specs.declared.others.Others.{Others}
 use Rattle.rawk_store.specs.Groups.{Group}
 use Rattle.rawk_store.specs.GroupBack.{arrays_in}
-use Rattle.rawk_machine.specs.Kept.{arrays_forth}
+use Rattle.rawk_steps.specs.Leading.{arrays_forth}
 use Rattle.rawk_machine.proofs.Befores.{size_in}
 use Rattle.rawk_machine.proofs.earlier.slot_through.Goals as goal
 

@@ -1,7 +1,7 @@
 use Rattle.std.proofs.Common.{◌≡◌, ◌<◌, length, drop, slice_get}
 use Rattle.std.specs.Prelude.{option_copied}
 use Rattle.rawk_arrays.specs.Laid.{Laid}
-use Rattle.rawk_machine.specs.Kept.{arrays_forth}
+use Rattle.rawk_steps.specs.Leading.{arrays_forth}
 use Rattle.rawk_machine.proofs.earlier.slot_through.Given as goal
 
 abbrev pub invariant-loop-group : goal.invariant-loop-group

@@ -4,7 +4,7 @@ use Rattle.rawk_store.specs.Observed.{Observed}
 use Rattle.rawk_store.specs.State.{State}
 use Rattle.rawk_store.specs.Layout.{Layout, state}
 use Rattle.rawk_store.specs.Stores.{now_of}
-use Rattle.rawk_machine.specs.Arrival.{ends_quietly}
+use Rattle.rawk_steps.specs.Arrival.{ends_quietly}
 use Rattle.rawk_machine.specs.Standing.{Standing}
 use Rattle.rawk_machine.specs.Kept.{before_of}
 use Rattle.rawk_machine.specs.Last.{last_of}

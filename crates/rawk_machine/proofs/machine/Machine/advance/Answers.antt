@@ -9,7 +9,7 @@ use Rattle.rawk_machine.specs.Last.{Last, On, last_of}
 use Rattle.rawk_machine.specs.Standing.{Standing, Moment, Past, IsAt, StandsAt, MovesOn, ground_of, given_of, moment_of}
 use Rattle.rawk_machine.specs.Kept.{IsPlaced, unsets, pasts, before_of, Chain, Few, LastFits}
 use Rattle.rawk_machine.specs.Stood.{standing_of, IsBelow}
-use Rattle.rawk_machine.specs.Arrival.{ends_quietly}
+use Rattle.rawk_steps.specs.Arrival.{ends_quietly}
 use Rattle.rawk_machine.proofs.SetLists.{none_at, ends_below}
 use Rattle.rawk_machine.proofs.Chains.{ends_with, fit_here, chain-grown, chain-size, moment-grown, unsets-grown, pasts-grown}
 use Rattle.rawk_machine.proofs.Forths.{before-grown, last_fits-grown}

@@ -12,7 +12,8 @@ use Rattle.rawk_machine.specs.Last.{Back, Last, On, last_of}
 use Rattle.rawk_machine.specs.declared.last_move.LastMove.{LastMove}
 use Rattle.rawk_machine.specs.declared.last_move.LastMove.TheVariants as move
 use Rattle.rawk_machine.specs.Standing.{Standing}
-use Rattle.rawk_machine.specs.Kept.{arrays_forth, before_of, pasts}
+use Rattle.rawk_machine.specs.Kept.{before_of, pasts}
+use Rattle.rawk_steps.specs.Leading.{arrays_forth}
 use Rattle.rawk_machine.proofs.Befores.{index_forth, index_in, laid_before, size_forth, size_in}
 use Rattle.rawk_machine.proofs.EarlierElements.{held_is, none_before, on_arrays, slot_stays}
 use Rattle.rawk_machine.proofs.Forths.{laid_forth, laid_in}

@@ -9,7 +9,8 @@ use Rattle.rawk_machine.specs.declared.last_move.LastMove.{LastMove}
 use Rattle.rawk_machine.specs.declared.last_move.LastMove.TheVariants as move
 use Rattle.rawk_machine.specs.Standing.{Standing}
 use Rattle.rawk_store.specs.Observed.{Observed}
-use Rattle.rawk_machine.specs.Kept.{pasts, globals_forth, before_of}
+use Rattle.rawk_machine.specs.Kept.{pasts, before_of}
+use Rattle.rawk_steps.specs.Leading.{globals_forth}
 use Rattle.rawk_machine.proofs.Befores.{length_before}
 use Rattle.rawk_machine.proofs.machine.Machine.earlier_global.Goals as goal
 

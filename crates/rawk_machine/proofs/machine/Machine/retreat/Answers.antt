@@ -11,9 +11,10 @@ use Rattle.rawk_record.specs.Shown.{record_back}
 use Rattle.rawk_machine.specs.Last.{Back, Last, last_of}
 use Rattle.rawk_machine.specs.declared.last_move.LastMove.TheVariants as move
 use Rattle.rawk_machine.specs.Standing.{Standing, Stood, gone_back}
-use Rattle.rawk_machine.specs.Kept.{below, back_in, newest_first, pasts, arrays_forth, globals_forth, record_forth, Chain, Few, LastFits}
+use Rattle.rawk_machine.specs.Kept.{below, pasts, Chain, Few, LastFits}
+use Rattle.rawk_steps.specs.Leading.{back_in, newest_first, arrays_forth, globals_forth, record_forth}
 use Rattle.rawk_machine.specs.Stood.{standing_of}
-use Rattle.rawk_machine.specs.Arrival.{ends_quietly}
+use Rattle.rawk_steps.specs.Arrival.{ends_quietly}
 use Rattle.rawk_machine.proofs.Chains.{fit_here, own_below}
 use Rattle.rawk_machine.proofs.Journals.{fit_groups, few_less}
 use Rattle.rawk_machine.proofs.Befores.{back_not_on}

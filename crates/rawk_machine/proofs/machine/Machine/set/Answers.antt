@@ -13,8 +13,8 @@ use Rattle.rawk_machine.specs.Last.{Nothing, last_of}
 use Rattle.rawk_machine.specs.Standing.{Standing, Stood, set_made}
 use Rattle.rawk_machine.specs.Kept.{IsPlaced, Chain}
 use Rattle.rawk_machine.specs.Stood.{standing_of, IsBelow}
-use Rattle.rawk_machine.specs.Written.{StandsBehind, WrittenOr}
-use Rattle.rawk_machine.specs.Arrival.{ends_quietly}
+use Rattle.rawk_steps.specs.Written.{StandsBehind, WrittenOr}
+use Rattle.rawk_steps.specs.Arrival.{ends_quietly}
 use Rattle.rawk_machine.proofs.Forths.{last_fits-grown}
 use Rattle.rawk_machine.proofs.Chains.{chain_set, chain-grown, placed-grown}
 use Rattle.rawk_machine.proofs.Leads.{set_is, stands_grown}

@@ -9,7 +9,7 @@ use Rattle.rawk_machine.specs.Last.{Nothing, last_of}
 use Rattle.rawk_machine.specs.Standing.{Standing, Stood, taken_back}
 use Rattle.rawk_machine.specs.Kept.{but_last, unsets, Chain}
 use Rattle.rawk_machine.specs.Stood.{standing_of}
-use Rattle.rawk_machine.specs.Arrival.{ends_quietly}
+use Rattle.rawk_steps.specs.Arrival.{ends_quietly}
 use Rattle.rawk_machine.proofs.Chains.{fit_here, chain_unset}
 use Rattle.rawk_machine.proofs.Leads.{taken_is}
 use Rattle.rawk_machine.proofs.Stands.{come_either, stood_unset}

@@ -1,0 +1,5 @@
+pub mod Points
+pub mod Arrival
+pub mod Leading
+pub mod Closing
+pub mod Written

@@ -1,0 +1,134 @@
+//! One step, up to a point that is entered or up to the end.
+
+ghost use Rattle.std.specs.Prelude.{◌≡◌, ◌<◌, ◌≤◌, ◌+◌, ◌^◌, List, None, Some, length, IfOk, OnOk, OnErr};
+ghost use Rattle.rawk_tape.specs.Records.{Input};
+ghost use Rattle.rawk_tape.specs.Tapes.{MayBe};
+ghost use Rattle.rawk_tape.specs.declared.source.Ending.{Ending as End};
+ghost use Rattle.rawk_store.specs.Layout.{Grown, IsSound};
+ghost use Rattle.rawk_store.specs.Stores.{BeganNested, now_of, start_of};
+ghost use Rattle.rawk_travel.specs.Travel.{HasRoom};
+ghost use Rattle.rawk_travel.specs.Asking.{Asks, Draws};
+ghost use Rattle.rawk_operands.specs.Moving.{moving};
+ghost use Rattle.rawk_steps.specs.Arrival.{settled, site_by, with_registers, Arrives, ends_quietly, EndsByRead, IsSettled};
+
+use rawk_code::Code;
+use rawk_patterns::Expressions;
+use rawk_store::{Ending, Store};
+use rawk_tape::{Source, Tape};
+use rawk_travel::count::Count;
+use rawk_travel::travel::{Next, travel};
+use std::alloc::{AllocError, Global};
+
+/// The site at an ending.
+pub fn site_at(ending: Ending, site: Option<usize>) -> Option<usize>
+    ensures { result ≡ site_by ending site }
+{
+    match ending {
+        Ending::Ended => None,
+        Ending::Faulted(_) => site,
+        Ending::Limited(before) => before,
+    }
+}
+
+/// Enters the point number `count`, or ends the run there at the limit of steps; or ends it where instructions led to the end.
+#[inline]
+fn settle(store: &mut Store, to: Next, count: u64, limit: u64)
+    requires { HasRoom to store.old.registers.now.place }
+    ensures did { moving store.new ≡ with_registers (settled to count limit store.old.registers.now) (moving store.old) }
+    ensures start { start_of store.new ≡ start_of store.old }
+{
+    match to {
+        Next::On => {}
+        Next::Over(ending) => {
+            store.registers.now.ending = Some(ending);
+        }
+        Next::Arrive(site) => {
+            if count == limit {
+                store.registers.now.ending = Some(Ending::Limited(site));
+            } else {
+                store.registers.now.site = site;
+                store.registers.now.here = count;
+                store.registers.now.place += 1;
+            }
+        }
+    }
+}
+
+/// One step, which is left open: instructions up to the point number `count`, which is entered, or up to the end. Where
+/// memory is refused, the parts are put back as they were; bytes may be read ahead then.
+#[inline(always)]
+pub fn step<R: Source + Drop>(
+    alloc: Global,
+    expressions: &mut Expressions,
+    code: &Code,
+    store: &mut Store,
+    tape: &mut Tape<R>,
+    executed: &mut Count,
+    count: u64,
+    limit: u64,
+) -> Result<(), AllocError>
+    requires rest { start_of store.old ≡ now_of store.old }
+    requires running { store.old.registers.now.ending ≡ None }
+    requires consumed { tape.old.consumed ≡ store.old.registers.now.consumed }
+    ensures may { (kept : Input) → MayBe R.may_give tape.new kept → MayBe R.may_give tape.old kept }
+    ensures did { OnOk result (Arrives R.may_give code.now tape.new count limit (moving store.old) (moving store.new)) }
+    ensures settled { OnOk result (IsSettled count limit store.new.registers.now) }
+    ensures start { OnOk result (Grown (now_of store.old) (start_of store.new)) }
+    ensures nested { OnOk result (BeganNested store.new) }
+    ensures grown { OnErr result (Grown (now_of store.old) (now_of store.new)) }
+    ensures rest { OnErr result (start_of store.new ≡ now_of store.new) }
+    ensures sound { OnErr result (IsSound (now_of store.new)) }
+    ensures consumed { tape.new.consumed ≡ store.new.registers.now.consumed }
+    ensures asks { Asks R.may_give code.now tape.old.bytes tape.new (moving store.old) }
+    ensures draws { Draws R.over R.handed tape.old tape.new }
+    ensures quiet { OnOk result (ends_quietly store.new.registers.now.ending) }
+    ensures failed { OnOk result (EndsByRead store.new.registers.now.ending (R.over tape.new.source ≡ Some End.Failed)) }
+    ensures counted { executed.old ≤ executed.new }
+    ensures risen { executed.old + 1 < 2 ^ 128 → executed.old < executed.new }
+{
+    let consumed = tape.consumed();
+    store.known();
+    match travel::<R, true>(alloc, expressions, code, store, tape, executed) {
+        Ok(to) => {
+            settle(store, to, count, limit);
+            Ok(())
+        }
+        Err(refused) => {
+            store.undo_step();
+            tape.consume(consumed);
+            Err(refused)
+        }
+    }
+}
+
+/// The same of a run that keeps nothing: no old value is saved, and where memory is refused the parts are of no more use.
+#[inline(always)]
+pub fn pace<R: Source + Drop>(
+    alloc: Global,
+    expressions: &mut Expressions,
+    code: &Code,
+    store: &mut Store,
+    tape: &mut Tape<R>,
+    executed: &mut Count,
+    count: u64,
+    limit: u64,
+) -> Result<(), AllocError>
+    requires running { store.old.registers.now.ending ≡ None }
+    requires consumed { tape.old.consumed ≡ store.old.registers.now.consumed }
+    ensures may { (kept : Input) → MayBe R.may_give tape.new kept → MayBe R.may_give tape.old kept }
+    ensures did { OnOk result (Arrives R.may_give code.now tape.new count limit (moving store.old) (moving store.new)) }
+    ensures settled { OnOk result (IsSettled count limit store.new.registers.now) }
+    ensures consumed { OnOk result (tape.new.consumed ≡ store.new.registers.now.consumed) }
+    ensures asks { Asks R.may_give code.now tape.old.bytes tape.new (moving store.old) }
+    ensures draws { Draws R.over R.handed tape.old tape.new }
+    ensures quiet { OnOk result (ends_quietly store.new.registers.now.ending) }
+    ensures failed { OnOk result (EndsByRead store.new.registers.now.ending (R.over tape.new.source ≡ Some End.Failed)) }
+{
+    match travel::<R, false>(alloc, expressions, code, store, tape, executed) {
+        Ok(to) => {
+            settle(store, to, count, limit);
+            Ok(())
+        }
+        Err(refused) => Err(refused),
+    }
+}
