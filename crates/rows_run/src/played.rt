@@ -5,14 +5,16 @@
 //! many bytes; `@source fails N`, `@sink fails N`: the source or the sink fails behind so many bytes; `@sink fails everywhere`: the
 //! case is asked with a sink that fails behind each count of bytes below those that it writes.
 //!
+//! A session is held twice: with commands that are read, in pieces as the input is, and with the same in memory. Where these differ, both answers are given.
+//!
 //! The answer is what the sink took, and in parentheses the line for the standard error, if there is one, the status, the point
 //! of a run, and how many bytes the source handed out; or the first line of the refusal of the words.
 
-ghost use Rattle.std.specs.Prelude.{◌≡◌, None};
+ghost use Rattle.std.specs.Prelude.{◌≡◌, IfOk, None};
 
 use rawk::{
-    BytesSink, BytesSource, Finished, Invocation, Report, S, Settings, Text, debug_with, run,
-    settings_of,
+    BytesSink, BytesSource, Finished, Invocation, Report, S, Settings, Text, debug_from,
+    debug_with, run, settings_of,
 };
 use rows_cases::setting_of;
 use std::alloc::{AllocError, Global};
@@ -112,9 +114,40 @@ fn answer(alloc: Global, plan: &Plan<'_>) -> Result<Vec<u8>, AllocError> {
     text
 }
 
-/// What one run or session answers.
+/// From where a session has its commands.
+#[derive(Clone, Copy)]
+enum Commands {
+    Read,
+    InMemory,
+}
+
+/// What one run or session answers; a session that answers another thing by commands in memory answers both.
 fn once(alloc: Global, plan: &Plan<'_>, invocation: &Invocation) -> Result<Vec<u8>, AllocError> {
-    let played = play(alloc, plan, invocation, plan.sink_fails)?;
+    let mut text = answer_by(alloc, plan, invocation, Commands::Read)?;
+    if plan.commands.is_some() {
+        let other = answer_by(alloc, plan, invocation, Commands::InMemory)?;
+        push_other(&mut text, &other)?;
+    }
+    Ok(text)
+}
+
+/// Adds another answer, where it is one.
+fn push_other(text: &mut Vec<u8>, other: &[u8]) -> Result<(), AllocError> {
+    if text.as_slice() == other {
+        return Ok(());
+    }
+    text.extend_from_slice(b"\nby commands in memory: ")?;
+    text.extend_from_slice(other)
+}
+
+/// What one run answers, or one session by these commands.
+fn answer_by(
+    alloc: Global,
+    plan: &Plan<'_>,
+    invocation: &Invocation,
+    commands: Commands,
+) -> Result<Vec<u8>, AllocError> {
+    let played = play(alloc, plan, invocation, commands, plan.sink_fails)?;
     let text = told(alloc, &played);
     drop(played);
     text
@@ -142,18 +175,31 @@ fn play(
     alloc: Global,
     plan: &Plan<'_>,
     invocation: &Invocation,
+    commands: Commands,
     sink_fails: Option<usize>,
 ) -> Result<Played, AllocError> {
-    let cuts = cuts_of(alloc, plan)?;
-    let bytes = Vec::from_slice(alloc, plan.input)?;
-    let mut source = BytesSource::new(bytes, cuts, plan.source_fails);
+    let mut source = source_of(alloc, plan.input, plan.piece, plan.source_fails)?;
     let mut sink = BytesSink::new(alloc, sink_fails);
-    let report = reported(alloc, plan, invocation, &mut source, &mut sink);
+    let report = reported(alloc, plan, invocation, commands, &mut source, &mut sink)?;
     let handed = source.handed();
     drop(source);
     let played = played_of(alloc, &report, sink.bytes(), handed);
     drop(sink);
     played
+}
+
+/// A source of these bytes, in pieces of one size where there is one, that fails behind so many bytes, where it does.
+fn source_of(
+    alloc: Global,
+    bytes: &[u8],
+    piece: Option<usize>,
+    fails: Option<usize>,
+) -> Result<BytesSource, AllocError>
+    ensures { IfOk result (λ source. source.over ≡ None) }
+{
+    let cuts = cuts_of(alloc, bytes.len(), piece)?;
+    let bytes = Vec::from_slice(alloc, bytes)?;
+    Ok(BytesSource::new(bytes, cuts, fails))
 }
 
 /// What came of a run or a session, by its report, what the sink took and how many bytes the source handed out.
@@ -173,56 +219,59 @@ fn played_of(
     })
 }
 
-/// The cuts of an input in pieces of one size.
-fn cuts_of(alloc: Global, plan: &Plan<'_>) -> Result<Vec<usize>, AllocError> {
+/// The cuts of so many bytes in pieces of one size, where there is one.
+fn cuts_of(alloc: Global, size: usize, piece: Option<usize>) -> Result<Vec<usize>, AllocError> {
     let mut cuts = Vec::new(alloc);
-    if let Some(piece) = plan.piece {
-        for _ in 0..plan.input.len() {
+    if let Some(piece) = piece {
+        for _ in 0..size {
             cuts.push(piece)?;
         }
     }
     Ok(cuts)
 }
 
-/// The report of a run or a session.
+/// The text of the program.
+fn program_of(invocation: &Invocation) -> &[u8] {
+    match &invocation.program {
+        Text::Bytes(bytes) => bytes.as_slice(),
+        _ => &[],
+    }
+}
+
+/// The report of a run, or of a session by these commands.
 fn reported(
     alloc: Global,
     plan: &Plan<'_>,
     invocation: &Invocation,
+    commands: Commands,
     source: &mut BytesSource,
     sink: &mut BytesSink,
-) -> Report
+) -> Result<Report, AllocError>
     requires { source.old.over ≡ None }
 {
-    let program: &[u8] = match &invocation.program {
-        Text::Bytes(bytes) => bytes.as_slice(),
-        _ => &[],
+    let program = program_of(invocation);
+    let settings = &plan.settings;
+    let steps = invocation.steps;
+    let history = invocation.history;
+    let Some(lines) = plan.commands else {
+        return Ok(run(alloc, settings, program, source, sink, steps));
     };
-    match plan.commands {
-        Some(commands) => {
-            let finished = debug_with(
-                alloc,
-                &plan.settings,
-                program,
-                source,
-                commands,
-                sink,
-                invocation.steps,
-                invocation.history,
+    let finished = match commands {
+        Commands::Read => {
+            let mut lines = source_of(alloc, lines, plan.piece, None)?;
+            let finished = debug_from(
+                alloc, settings, program, source, &mut lines, sink, steps, history,
             );
-            let Finished { report, source } = finished;
-            drop(source);
-            report
+            drop(lines);
+            finished
         }
-        None => run(
-            alloc,
-            &plan.settings,
-            program,
-            source,
-            sink,
-            invocation.steps,
+        Commands::InMemory => debug_with(
+            alloc, settings, program, source, lines, sink, steps, history,
         ),
-    }
+    };
+    let Finished { report, source } = finished;
+    drop(source);
+    Ok(report)
 }
 
 /// What was written, and how it ended.
@@ -257,7 +306,7 @@ fn beginnings(
     plan: &Plan<'_>,
     invocation: &Invocation,
 ) -> Result<Vec<u8>, AllocError> {
-    let whole = play(alloc, plan, invocation, None)?;
+    let whole = play(alloc, plan, invocation, Commands::Read, None)?;
     let text = beginnings_of(alloc, plan, invocation, whole.written.as_slice());
     drop(whole);
     Ok(text?.into_bytes())
@@ -271,7 +320,7 @@ fn beginnings_of(
     written: &[u8],
 ) -> Result<String, AllocError> {
     for place in 0..written.len() {
-        let cut = play(alloc, plan, invocation, Some(place))?;
+        let cut = play(alloc, plan, invocation, Commands::Read, Some(place))?;
         let is_well = cut.written.as_slice() == &written[..place] && is_write_failed(&cut);
         drop(cut);
         if !is_well {
