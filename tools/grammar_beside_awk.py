@@ -1,5 +1,5 @@
 #!/usr/bin/env python3
-"""Holds the trees of crates/rows, in its section of texts, against the code that mawk makes of the same texts.
+"""Holds the trees of crates/rows, in its file of texts, against the code that mawk makes of the same texts.
 
 Each tree is written back as a text in which every operation has its parentheses; both texts must be the same code to mawk. It
 prints the rows where they are not, and those that are refused here by the grammar or by mawk alone. docs/DECISIONS.md says why.

@@ -10,7 +10,7 @@ import subprocess
 import sys
 
 AWK = sys.argv[1:] or ["gawk", "--posix"]
-ROWS = os.path.join(os.path.dirname(os.path.abspath(__file__)), "..", "crates", "rows", "stdin")
+ROWS = os.path.join(os.path.dirname(os.path.abspath(__file__)), "..", "crates", "rows", "data")
 LEAST = "-9223372036854775808"
 
 
@@ -37,16 +37,10 @@ def unescaped(text):
     return out
 
 
-def lines_of(section):
-    """The lines of a section of the rows, with their numbers."""
-    with open(ROWS, encoding="utf-8") as file:
-        name = ""
-        for number, line in enumerate(file, 1):
-            name = name or line.strip("#\n ")
-            if line == "\f\n":
-                name = ""
-            elif name == section:
-                yield number, line
+def lines_of(kind):
+    """The lines of the rows of a kind, with their numbers."""
+    with open(os.path.join(ROWS, kind), encoding="utf-8") as file:
+        yield from enumerate(file, 1)
 
 
 def rows(words):

@@ -169,9 +169,9 @@ impl Reader {
         Ok(())
     }
 
-    /// Reads all lines of a text that stands behind so many others.
-    fn read_all(&mut self, alloc: Global, text: &str, above: usize) -> Result<(), AllocError> {
-        let mut number = above;
+    /// Reads all lines of a text.
+    fn read_all(&mut self, alloc: Global, text: &str) -> Result<(), AllocError> {
+        let mut number = 0usize;
         for line in text.lines() {
             number = number.saturating_add(1);
             self.read(alloc, line, number)?;
@@ -196,13 +196,13 @@ fn case_of(alloc: Global, head: &str, answer: &str, line: usize) -> Result<Case,
     Ok(case)
 }
 
-/// All cases of a text, in their order; `above` is how many lines stand before it.
-pub fn cases_of(alloc: Global, text: &str, above: usize) -> Result<Vec<Case>, AllocError> {
+/// All cases of a text, in their order.
+pub fn cases_of(alloc: Global, text: &str) -> Result<Vec<Case>, AllocError> {
     let mut reader = Reader {
         cases: Vec::new(alloc),
         open: None,
     };
-    reader.read_all(alloc, text, above)?;
+    reader.read_all(alloc, text)?;
     let Reader { cases, .. } = reader;
     Ok(cases)
 }
