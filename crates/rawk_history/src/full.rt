@@ -373,9 +373,10 @@ fn finish_behind(
     ensures same_others { OnErr result (others.new.items ≡ others.old.items) }
     ensures same_records { OnErr result (records.new.items ≡ records.old.items) }
 {
+    let room = store.rare_room(alloc)?;
     store.globals.finish_into(globals, count)?;
     Ok(Rest {
-        has_others: add_if(others, store.finish_others(alloc)),
+        has_others: add_if(others, store.finish_others(alloc, room)),
         has_record: add_if(records, store.current.finish(alloc)),
         output: store.output.finish(),
         registers: store.registers.finish(),

@@ -1,7 +1,10 @@
 -- What a step changed, and the way back.
 use Rattle.std.specs.Prelude.{◌≡◌, ◌≤◌, Bool, List, length, take, Option, None, Some}
+use Rattle.std.specs.Global.{Box}
 use Rattle.rawk_value.specs.declared.value.Value.{Value}
 use Rattle.rawk_store.specs.declared.others.Others.{Others}
+use Rattle.rawk_store.specs.declared.others.RareGroup.{RareGroup}
+use Rattle.rawk_store.specs.declared.store.Store.{Store}
 use Rattle.rawk_store.specs.Groups.{Group}
 use Rattle.rawk_slots.specs.Back.{back, AreBelow}
 use Rattle.rawk_slots.specs.Stacked.{Stacked}
@@ -24,13 +27,21 @@ abbrev pub frames_in : LaidFrames → Option Others → LaidFrames
 frames_in l None = l
 frames_in l (Some o) = frames_back l o.frames
 
+abbrev pub rare_keys : LaidKeys → Option (Box RareGroup) → LaidKeys
+rare_keys l None = l
+rare_keys l (Some r) = keys_back l r.value.keys
+
+abbrev pub rare_ranges : List Bool → Option (Box RareGroup) → List Bool
+rare_ranges l None = l
+rare_ranges l (Some r) = back l r.value.ranges.entries.items
+
 abbrev pub keys_in : LaidKeys → Option Others → LaidKeys
 keys_in l None = l
-keys_in l (Some o) = keys_back l o.keys
+keys_in l (Some o) = rare_keys l o.rare
 
 abbrev pub ranges_in : List Bool → Option Others → List Bool
 ranges_in l None = l
-ranges_in l (Some o) = back l o.ranges.entries.items
+ranges_in l (Some o) = rare_ranges l o.rare
 
 abbrev pub operands_in : Stacked Value → Option Others → Stacked Value
 operands_in l None = l
@@ -55,13 +66,17 @@ abbrev pub ArraysFit : Option Others → Laid → Type 0
 ArraysFit None l = Unit {0}
 ArraysFit (Some o) l = FitsArrays o.arrays l
 
+-- each place of the rarest parts is one of the layout
+abbrev pub RareFit : Option (Box RareGroup) → Layout → Type 0
+RareFit None l = Unit {0}
+RareFit (Some r) l = FitsKeys r.value.keys l.keys × AreBelow (length l.ranges) r.value.ranges.entries.items
+
 -- each place of these parts is one of the layout
 pub record OthersFit (o : Others) (l : Layout) : Type 0 where
   pub arrays : FitsArrays o.arrays l.arrays
   pub frames : FitsFrames o.frames l.frames
-  pub keys : FitsKeys o.keys l.keys
-  pub ranges : AreBelow (length l.ranges) o.ranges.entries.items
   pub operands : FitsStack o.operands l.operands
+  pub rare : RareFit o.rare l
 
 abbrev pub FitsOthers : Option Others → Layout → Type 0
 FitsOthers None l = Unit {0}
@@ -88,6 +103,16 @@ pub record OthersLead (o : Option Others) (now start : Layout) : Type 0 where
   pub keys : keys_in now.keys o ≡ start.keys
   pub ranges : ranges_in now.ranges o ≡ start.ranges
   pub operands : operands_in now.operands o ≡ start.operands
+
+-- what was saved of the rarest parts leads back to how they stood when the step began
+pub record RareLeads (r : Option (Box RareGroup)) (s : Store) : Type 0 where
+  pub keys : rare_keys s.keys.now r ≡ s.keys.start
+  pub ranges : rare_ranges s.ranges.now r ≡ s.ranges.start
+
+-- there is room for what the step changed in the rarest parts, or it changed nothing there
+pub record HasRoom (room : Option (Box RareGroup)) (s : Store) : Type 0 where
+  pub keys : room ≡ None → s.keys.start ≡ s.keys.now
+  pub ranges : room ≡ None → s.ranges.start ≡ s.ranges.now
 
 -- each place of the group is one of the layout
 pub record FitsIn (group : Group) (l : Layout) : Type 0 where

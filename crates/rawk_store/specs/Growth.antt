@@ -1,6 +1,7 @@
 -- Slots that were added and that no program sees change no state, and putting back works over them.
 use Rattle.std.specs.Prelude.{◌≡◌, Bool, List, length, take, refl, Option, None, Some}
 use Rattle.std.specs.Bool.{OnTrue}
+use Rattle.std.specs.Global.{Box}
 use Rattle.std.proofs.Common.{sym, ap, ◌∙◌, subst}
 use Rattle.rawk_slots.specs.Saving.{OnTrue-any, OnTrue-map, OnTrue-both}
 use Rattle.rawk_value.specs.Values.{Bytes}
@@ -13,15 +14,16 @@ use Rattle.rawk_arrays.specs.Laid.{Laid, GrownArrays, arrays_of}
 use Rattle.rawk_arrays.specs.ArraysLaws.{arrays_of-grown, GrownArrays-refl, GrownArrays-trans, GrownArrays-back, FitsArrays-grown, IsLaid-back}
 use Rattle.rawk_frames.specs.Frame.{Frame}
 use Rattle.rawk_frames.specs.LaidFrames.{LaidFrames, AreNested, GrownFrames, frames_of}
-use Rattle.rawk_frames.specs.LaidKeys.{GrownKeys}
+use Rattle.rawk_frames.specs.LaidKeys.{AreKeysLive, GrownKeys}
 use Rattle.rawk_frames.specs.FramesLaws.{frames_of-grown, keys_of-grown, GrownFrames-refl, GrownFrames-trans, GrownFrames-back, GrownKeys-refl, GrownKeys-trans, GrownKeys-back, FitsFrames-grown, FitsKeys-grown, AreFramesLive-back, AreKeysLive-back, AreNested-grown}
 use Rattle.rawk_record.specs.Shown.{Shown, record_back}
 use Rattle.rawk_store.specs.declared.registers.Registers.{Registers}
 use Rattle.rawk_store.specs.declared.others.Others.{Others}
+use Rattle.rawk_store.specs.declared.others.RareGroup.{RareGroup}
 use Rattle.rawk_store.specs.Groups.{Group}
 use Rattle.rawk_store.specs.State.{State}
 use Rattle.rawk_store.specs.Layout.{Layout, Grown, IsSound, keys, operands, state}
-use Rattle.rawk_store.specs.GroupBack.{FitsIn, FitsOthers, arrays_in, frames_in, keys_in, operands_in, others_put, put_back, ranges_in}
+use Rattle.rawk_store.specs.GroupBack.{FitsIn, FitsOthers, RareFit, rare_keys, arrays_in, frames_in, keys_in, operands_in, others_put, put_back, ranges_in}
 
 pub Grown-refl : (l : Layout) → Grown l l
 Grown-refl l = record {
@@ -164,9 +166,13 @@ frames_in-grown : (l m : Layout) (o : Option Others) → Grown l m → FitsOther
 frames_in-grown l m None g h = g.frames
 frames_in-grown l m (Some o) g h = GrownFrames-back l.frames m.frames o.frames g.frames h.frames
 
+rare_keys-grown : (l m : Layout) (r : Option (Box RareGroup)) → Grown l m → RareFit r l → GrownKeys (rare_keys l.keys r) (rare_keys m.keys r)
+rare_keys-grown l m None g h = g.keys
+rare_keys-grown l m (Some r) g h = GrownKeys-back l.keys m.keys r.value.keys g.keys h.0
+
 keys_in-grown : (l m : Layout) (o : Option Others) → Grown l m → FitsOthers o l → GrownKeys (keys_in l.keys o) (keys_in m.keys o)
 keys_in-grown l m None g h = g.keys
-keys_in-grown l m (Some o) g h = GrownKeys-back l.keys m.keys o.keys g.keys h.keys
+keys_in-grown l m (Some o) g h = rare_keys-grown l m o.rare g h.rare
 
 operands_in-grown : (l m : Layout) (o : Option Others) → Grown l m → FitsOthers o l → GrownStack (operands_in l.operands o) (operands_in m.operands o)
 operands_in-grown l m None g h = g.operands
@@ -186,14 +192,17 @@ Grown-put_back l m group g h = record {
   registers = refl;
 }
 
+RareFit-grown : (l m : Layout) (r : Option (Box RareGroup)) → Grown l m → RareFit r l → RareFit r m
+RareFit-grown l m None g h = tt
+RareFit-grown l m (Some r) g h = (FitsKeys-grown l.keys m.keys r.value.keys g.keys h.0, subst (λ (xs : List Bool). AreBelow (length xs) r.value.ranges.entries.items) (sym g.ranges) h.1)
+
 FitsOthers-grown : (l m : Layout) (o : Option Others) → Grown l m → FitsOthers o l → FitsOthers o m
 FitsOthers-grown l m None g h = tt
 FitsOthers-grown l m (Some o) g h = record {
   arrays = FitsArrays-grown l.arrays m.arrays o.arrays g.arrays h.arrays;
   frames = FitsFrames-grown l.frames m.frames o.frames g.frames h.frames;
-  keys = FitsKeys-grown l.keys m.keys o.keys g.keys h.keys;
-  ranges = subst (λ (xs : List Bool). AreBelow (length xs) o.ranges.entries.items) (sym g.ranges) h.ranges;
   operands = FitsStack-over l.operands m.operands o.operands g.operands h.operands;
+  rare = RareFit-grown l m o.rare g h.rare;
 }
 
 pub FitsIn-grown : (l m : Layout) (group : Group) → Grown l m → FitsIn group l → FitsIn group m
@@ -203,13 +212,17 @@ FitsIn-grown l m group g h = record {
   output = rw g.output h.output;
 }
 
+rare_live : (l : Layout) (r : Option (Box RareGroup)) → RareFit r l → AreKeysLive l.keys → AreKeysLive (rare_keys l.keys r)
+rare_live l None h s = s
+rare_live l (Some r) h s = AreKeysLive-back l.keys r.value.keys h.0
+
 IsSound-others : (l : Layout) (o : Option Others) → FitsOthers o l → IsSound l → IsSound (others_put l o)
 IsSound-others l None h s = record { arrays = s.arrays; frames = s.frames; nested = s.nested; keys = s.keys; operands = s.operands }
 IsSound-others l (Some o) h s = record {
   arrays = IsLaid-back l.arrays o.arrays s.arrays;
   frames = AreFramesLive-back l.frames o.frames h.frames;
   nested = h.frames.nested;
-  keys = AreKeysLive-back l.keys o.keys h.keys;
+  keys = rare_live l o.rare h.rare s.keys;
   operands = IsLive-stack_back l.operands o.operands h.operands;
 }
 

@@ -1,7 +1,6 @@
 -- The parts of a store, as one layout.
 use Rattle.std.specs.Prelude.{◌≡◌, []}
 use Rattle.rawk_store.specs.declared.store.Store.{Store}
-use Rattle.rawk_store.specs.declared.registers.Bank.{Bank}
 use Rattle.rawk_store.specs.declared.registers.Registers.{Registers}
 use Rattle.rawk_slots.specs.Stacked.{empty_stack}
 use Rattle.rawk_arrays.specs.Laid.{no_arrays}

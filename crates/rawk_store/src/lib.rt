@@ -16,7 +16,7 @@ pub use assign::array_number;
 pub use current::Current;
 pub use group::Group;
 pub use numbering::field_number;
-pub use others::{OperandsGroup, Others};
+pub use others::{OperandsGroup, Others, RareGroup};
 pub use output::Output;
 pub use rawk_arrays::{Arrays, ArraysGroup};
 pub use rawk_cells::Cells;

@@ -7,11 +7,13 @@ ghost use Rattle.rawk_slots.specs.Back.{back};
 ghost use Rattle.rawk_store.specs.Layout.{IsSound, state};
 ghost use Rattle.rawk_store.specs.Saving.{SavesOnce};
 ghost use Rattle.rawk_store.specs.Stores.{BeganNested, IsNew, IsPlainStep, now_of, others_rested, start_of};
-ghost use Rattle.rawk_store.specs.GroupBack.{ArraysFit, FitsIn, FitsOthers, OthersLead, arrays_in, others_put, put_back};
+ghost use Rattle.rawk_store.specs.GroupBack.{ArraysFit, FitsIn, FitsOthers, HasRoom, OthersLead, RareFit, RareLeads, arrays_in, others_put, put_back, rare_keys, rare_ranges};
+ghost use Rattle.rawk_slots.specs.Journaled.{at_rest};
+ghost use Rattle.rawk_frames.specs.LaidKeys.{AreKeysLive};
 
 use crate::current::Current;
 use crate::group::Group;
-use crate::others::Others;
+use crate::others::{Others, RareGroup};
 use crate::output::Output;
 use crate::registers::{Bank, Registers};
 use rawk_arrays::Arrays;
@@ -69,10 +71,57 @@ impl Store {
             && self.ranges.is_at_rest()
     }
 
-    /// Ends the step in the parts that few steps change, and gives what it changed there, if it changed anything. It takes no memory.
+    /// Room for what the step changed in keys that are left and in ranges, where it changed any of these. It fails where memory is refused.
     #[inline]
-    pub fn finish_others(&mut self, alloc: Global) -> Option<Others>
+    pub fn rare_room(&self, alloc: Global) -> Result<Option<Box<RareGroup>>, AllocError>
+        ensures { IfOk result (λ room. HasRoom room self.now) }
+    {
+        if self.keys.is_at_rest() && self.ranges.is_at_rest() {
+            return Ok(None);
+        }
+        let mut keys = KeysLeft::new(alloc);
+        let mut ranges = Slots::new(alloc);
+        let room = Box::new(
+            alloc,
+            RareGroup {
+                keys: keys.finish(alloc),
+                ranges: ranges.finish(alloc),
+            },
+        )?;
+        Ok(Some(room))
+    }
+
+    /// Ends the step in keys that are left and in ranges, and gives what it changed there, in the room for it; where there is none, nothing was changed. It takes no memory.
+    #[inline]
+    fn finish_rare(&mut self, alloc: Global, room: Option<Box<RareGroup>>) -> Option<Box<RareGroup>>
+        requires { HasRoom room self.old }
+        ensures keys { self.new.keys ≡ at_rest self.old.keys.now }
+        ensures ranges { self.new.ranges ≡ at_rest self.old.ranges.now }
+        ensures others { self.new ≡ record self.old { keys = self.new.keys; ranges = self.new.ranges } }
+        ensures back { RareLeads result self.old }
+        ensures fits { RareFit result (now_of self.old) }
+    {
+        match room {
+            None => {
+                self.keys.forget();
+                self.ranges.forget();
+                None
+            }
+            Some(room) => {
+                let mut room = room;
+                room.keys = self.keys.finish(alloc);
+                room.ranges = self.ranges.finish(alloc);
+                Some(room)
+            }
+        }
+    }
+
+    /// Ends the step in the parts that few steps change, and gives what it changed there, if it changed anything, with room for the rarest where it changed these. It takes no
+    /// memory.
+    #[inline]
+    pub fn finish_others(&mut self, alloc: Global, room: Option<Box<RareGroup>>) -> Option<Others>
         requires nested { BeganNested self.old }
+        requires room { HasRoom room self.old }
         ensures now { now_of self.new ≡ now_of self.old }
         ensures start { start_of self.new ≡ others_rested (now_of self.old) (start_of self.old) }
         ensures back { OthersLead result (now_of self.old) (start_of self.old) }
@@ -86,14 +135,13 @@ impl Store {
         Some(Others {
             arrays: self.arrays.finish(alloc),
             frames: self.frames.finish(alloc),
-            keys: self.keys.finish(alloc),
-            ranges: self.ranges.finish(alloc),
             operands: self.operands.finish(alloc),
+            rare: self.finish_rare(alloc, room),
         })
     }
 
-    /// Ends the step, and gives what it changed, of each global and each element once. It takes memory at most where a text grew in place, and where that is refused nothing
-    /// has changed.
+    /// Ends the step, and gives what it changed, of each global and each element once. It takes memory at most where a text grew in place, or keys
+    /// that are left or ranges have changed, and where that is refused nothing has changed.
     pub fn finish(&mut self, alloc: Global) -> Result<Group, AllocError>
         requires nested { BeganNested self.old }
         ensures now { now_of self.new ≡ now_of self.old }
@@ -105,8 +153,9 @@ impl Store {
         ensures sound { IsSound (now_of self.old) }
     {
         self.known();
+        let room = self.rare_room(alloc)?;
         let globals = self.globals.finish(alloc)?;
-        let others = self.finish_others(alloc);
+        let others = self.finish_others(alloc, room);
         Ok(Group {
             globals,
             others,
@@ -174,6 +223,26 @@ impl Store {
         self.registers.undo_step();
     }
 
+    /// Puts back what a step that ended changed in keys that are left and in ranges, and leaves the newer ones there. It takes no memory and always succeeds.
+    fn undo_rare(&mut self, rare: &mut Option<Box<RareGroup>>)
+        requires { RareFit rare.old (now_of self.old) }
+        ensures keys { self.new.keys ≡ at_rest (rare_keys self.old.keys.now rare.old) }
+        ensures ranges { self.new.ranges ≡ at_rest (rare_ranges self.old.ranges.now rare.old) }
+        ensures others { self.new ≡ record self.old { keys = self.new.keys; ranges = self.new.ranges } }
+        ensures live { AreKeysLive self.new.keys.now }
+    {
+        match rare {
+            None => {
+                self.keys.forget();
+                self.ranges.forget();
+            }
+            Some(group) => {
+                self.keys.undo(&mut group.keys);
+                self.ranges.undo(&mut group.ranges);
+            }
+        }
+    }
+
     /// Puts back what a step that ended changed in the parts that few steps change, and leaves the newer values there. It takes no memory and always succeeds.
     pub fn undo_others(&mut self, others: &mut Option<Others>)
         requires { FitsOthers others.old (now_of self.old) }
@@ -194,9 +263,8 @@ impl Store {
             Some(group) => {
                 self.arrays.undo(&mut group.arrays);
                 self.frames.undo(&mut group.frames);
-                self.keys.undo(&mut group.keys);
-                self.ranges.undo(&mut group.ranges);
                 self.operands.undo(&mut group.operands);
+                self.undo_rare(&mut group.rare);
             }
         }
     }
