@@ -12,7 +12,8 @@ fn main(rt: HostRuntime) -> io::Result<()> {
     for word in env::args(&rt)?.skip(1) {
         match word.as_str() {
             "read" => rows_grammar::read_once(&rt)?,
-            name => judge_file(&rt, name)?,
+            name @ ("runs" | "parts" | "asked" | "texts") => judge_file(&rt, name)?,
+            _ => rt.println("no such cases")?,
         }
     }
     Ok(())
@@ -27,10 +28,9 @@ fn judge_file<R: Files + Print + AllocGlobal>(rt: &R, name: &str) -> io::Result<
         "runs" => judge(rt, &cases, rows_run::outcome),
         "parts" => judge(rt, &cases, rows_parts::outcome),
         "asked" => judge(rt, &cases, rows_asked::outcome),
-        "texts" => {
+        _ => {
             judge(rt, &cases, rows_grammar::outcome)?;
             rows_grammar::cut_texts(rt, &cases)
         }
-        _ => rt.println("no such cases"),
     }
 }
