@@ -60,6 +60,7 @@ SESSIONS = [
     ('{ n[$1]++; x = n["a text longer than a word"] n["b"]; delete n[$1] } END { n["b"] = x "!" }', b"a text longer than a word\nb\n", ["watch n[\"a text longer than a word\"]", "watch n[\"b\"]", "continue", "continue", "print n", "rc", "rs", "set n[\"b\"]=\"another text that is longer\"", "watch n[7]", "step", "rc", "rc", "reverse-set", "unwatch 1", "continue", "rc", "continue", "continue"]),
     ('{ x = $1 ~ r; r = $2 }', b"abc b+\nd (e|f)*g\n", ["continue", "rs", "rs", "set $2=\"a text longer than a word\"", "print $0", "set NF=3", "set $0=\"p:q  r\"", "print $2", "set FS=\":\"", "set $0=\"p:q  r\"", "print $2", "rs", "step", "step", "set r=\"[\"", "continue", "print r", "rc", "continue"]),
     ('BEGIN { s = "a text"; t = s; s = s " longer than a word"; s = s "!"; t = t "?"; print s, t }', b"", ["continue", "print s", "rs", "rs", "print t", "rs", "print s", "step", "print s", "set s=\"another text that is longer\"", "watch s", "continue", "print s", "rc", "continue", "rs", "reverse-set", "rc"]),
+    ('BEGIN { s = "' + "a" * 300 + '"; s = s "b"; t = s; s = s " longer than a word"; s = s "!"; print length(s), length(t) }', b"", ["watch s", "continue", "continue", "continue", "continue", "rc", "rc", "continue", "rs", "rs", "set s=\"x\"", "step", "print s", "rs", "reverse-set", "continue", "continue", "continue", "rc"]),
     ('function f(n) { return n < 1 ? "a text longer than a word" : f(n - 1) } BEGIN { x = f(30); print x }', b"", ["break f", "continue", "continue", "backtrace", "delete 1", "finish", "rs", "rc", "continue", "rc"]),
 ]
 

@@ -4,3 +4,4 @@ mod DialogSoFar
 mod LinesInMemory
 mod Runs
 mod Sessions
+mod Joined

@@ -1,8 +1,10 @@
 //! A machine with its program.
 
-ghost use Rattle.std.specs.Prelude.{◌≡◌, IsTrue, is_some, not, option_copied, option_map, unwrap_or};
+ghost use Rattle.std.specs.Prelude.{◌≡◌, ◌++◌, IsTrue, is_some, not, option_copied, option_map, unwrap_or};
 ghost use Rattle.rawk_value.specs.declared.value.Value.TheVariants.{Uninitialized};
+ghost use Rattle.std.specs.Str.{bytes_eq};
 ghost use Rattle.rawk_record.specs.FieldRefs.{ref_value};
+ghost use Rattle.rawk_store.specs.Lent.{lent};
 ghost use Rattle.rawk_debug.specs.Watching.{same_held, same_value, scalar_at};
 ghost use Rattle.rawk_store.specs.Observed.{seen};
 ghost use Rattle.rawk.specs.Staged.{IsStage, seen_or};
@@ -11,7 +13,7 @@ use rawk_debug::{Call, Scalar, Stepper, Watched};
 use rawk_frames::Local;
 use rawk_history::Keeper;
 use rawk_machine::Machine;
-use rawk_store::{Ending, FieldRef, Target};
+use rawk_store::{Ending, FieldRef, Target, ValueRef};
 use rawk_tape::Source;
 use rawk_tree::Program;
 use rawk_value::{Fault, Value};
@@ -251,16 +253,30 @@ fn same_held(left: Option<&Value>, right: Option<&Value>) -> bool
 }
 
 /// Whether a global has the same value twice; one that is not there is uninitialised.
-fn same_global(left: Option<&Value>, right: Option<&Value>) -> bool
-    ensures { result ≡ same_value (unwrap_or (option_copied left.entry) Uninitialized) (unwrap_or (option_copied right.entry) Uninitialized) }
+fn same_global(left: Option<ValueRef<'_>>, right: Option<&Value>) -> bool
+    ensures { result ≡ same_value (unwrap_or (option_map lent left.entry) Uninitialized) (unwrap_or (option_copied right.entry) Uninitialized) }
 {
     match (left, right) {
-        (Some(left), Some(right)) => same_value(left, right),
-        (Some(Value::Uninitialized), None) => true,
+        (Some(ValueRef::Whole(left)), Some(right)) => same_value(left, right),
+        (Some(ValueRef::Text(front, behind)), Some(Value::String(text))) => {
+            is_joined(front, behind, text.as_slice())
+        }
+        (Some(ValueRef::Whole(Value::Uninitialized)), None) => true,
         (None, Some(Value::Uninitialized)) => true,
         (None, None) => true,
         _ => false,
     }
+}
+
+/// Whether a text is these two side by side.
+fn is_joined(front: &[u8], behind: &[u8], text: &[u8]) -> bool
+    ensures { result ≡ bytes_eq (front.now ++ behind.now) text.now }
+{
+    if text.len() < front.len() {
+        return false;
+    }
+    let (first, rest) = text.split_at(front.len());
+    front == first && behind == rest
 }
 
 /// Whether a field has the same value twice; one past the last is uninitialised.

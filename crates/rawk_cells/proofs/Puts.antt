@@ -1,14 +1,15 @@
 -- Values that are put into a slot and taken out of it again.
 use Rattle.std.proofs.Common.{◌≡◌, ◌≤◌, ◌<◌, ◌+◌, ◌++◌, ◌∙◌, ℕ, List, ap, sym, subst, refl, inl, inr, length, get_or, set, Some, None, Option, take, arith}
 use Rattle.std.specs.Prelude.{slice_get, slice_set, slice_index_or}
-use Rattle.std.proofs.lemmas.List.{set-set, set-get_or, set_past, get_or-set_same, take-append-le, take_all, length-append, length-set}
+use Rattle.std.proofs.lemmas.List.{set-set, set-get_or, set_past, get_or-set_same, take-append-le, take_all, take_at, length-append, length-set}
 use Rattle.std.proofs.lemmas.Option.{get_or_from_slice_get, slice_get_cases}
 use Rattle.rawk_value.specs.declared.value.Value.{Value}
 use Rattle.rawk_value.specs.declared.value.Value.TheVariants.{Uninitialized, String}
 use Rattle.rawk_value.specs.Values.{Bytes, text_of}
 use Rattle.rawk_slots.specs.Journaled.{Journaled, at_rest}
+use Rattle.rawk_cells.specs.declared.cells.Appended.{Appended}
 use Rattle.rawk_cells.specs.declared.cells.Grown.{Grown}
-use Rattle.rawk_cells.specs.Cells.{Grew, GrewAlone, before_growth, longer_at, own_length, shortened}
+use Rattle.rawk_cells.specs.Cells.{Grew, GrewAlone, IsAppended, added_at, before_growth, cut_at, lengthened, longer_at, own_length, shortened}
 
 pub same_set : (xs : List Value) (p : ℕ) (v : Value) → slice_get xs p ≡ Some v → slice_set xs p v ≡ xs
 same_set xs p v h = ap (λ w. slice_set xs p w) (sym (get_or_from_slice_get xs p v v h)) ∙ set-get_or xs p v
@@ -81,3 +82,14 @@ past_from_none xs p h = elim ((slice_get_cases xs p).1) [ inl a ↦ absurd (let 
 -- no global has this number
 pub longer_past : (xs : List Value) (p : ℕ) (more : Bytes) → slice_get xs p ≡ None → longer_at p more xs ≡ xs
 longer_past xs p more h = set_past xs p (String (text_of (slice_index_or xs p Uninitialized) ++ more)) (past_from_none xs p h)
+
+-- what was cut off comes behind the text again
+pub again : (a : Appended) (xs : List Value) → IsAppended a xs → added_at a.place a.more (cut_at a.place a.count xs) ≡ xs
+again a xs h =
+    let p = a.place in
+    let first : List Value = slice_set xs p (String h.front) in
+    let cut : cut_at p a.count xs ≡ first = ap (λ (w : Value). slice_set xs p (shortened a.count w)) h.is ∙ ap (λ (b : Bytes). slice_set xs p (String b)) (take_at h.front a.more a.count h.size) in
+    ap (λ (ys : List Value). added_at p a.more ys) cut
+    ∙ (ap (λ (w : Value). slice_set first p (lengthened a.more w)) (get_or-set_same xs p (String h.front) Uninitialized h.within)
+    ∙ (set-set xs p (String h.front) (String (h.front ++ a.more))
+    ∙ (ap (λ (w : Value). slice_set xs p w) (sym h.is) ∙ set-get_or xs p Uninitialized)))

@@ -3,10 +3,10 @@
 ghost use Rattle.std.specs.Prelude.{◌≡◌, ◌<◌, ◌≤◌, ◌∷◌, ◌++◌, [], IfOk, IfSome, OnErr, OnOk, drop, length, slice_get, slice_set, take, Some};
 ghost use Rattle.std.specs.Bool.{OnTrue};
 ghost use Rattle.std.specs.Option.{option_copied};
-ghost use Rattle.rawk_slots.specs.Back.{back, AreBelow, AreDistinctFrom, HasAdded};
+ghost use Rattle.rawk_slots.specs.Back.{back, AreBelow, AreDistinctFrom};
 ghost use Rattle.rawk_slots.specs.Journaled.{at_rest};
 ghost use Rattle.rawk_value.specs.Values.{text_of};
-ghost use Rattle.rawk_cells.specs.Cells.{before_growth, longer_at, shortened, Grew, HasGrown};
+ghost use Rattle.rawk_cells.specs.Cells.{added_at, before_growth, cut_at, longer_at, shortened, Grew, HasGrown, HasEnded, IsAppended, IsOf};
 
 use itoa::Buffer;
 use rawk_slots::slots::Write;
@@ -22,6 +22,17 @@ pub struct Grown {
     pub place: usize,
     pub count: usize,
 }
+
+/// A text of a global that grew in place in a step: how many bytes it had, and those that came behind them.
+#[derive(Drop)]
+pub struct Appended {
+    pub place: usize,
+    pub count: usize,
+    pub more: Bytes,
+}
+
+/// How many bytes a text has at least of which a step keeps what came behind it. A shorter one is kept as it was.
+const LONG: usize = 256;
 
 /// Globals, of which a number names one, from 0, beside what they were when the step began.
 ///
@@ -117,13 +128,43 @@ fn keep_shorter(alloc: Global, slots: &mut Slots<Value>, grown: Grown) -> Result
     }
 }
 
-/// Puts a text that grew back as it was. It takes no memory.
-fn cut(slots: &mut Slots<Value>, grown: Grown)
-    requires { HasGrown (Some grown) slots.old }
-    ensures { slots.new ≡ at_rest (before_growth (Some grown) slots.old.start) }
+/// Leaves the first bytes of a text, so many at most. It takes no memory.
+fn cut(slots: &mut Slots<Value>, place: usize, count: usize)
+    requires within { place < length slots.old.now }
+    requires rest { slots.old.start ≡ slots.old.now }
+    ensures { slots.new ≡ at_rest (cut_at place count slots.old.now) }
 {
-    let now = slots.replace_at_rest(grown.place, Value::Uninitialized);
-    drop(slots.replace_at_rest(grown.place, shortened(now, grown.count)));
+    let now = slots.replace_at_rest(place, Value::Uninitialized);
+    drop(slots.replace_at_rest(place, shortened(now, count)));
+}
+
+/// What came behind a text that grew, where it was long. It fails where memory is refused.
+fn behind(
+    alloc: Global,
+    slots: &Slots<Value>,
+    grown: Grown,
+) -> Result<Option<Box<Appended>>, AllocError>
+    requires { HasGrown (Some grown) slots.now }
+    ensures { IfOk result (λ appended. IfSome appended (λ a. IsOf grown a.value slots.now.now)) }
+{
+    if grown.count < LONG {
+        return Ok(None);
+    }
+    match slots.value(grown.place) {
+        Some(Value::String(text)) => {
+            let more = Bytes::from_slice(alloc, &text.as_slice()[grown.count..])?;
+            let appended = Box::new(
+                alloc,
+                Appended {
+                    place: grown.place,
+                    count: grown.count,
+                    more,
+                },
+            )?;
+            Ok(Some(appended))
+        }
+        _ => Ok(None),
+    }
 }
 
 /// Keeps the text that grew as it was, if one did (see `keep_shorter`) and old values are saved.
@@ -318,22 +359,30 @@ impl Cells {
         Ok(self.slots.finish(alloc))
     }
 
-    /// Ends the step, and puts what it changed behind the first `count` old values of a list, in place of the others. It fails where memory is refused, and
-    /// then nothing has changed.
+    /// Ends the step, puts what it changed behind the first `count` old values of a list, in place of the others, and gives what came behind a text, where a long one grew
+    /// in place: nothing is put there then. It fails where memory is refused, and then nothing has changed.
     #[inline]
     pub fn finish_into(
         &mut self,
         list: &mut Vec<Saved<Value>>,
         count: usize,
-    ) -> Result<(), AllocError>
-        ensures did { OnOk result (HasAdded self.old.now self.old.start (take count list.old.items) list.new.items) }
+    ) -> Result<Option<Box<Appended>>, AllocError>
+        ensures did { IfOk result (λ appended. HasEnded appended self.old.now self.old.start (take count list.old.items) list.new.items) }
         ensures now { OnOk result (self.new ≡ at_rest self.old.now) }
         ensures err { OnErr result (self.new ≡ self.old) }
         ensures same { OnErr result (list.new.items ≡ list.old.items) }
     {
-        settle::<true>(self.alloc, &mut self.slots, self.grown)?;
-        self.grown = None;
-        self.slots.finish_into(list, count)
+        if let Some(grown) = self.grown {
+            if let Some(appended) = behind(self.alloc, &self.slots, grown)? {
+                list.truncate(count);
+                self.grown = None;
+                return Ok(Some(appended));
+            }
+            keep_shorter(self.alloc, &mut self.slots, grown)?;
+            self.grown = None;
+        }
+        self.slots.finish_into(list, count)?;
+        Ok(None)
     }
 
     /// Whether the step has changed nothing yet.
@@ -363,10 +412,21 @@ impl Cells {
         match self.grown {
             None => self.slots.undo_step(),
             Some(grown) => {
-                cut(&mut self.slots, grown);
+                cut(&mut self.slots, grown.place, grown.count);
                 self.grown = None;
             }
         }
+    }
+
+    /// Takes back what came behind a text in a step that ended; what the step in progress changed is forgotten. It takes no memory and always succeeds.
+    pub fn take_back(&mut self, appended: &Appended)
+        requires { IsAppended appended.now self.old.now }
+        ensures now { self.new ≡ at_rest (cut_at appended.now.place appended.now.count self.old.now) }
+        ensures newer { added_at appended.now.place appended.now.more self.new.now ≡ self.old.now }
+    {
+        self.grown = None;
+        self.slots.forget();
+        cut(&mut self.slots, appended.place, appended.count);
     }
 
     /// Puts back what a step that ended changed, and leaves the newer values in the group. It takes no memory and always succeeds.

@@ -3,4 +3,4 @@
 
 pub mod cells;
 
-pub use cells::Cells;
+pub use cells::{Appended, Cells};

@@ -1,6 +1,6 @@
 -- Steps that are kept behind one another.
 use Rattle.std.proofs.Common.{◌≡◌, ℕ, suc, zero, ◌+◌, ◌-◌, ◌<◌, ◌≤◌, List, [], ◌∷◌, ◌++◌, get_or, length, take, drop, reverse, Option, Some, None, MatchOption, option_copied, Bor, option_to_list, is_some, if◌then◌else◌, refl, sym, ap, ◌∙◌, subst, arith, append-nil}
-use Rattle.std.specs.Global.{Vec}
+use Rattle.std.specs.Global.{Box, Vec}
 use Rattle.std.specs.Option.{unwrap_or}
 use Rattle.std.proofs.lemmas.List.{reverse-append, take_all, drop_at, take_at, take_more, length-append, length-take-le, length-drop}
 use Rattle.std.specs.List.{slice_get}
@@ -10,17 +10,18 @@ use Rattle.rawk_value.specs.declared.value.Value.{Value}
 use Rattle.rawk_slots.specs.declared.saved.Saved.{Saved}
 use Rattle.rawk_slots.specs.Back.{AreDistinctFrom, HasDistinctPlaces, places}
 use Rattle.rawk_record.specs.Shown.{Shown}
+use Rattle.rawk_store.specs.declared.others.FewGroup.{FewGroup}
 use Rattle.rawk_store.specs.declared.others.Others.{Others}
 use Rattle.rawk_history.specs.declared.full.Mark.{Mark}
 use Rattle.rawk_history.specs.declared.full.Slow.{Slow}
 use Rattle.rawk_store.specs.Groups.{Group}
 use Rattle.rawk_history.specs.Steps.{Kept}
-use Rattle.rawk_store.specs.Saving.{ElementsOnce}
+use Rattle.rawk_store.specs.Saving.{ElementsOnce, FewOnce, saved_in_part}
 use Rattle.rawk_history.specs.Saving.{saved_in_groups, saved_in_others, saved_in_sets}
 use Rattle.rawk_history.specs.Flat.{first_if, rest_if, items_of, step_by, step_of, kept_of, newest_slow, registers_by, slow_of, AreMarked, EndsBehind, IsFull}
 use Rattle.rawk_store.specs.Layout.{Layout}
 use Rattle.rawk_history.specs.Keeping.{IsPutBack, KeepsStep}
-use Rattle.rawk_store.specs.GroupBack.{ArraysFit, FitsIn, arrays_in, put_back}
+use Rattle.rawk_store.specs.GroupBack.{ArraysFit, FitsIn, arrays_in, globals_on, put_back}
 use Rattle.rawk_slots.specs.Back.{back}
 use Rattle.rawk_record.specs.Shown.{record_back}
 use Rattle.rawk_store.specs.declared.registers.Registers.{Registers}
@@ -100,9 +101,13 @@ full_added marks marks2 m globals list globals2 entries live n others others2 re
     }
 
 -- old values of elements carry that no slot stands twice
+few_once : (few : Option (Box FewGroup)) → FewOnce few
+few_once None = tt
+few_once (Some f) = f.value.arrays.slots.distinct
+
 pub elements_once : (others : Option Others) → ElementsOnce others
 elements_once None = tt
-elements_once (Some o) = o.arrays.slots.distinct
+elements_once (Some o) = few_once o.few
 
 -- the step with its sets, in front of what was kept
 pub is_added : (start now : Layout) (list longer : List (Saved Value)) (others fo : Option Others) (current fr : Option Shown) (output out : ℕ) (registers regs : Registers) (taken fs : Option (Vec Group)) (here : List Group) (old old2 new : List Kept) →
@@ -116,7 +121,7 @@ is_added start now list longer others fo current fr output out registers regs ta
       item = item;
       back = e.back;
       fits = e.fits;
-      once = record { globals = e.distinct; elements = elements_once others };
+      once = record { globals = e.distinct; elements = elements_once others; alone = e.alone };
       sets = refl;
       front = record { rest = []; is = sym (append-nil new ∙ is) };
       count = omega (arith, ap length is);
@@ -127,7 +132,7 @@ pub put_back_is : (marks marks2 : List Mark) (m : Mark) (slows slows2 : List Slo
     (item : Kept) (rest : List Kept) (old new : Layout) (cut : List (Saved Value)) (stood ready newer_sets : List Group) (newer_others : Option Others) (newer : Option Shown) →
     marks ≡ marks2 ++ m ∷ [] → cut ≡ take live globals → took ≡ first_if m.has_others (reverse others) → earlier ≡ first_if m.has_record (reverse records) → group_sets ≡ first_if m.has_sets (reverse sets) → slow ≡ newest_slow (reverse slows) → reverse slows2 ≡ rest_if m.has_state (reverse slows) →
     reverse others2 ≡ rest_if m.has_others (reverse others) → reverse records2 ≡ rest_if m.has_record (reverse records) → reverse sets2 ≡ rest_if m.has_sets (reverse sets) →
-    take m.globals globals2 ≡ take m.globals cut → new ≡ put_back old (step_of m slow cut took earlier) → back new.globals (drop m.globals globals2) ≡ old.globals → arrays_in new.arrays newer_others ≡ old.arrays → ArraysFit newer_others new.arrays → record_back new.current newer ≡ old.current →
+    take m.globals globals2 ≡ take m.globals cut → new ≡ put_back old (step_of m slow cut took earlier) → globals_on new.globals (drop m.globals globals2) newer_others ≡ old.globals → arrays_in new.arrays newer_others ≡ old.arrays → ArraysFit newer_others new.arrays → record_back new.current newer ≡ old.current →
     ready ≡ items_of group_sets → newer_sets ≡ stood →
     kept_of (reverse marks) (reverse slows) (take live globals) (reverse others) (reverse records) (reverse sets) ≡ item ∷ rest →
     IsPutBack item rest old new stood ready (kept_of (reverse marks2) (reverse slows2) (take m.globals globals2) (reverse others2) (reverse records2) (reverse sets2)) (Some (record { globals = drop m.globals globals2; others = newer_others; current = newer; sets = newer_sets }))
@@ -190,7 +195,7 @@ pub popped_is : (marks rest : List Mark) (o : Option Mark) (m : Mark) → marks 
 popped_is marks rest o m all is = all ∙ ap (λ (x : Option Mark). rest ++ option_to_list x) is
 
 pub others_reverse : (xs : List Others) → saved_in_others (reverse xs) ≡ saved_in_others xs
-others_reverse xs = sum_by-IsPermutation (λ (o : Others). length o.arrays.slots.entries.items) xs (reverse xs) (IsPermutation-reverse xs)
+others_reverse xs = sum_by-IsPermutation saved_in_part xs (reverse xs) (IsPermutation-reverse xs)
 
 pub sets_reverse : (xs : List (Vec Group)) → saved_in_sets (reverse xs) ≡ saved_in_sets xs
 sets_reverse xs = sum_by-IsPermutation (λ (v : Vec Group). saved_in_groups v.items) xs (reverse xs) (IsPermutation-reverse xs)

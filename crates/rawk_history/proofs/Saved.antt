@@ -14,7 +14,7 @@ use Rattle.rawk_history.specs.declared.full.Mark.{Mark}
 use Rattle.rawk_history.specs.declared.full.Slow.{Slow}
 use Rattle.rawk_store.specs.Groups.{Group}
 use Rattle.rawk_history.specs.Steps.{Kept}
-use Rattle.rawk_store.specs.Saving.{one_if_some, saved_elements}
+use Rattle.rawk_store.specs.Saving.{one_if_some, saved_in_part, saved_others}
 use Rattle.rawk_history.specs.Saving.{saved_in_groups, saved_by, saved_by_all, saved_in_others, saved_in_sets}
 use Rattle.rawk_history.specs.Flat.{AreMarked, began_by, first_if, items_of, kept_of, newest_slow, rest_if, step_of}
 
@@ -27,10 +27,10 @@ count_if false n xs = let e : 0 + n ≡ n = omega arith in rw e (omega arith)
 count_if {T} true n [] = let e : 1 + n ≡ suc n = omega arith in let f = ap length (take_none T n) in rw e (omega (arith, f))
 count_if true n (x ∷ xs) = let e : 1 + n ≡ suc n = omega arith in rw e (omega arith)
 
-others_if : (b : Bool) (n : ℕ) (xs : List Others) → saved_in_others (take (cond b 1 0 + n) xs) ≡ saved_elements (first_if b xs) + saved_in_others (take n (rest_if b xs))
+others_if : (b : Bool) (n : ℕ) (xs : List Others) → saved_in_others (take (cond b 1 0 + n) xs) ≡ saved_others (first_if b xs) + saved_in_others (take n (rest_if b xs))
 others_if false n xs = let e : 0 + n ≡ n = omega arith in rw e (omega arith)
 others_if true n [] = let e : 1 + n ≡ suc n = omega arith in let f = ap saved_in_others (take_none Others n) in rw e (omega (arith, f))
-others_if true n (x ∷ xs) = let e : 1 + n ≡ suc n = omega arith in rw e (sum_by-cons (λ (o : Others). length o.arrays.slots.entries.items) x (take n xs))
+others_if true n (x ∷ xs) = let e : 1 + n ≡ suc n = omega arith in rw e (sum_by-cons saved_in_part x (take n xs))
 
 sets_if : (b : Bool) (n : ℕ) (xs : List (Vec Group)) → saved_in_sets (take (cond b 1 0 + n) xs) ≡ saved_in_groups (items_of (first_if b xs)) + saved_in_sets (take n (rest_if b xs))
 sets_if false n xs = let e : 0 + n ≡ n = omega arith in rw e (omega arith)

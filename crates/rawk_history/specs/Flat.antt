@@ -1,5 +1,5 @@
 -- Steps that are kept behind one another, in one list of each kind.
-use Rattle.std.specs.Prelude.{◌≡◌, ℕ, ◌≤◌, Bool, true, false, if◌then◌else◌, List, [], ◌∷◌, ◌++◌, drop, length, reverse, take, Option, None, Some}
+use Rattle.std.specs.Prelude.{◌≡◌, ℕ, ◌≤◌, Bool, true, false, if◌then◌else◌, List, [], ◌∷◌, ◌++◌, IfSome, drop, length, reverse, take, Option, None, Some}
 use Rattle.std.specs.Global.{Vec}
 use Rattle.rawk_value.specs.declared.value.Value.{Value}
 use Rattle.rawk_slots.specs.declared.saved.Saved.{Saved}
@@ -11,7 +11,7 @@ use Rattle.rawk_history.specs.declared.full.Slow.{Slow}
 use Rattle.rawk_store.specs.declared.registers.Phase.TheVariants.{InBegin}
 use Rattle.rawk_store.specs.declared.registers.Registers.{Registers}
 use Rattle.rawk_store.specs.Layout.{Layout}
-use Rattle.rawk_store.specs.GroupBack.{FitsIn, put_back}
+use Rattle.rawk_store.specs.GroupBack.{FitsIn, grown_in, put_back}
 use Rattle.rawk_store.specs.Groups.{Group}
 use Rattle.rawk_history.specs.Steps.{Kept}
 
@@ -61,6 +61,7 @@ pub record EndsBehind (others : Option Others) (current : Option Shown) (output 
   pub distinct : HasDistinctPlaces entries
   pub back : put_back now (record { globals = entries; others = others; current = current; output = output; registers = registers }) ≡ start
   pub fits : FitsIn (record { globals = entries; others = others; current = current; output = output; registers = registers }) now
+  pub alone : IfSome (grown_in others) (λ a. entries ≡ [])
 
 -- the steps of these marks, the newest first: the globals of a step stand in their list, the oldest first, from the number in its mark on; in each other list, the newest first, stands what the newest step has there
 abbrev pub kept_of : List Mark → List Slow → List (Saved Value) → List Others → List Shown → List (Vec Group) → List Kept

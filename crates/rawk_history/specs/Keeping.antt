@@ -1,11 +1,10 @@
 -- What keepers keep, and how many steps.
 use Rattle.std.specs.Prelude.{◌≡◌, ℕ, ◌+◌, min, Bool, true, nat_lt, List, ◌∷◌, ◌++◌, length, Option, None, Some}
-use Rattle.rawk_slots.specs.Back.{back}
 use Rattle.rawk_record.specs.Shown.{record_back}
 use Rattle.rawk_store.specs.Layout.{Layout}
 use Rattle.rawk_store.specs.Groups.{Group}
 use Rattle.rawk_history.specs.Steps.{Kept, Forth}
-use Rattle.rawk_store.specs.GroupBack.{ArraysFit, FitsIn, arrays_in, put_back}
+use Rattle.rawk_store.specs.GroupBack.{ArraysFit, FitsIn, arrays_in, globals_on, put_back}
 use Rattle.rawk_store.specs.Saving.{SavesOnce}
 
 -- the first part of a list
@@ -36,7 +35,7 @@ pub record KeepsStep (start now : Layout) (old new : List Kept) (here : List Gro
 pub record LeadsForth (back_there now : Layout) (groups : List Group) (ahead : Option Forth) : Type 0 where
   pub forth : Forth
   pub is : ahead ≡ Some forth
-  pub globals : back back_there.globals forth.globals ≡ now.globals
+  pub globals : globals_on back_there.globals forth.globals forth.others ≡ now.globals
   pub arrays : arrays_in back_there.arrays forth.others ≡ now.arrays
   pub fits : ArraysFit forth.others back_there.arrays
   pub current : record_back back_there.current forth.current ≡ now.current

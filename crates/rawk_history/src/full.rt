@@ -4,10 +4,10 @@ ghost use Rattle.std.specs.Prelude.{◌≡◌, ◌<◌, ◌≤◌, [], IfOk, Non
 ghost use Rattle.std.specs.Bool.{OnTrue};
 ghost use Rattle.std.specs.Option.{option_copied};
 ghost use Rattle.std.specs.Vec.{vec_capacity};
-ghost use Rattle.rawk_slots.specs.Back.{AreDistinctFrom, back};
+ghost use Rattle.rawk_slots.specs.Back.{AreDistinctFrom};
 ghost use Rattle.rawk_record.specs.Shown.{record_back};
 ghost use Rattle.rawk_history.specs.Flat.{EndsBehind, began_by, first_if, items_of, newest_slow, registers_by, rest_if, slow_of, step_by};
-ghost use Rattle.rawk_store.specs.GroupBack.{ArraysFit, FitsIn, arrays_in, put_back};
+ghost use Rattle.rawk_store.specs.GroupBack.{ArraysFit, FitsIn, arrays_in, globals_on, put_back};
 ghost use Rattle.rawk_store.specs.Layout.{IsSound};
 ghost use Rattle.rawk_store.specs.Stores.{BeganNested, now_of, start_of};
 ghost use Rattle.rawk_history.specs.Saving.{Counts, saved_by_all, saved_in_sets};
@@ -373,10 +373,10 @@ fn finish_behind(
     ensures same_others { OnErr result (others.new.items ≡ others.old.items) }
     ensures same_records { OnErr result (records.new.items ≡ records.old.items) }
 {
-    let room = store.rare_room(alloc)?;
-    store.globals.finish_into(globals, count)?;
+    let room = store.few_room(alloc)?;
+    let grown = store.globals.finish_into(globals, count)?;
     Ok(Rest {
-        has_others: add_if(others, store.finish_others(alloc, room)),
+        has_others: add_if(others, store.finish_others(alloc, room, grown)),
         has_record: add_if(records, store.current.finish(alloc)),
         output: store.output.finish(),
         registers: store.registers.finish(),
@@ -402,7 +402,7 @@ fn undo_behind(
     ensures rest { start_of store.new ≡ now_of store.new }
     ensures sound { IsSound (now_of store.new) }
     ensures earlier { take began globals.new.items ≡ take began globals.old.items }
-    ensures globals { back store.new.globals.now (drop began globals.new.items) ≡ store.old.globals.now }
+    ensures globals { globals_on store.new.globals.now (drop began globals.new.items) newer_others.new ≡ store.old.globals.now }
     ensures arrays { arrays_in store.new.arrays.now newer_others.new ≡ store.old.arrays.now }
     ensures fits { ArraysFit newer_others.new store.new.arrays.now }
     ensures current { record_back store.new.current.now newer_record.new ≡ store.old.current.now }
@@ -441,7 +441,7 @@ fn undo_parts(
     ensures rest { start_of store.new ≡ now_of store.new }
     ensures sound { IsSound (now_of store.new) }
     ensures earlier { take began globals.new.items ≡ take began globals.old.items }
-    ensures globals { back store.new.globals.now (drop began globals.new.items) ≡ store.old.globals.now }
+    ensures globals { globals_on store.new.globals.now (drop began globals.new.items) others.new ≡ store.old.globals.now }
     ensures arrays { arrays_in store.new.arrays.now others.new ≡ store.old.arrays.now }
     ensures fits { ArraysFit others.new store.new.arrays.now }
     ensures current { record_back store.new.current.now current.new ≡ store.old.current.now }

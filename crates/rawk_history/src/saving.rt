@@ -15,13 +15,13 @@ pub fn saved_in_groups(groups: &[Group]) -> u128
     count
 }
 
-/// How many old values of elements are held together. It takes no memory, looks at each, and stays at the greatest number of 128 bits.
+/// How many old values of elements, and of texts that grew in place, are held together. It takes no memory, looks at each, and stays at the greatest number of 128 bits.
 pub(crate) fn saved_in_others(all: &[Others]) -> u128
     ensures { Counts (saved_in_others all.now) result }
 {
     let mut count: u128 = 0;
     for others in all {
-        count = count.saturating_add(others.arrays.slots.entries.len() as u128);
+        count = count.saturating_add(others.saved() as u128);
     }
     count
 }

@@ -7,8 +7,11 @@ use Rattle.rawk_history.specs.Steps.{Kept}
 use Rattle.rawk_store.specs.Back.{back}
 use Rattle.rawk_store.specs.BackLaws.{length-back}
 use Rattle.rawk_store.specs.Layout.{Layout}
+use Rattle.std.specs.Global.{Box}
+use Rattle.rawk_store.specs.declared.others.FewGroup.{FewGroup}
 use Rattle.rawk_store.specs.declared.others.Others.{Others}
-use Rattle.rawk_store.specs.GroupBack.{arrays_in}
+use Rattle.rawk_store.specs.GroupBack.{arrays_in, few_arrays, globals_in, globals_on}
+use Rattle.rawk_store.specs.GrownLaws.{length-globals_in, length-globals_on}
 use Rattle.rawk_arrays.specs.Laid.{Laid, IsLaid, arrays_of}
 use Rattle.rawk_code.specs.Actions.{SetAt}
 use Rattle.rawk_machine.specs.Last.{Last, last_of}
@@ -28,8 +31,8 @@ pub length_before : (la : Last) (l : Layout) (sets : List SetAt) (point : ℕ) (
 length_before last.Nothing l sets point here items s clean h = absurd (cc h)
 length_before last.On l sets point here [] s clean h = absurd (cc h)
 length_before last.On l sets point here (item ∷ items) s clean h =
-    ap (λ (x : Observed). length x.globals) (sym (same_Some _ _ h)) ∙ ap (λ (gs : List Group). length (back_in l gs item).globals) (clean refl) ∙ length-back l.globals item.step.globals
-length_before (last.Back forth) l sets point here items s clean h = ap (λ (x : Observed). length x.globals) (sym (same_Some _ _ h)) ∙ (length_forth (back l.globals forth.globals) forth.sets ∙ length-back l.globals forth.globals)
+    ap (λ (x : Observed). length x.globals) (sym (same_Some _ _ h)) ∙ ap (λ (gs : List Group). length (back_in l gs item).globals) (clean refl) ∙ (length-back (globals_in l.globals item.step.others) item.step.globals ∙ length-globals_in l.globals item.step.others)
+length_before (last.Back forth) l sets point here items s clean h = ap (λ (x : Observed). length x.globals) (sym (same_Some _ _ h)) ∙ (length_forth (globals_on l.globals forth.globals forth.others) forth.sets ∙ length-globals_on l.globals forth.globals forth.others)
 
 -- what was seen of arrays before the last move: the keys are those of now, and as many slots
 pub record LaidBefore (l : Laid) (s : Observed) : Type 0 where
@@ -39,13 +42,21 @@ pub record LaidBefore (l : Laid) (s : Observed) : Type 0 where
   pub sound : IsLaid laid.index laid.slots
   pub is : s.arrays ≡ arrays_of laid
 
+few_index : (l : Laid) (f : Option (Box FewGroup)) → (few_arrays l f).index ≡ l.index
+few_index l None = refl
+few_index l (Some f) = refl
+
+few_size : (l : Laid) (f : Option (Box FewGroup)) → length (few_arrays l f).slots ≡ length l.slots
+few_size l None = refl
+few_size l (Some f) = length-back l.slots f.value.arrays.slots.entries.items
+
 pub index_in : (l : Laid) (o : Option Others) → (arrays_in l o).index ≡ l.index
 index_in l None = refl
-index_in l (Some o) = refl
+index_in l (Some o) = few_index l o.few
 
 pub size_in : (l : Laid) (o : Option Others) → length (arrays_in l o).slots ≡ length l.slots
 size_in l None = refl
-size_in l (Some o) = length-back l.slots o.arrays.slots.entries.items
+size_in l (Some o) = few_size l o.few
 
 pub index_forth : (l : Laid) (gs : List Group) → (arrays_forth l gs).index ≡ l.index
 index_forth l [] = refl

@@ -5,9 +5,11 @@ use Rattle.rawk_record.specs.Shown.{Shown}
 use Rattle.rawk_arrays.specs.Elements.{Elements}
 use Rattle.rawk_arrays.specs.Laid.{Laid, GrownArrays, IsLaid}
 use Rattle.rawk_arrays.specs.ArraysLaws.{arrays_of-grown, GrownArrays-back, FitsArrays-grown, IsLaid-back}
+use Rattle.std.specs.Global.{Box}
+use Rattle.rawk_store.specs.declared.others.FewGroup.{FewGroup}
 use Rattle.rawk_store.specs.declared.others.Others.{Others}
 use Rattle.rawk_store.specs.Groups.{Group}
-use Rattle.rawk_store.specs.GroupBack.{ArraysFit, arrays_in}
+use Rattle.rawk_store.specs.GroupBack.{ArraysFit, FewArraysFit, arrays_in, few_arrays}
 use Rattle.rawk_store.specs.Observed.{Observed}
 use Rattle.rawk_machine.specs.Last.{Last, last_of}
 use Rattle.rawk_machine.specs.declared.last_move.LastMove.{LastMove}
@@ -17,17 +19,29 @@ use Rattle.rawk_machine.specs.Standing.{Past}
 use Rattle.rawk_machine.specs.Kept.{LastFits, before_of, seen_forth}
 use Rattle.rawk_steps.specs.Leading.{AllArraysFit, arrays_forth}
 
+few-grown : (l m : Laid) (f : Option (Box FewGroup)) → GrownArrays l m → FewArraysFit f l → GrownArrays (few_arrays l f) (few_arrays m f)
+few-grown l m None g h = g
+few-grown l m (Some f) g h = GrownArrays-back l m f.value.arrays g h
+
+few_fits-grown : (l m : Laid) (f : Option (Box FewGroup)) → GrownArrays l m → FewArraysFit f l → FewArraysFit f m
+few_fits-grown l m None g h = tt
+few_fits-grown l m (Some f) g h = FitsArrays-grown l m f.value.arrays g h
+
+few_laid : (l : Laid) (f : Option (Box FewGroup)) → IsLaid l.index l.slots → IsLaid (few_arrays l f).index (few_arrays l f).slots
+few_laid l None h = h
+few_laid l (Some f) h = IsLaid-back l f.value.arrays h
+
 in-grown : (l m : Laid) (o : Option Others) → GrownArrays l m → ArraysFit o l → GrownArrays (arrays_in l o) (arrays_in m o)
 in-grown l m None g h = g
-in-grown l m (Some o) g h = GrownArrays-back l m o.arrays g h
+in-grown l m (Some o) g h = few-grown l m o.few g h
 
 fits-grown : (l m : Laid) (o : Option Others) → GrownArrays l m → ArraysFit o l → ArraysFit o m
 fits-grown l m None g h = tt
-fits-grown l m (Some o) g h = FitsArrays-grown l m o.arrays g h
+fits-grown l m (Some o) g h = few_fits-grown l m o.few g h
 
 pub laid_in : (l : Laid) (o : Option Others) → IsLaid l.index l.slots → IsLaid (arrays_in l o).index (arrays_in l o).slots
 laid_in l None h = h
-laid_in l (Some o) h = IsLaid-back l o.arrays h
+laid_in l (Some o) h = few_laid l o.few h
 
 forth-grown : (l m : Laid) (gs : List Group) → GrownArrays l m → AllArraysFit l gs → GrownArrays (arrays_forth l gs) (arrays_forth m gs)
 forth-grown l m [] g h = g

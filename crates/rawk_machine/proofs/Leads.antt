@@ -3,7 +3,6 @@ use Rattle.std.proofs.Common.{◌≡◌, ℕ, ◌-◌, List, [], ◌∷◌, ◌+
 use Rattle.rawk_value.specs.declared.value.Value.{Value}
 use Rattle.rawk_tape.specs.Tapes.{TapeState}
 use Rattle.rawk_record.specs.Shown.{Shown, record_back}
-use Rattle.rawk_store.specs.Back.{back}
 use Rattle.rawk_store.specs.Groups.{Group}
 use Rattle.rawk_history.specs.Steps.{Forth, Kept}
 use Rattle.rawk_frames.specs.LaidFrames.{returns_of}
@@ -15,7 +14,7 @@ use Rattle.rawk_store.specs.Observed.{Observed}
 use Rattle.rawk_arrays.specs.Laid.{Laid, arrays_of}
 use Rattle.rawk_store.specs.Layout.{Layout, Grown, IsSound, state}
 use Rattle.rawk_store.specs.Saving.{saved_in}
-use Rattle.rawk_store.specs.GroupBack.{arrays_in, put_back}
+use Rattle.rawk_store.specs.GroupBack.{arrays_in, globals_on, put_back}
 use Rattle.rawk_code.specs.Listing.{Listing}
 use Rattle.rawk_code.specs.Actions.{SetAt, or_same}
 use Rattle.rawk_code.specs.Trace.{FirstValue}
@@ -31,7 +30,7 @@ use Rattle.rawk_machine.proofs.Forths.{before-grown}
 use Rattle.rawk_machine.proofs.Chains.{fit_here, moment-grown, unsets-grown, pasts-grown, pasts_unset, pasts_set, unsets_set}
 
 pub gone_is : {S : Type 0} (code : Listing) (settings : List FirstValue) (steps : ℕ) (sets : List SetAt) (point : ℕ) (tape : TapeState S) (l : Layout) (executed : ℕ) (here : List Group) (item : Kept) (newer : Forth) (items : List Kept) (limit : Option ℕ) (before : Last) →
-    globals_forth (back (back_in l here item).globals newer.globals) newer.sets ≡ l.globals → arrays_forth (arrays_in (back_in l here item).arrays newer.others) newer.sets ≡ l.arrays → record_forth (record_back (back_in l here item).current newer.current) newer.sets ≡ l.current →
+    globals_forth (globals_on (back_in l here item).globals newer.globals newer.others) newer.sets ≡ l.globals → arrays_forth (arrays_in (back_in l here item).arrays newer.others) newer.sets ≡ l.arrays → record_forth (record_back (back_in l here item).current newer.current) newer.sets ≡ l.current →
     standing_of code settings steps (below point sets) (point - 1) (record tape { consumed = (back_in l here item).registers.consumed }) (back_in l here item) executed (newest_first item) items limit (last.Back newer)
     ≡ gone_back (pasts l sets point here (item ∷ items)) (standing_of code settings steps sets point tape l executed here (item ∷ items) limit before)
 gone_is {S} code settings steps sets point tape l executed here item newer items limit before globals arrays current =

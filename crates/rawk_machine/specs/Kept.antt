@@ -7,9 +7,8 @@ use Rattle.rawk_store.specs.Observed.{Observed, seen}
 use Rattle.rawk_store.specs.Groups.{Group}
 use Rattle.rawk_history.specs.Steps.{Kept, Forth}
 use Rattle.rawk_store.specs.Layout.{Layout, state, operands, keys}
-use Rattle.rawk_store.specs.Back.{back}
 use Rattle.rawk_store.specs.Saving.{saved_in}
-use Rattle.rawk_store.specs.GroupBack.{ArraysFit, FitsIn, arrays_in, put_back}
+use Rattle.rawk_store.specs.GroupBack.{ArraysFit, FitsIn, arrays_in, globals_on, put_back}
 use Rattle.rawk_frames.specs.LaidFrames.{returns_of}
 use Rattle.rawk_steps.specs.Arrival.{site_for}
 use Rattle.rawk_steps.specs.Leading.{AllArraysFit, all_back, arrays_forth, back_in, globals_forth, newest_first, record_forth}
@@ -61,7 +60,7 @@ seen_first (p ∷ ps) = Some (seen p.last.moment.state)
 
 abbrev pub seen_forth : List Value → Laid → Shown → Forth → Observed
 seen_forth globals arrays current forth = record {
-  globals = globals_forth (back globals forth.globals) forth.sets;
+  globals = globals_forth (globals_on globals forth.globals forth.others) forth.sets;
   arrays = arrays_of (arrays_forth (arrays_in arrays forth.others) forth.sets);
   whole = (record_forth (record_back current forth.current) forth.sets).text;
   fields = (record_forth (record_back current forth.current) forth.sets).fields;

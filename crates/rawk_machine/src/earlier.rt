@@ -7,7 +7,8 @@ ghost use Rattle.rawk_record.specs.Shown.{Shown, record_back};
 ghost use Rattle.rawk_arrays.specs.Elements.{element_at};
 ghost use Rattle.rawk_arrays.specs.Laid.{Laid};
 ghost use Rattle.rawk_arrays.specs.Slotted.{held_in};
-ghost use Rattle.rawk_store.specs.Back.{back};
+ghost use Rattle.rawk_store.specs.Back.{saved_or};
+ghost use Rattle.rawk_store.specs.Lent.{lent};
 ghost use Rattle.rawk_store.specs.GroupBack.{arrays_in};
 ghost use Rattle.rawk_steps.specs.Leading.{arrays_forth, globals_forth, record_forth};
 ghost use Rattle.rawk_store.specs.Observed.{Observed};
@@ -15,19 +16,34 @@ ghost use Rattle.rawk_store.specs.Observed.{Observed};
 use crate::last_move::LastMove;
 use crate::machine::Machine;
 use rawk_history::Keeper;
-use rawk_store::{FieldRef, Group, Others, Record, led_to};
+use rawk_store::{
+    FieldRef, Group, Others, Record, ValueRef, global_after, global_before, led_to, saved_at,
+};
 use rawk_tape::Source;
 use rawk_value::Value;
 
-/// A global's value where groups lead, from its value now; for a number of a global.
-fn led_through<'a>(groups: &'a [Group], now: Option<&'a Value>, number: usize) -> Option<&'a Value>
-    ensures { (xs : List Value) → number < length xs → slice_get xs number ≡ option_copied now.entry → slice_get (globals_forth xs groups.now) number ≡ option_copied result }
+/// A global's value where groups lead, if they hold it; for a number of a global.
+fn saved_through(groups: &[Group], number: usize) -> Option<&Value>
+    ensures { (xs : List Value) → number < length xs → slice_get (globals_forth xs groups.now) number ≡ saved_or (option_copied result) (slice_get xs number) }
 {
-    let mut value = now;
+    let mut value = None;
     for group in groups {
-        value = led_to(group.globals(), value, number);
+        value = match saved_at(group.globals(), number) {
+            Some(newer) => Some(newer),
+            None => value,
+        };
     }
     value
+}
+
+/// A value, lent whole.
+fn whole(value: Option<&Value>) -> Option<ValueRef<'_>>
+    ensures { option_map lent result ≡ option_copied value.entry }
+{
+    match value {
+        Some(value) => Some(ValueRef::Whole(value)),
+        None => None,
+    }
 }
 
 /// The record where groups lead, if it is another one than now.
@@ -55,11 +71,14 @@ fn slot_before<'a>(others: Option<&'a Others>, now: SlotAt<'a>, number: usize) -
     ensures slot { (l : Laid) → number < length l.slots → slice_get l.slots number ≡ option_copied now.entry.slot → slice_get (arrays_in l (option_copied others.entry)).slots number ≡ option_copied result.slot }
     ensures live { (l : Laid) → l.live ≡ now.entry.live → (arrays_in l (option_copied others.entry)).live ≡ result.live }
 {
-    match others {
+    let Some(others) = others else {
+        return now;
+    };
+    match &others.few {
         None => now,
-        Some(others) => SlotAt {
-            slot: led_to(&others.arrays.slots.entries, now.slot, number),
-            live: others.arrays.live,
+        Some(few) => SlotAt {
+            slot: led_to(&few.arrays.slots.entries, now.slot, number),
+            live: few.arrays.live,
         },
     }
 }
@@ -92,26 +111,25 @@ fn held_by<'a>(at: SlotAt<'a>, array: usize) -> Option<&'a Value>
 impl<R: Source + Drop, K: Keeper> Machine<R, K> {
     /// A global's value as it was before the last move, if it is known: after an `advance` under a keeper that keeps, or a `retreat`, until something
     /// is set or taken back. `None` for a number that no global has. It takes no memory, and looks at the places that the move changed.
-    pub fn earlier_global(&self, number: usize) -> Option<&Value>
-        ensures { (s : Observed) → self.now.before ≡ Some s → option_copied result ≡ slice_get s.globals number }
+    pub fn earlier_global(&self, number: usize) -> Option<ValueRef<'_>>
+        ensures { (s : Observed) → self.now.before ≡ Some s → option_map lent result ≡ slice_get s.globals number }
     {
-        let now = self.store.globals.value(number);
         if self.store.globals.len() <= number {
-            return now;
+            return None;
         }
+        let now = self.store.globals.value(number);
         match &self.last {
-            LastMove::Nothing => now,
+            LastMove::Nothing => whole(now),
             LastMove::On => match self.keeper.newest() {
-                Some(step) => led_to(step.globals, now, number),
-                None => now,
+                Some(step) => global_before(step.globals, step.others, now, number),
+                None => whole(now),
             },
             LastMove::Back => match self.keeper.ahead() {
-                Some(step) => led_through(
-                    self.keeper.ahead_sets(),
-                    led_to(step.globals, now, number),
-                    number,
-                ),
-                None => now,
+                Some(step) => match saved_through(self.keeper.ahead_sets(), number) {
+                    Some(newer) => Some(ValueRef::Whole(newer)),
+                    None => global_after(step.globals, step.others, now, number),
+                },
+                None => whole(now),
             },
         }
     }

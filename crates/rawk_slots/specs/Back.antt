@@ -1,11 +1,16 @@
 -- Old values, and what they lead back to.
-use Rattle.std.specs.Prelude.{◌≡◌, ℕ, ◌<◌, ◌≤◌, List, [], ◌∷◌, ◌++◌, length, map, slice_set, slice_get, slice_index, Some}
+use Rattle.std.specs.Prelude.{◌≡◌, ℕ, ◌<◌, ◌≤◌, List, [], ◌∷◌, ◌++◌, length, map, slice_set, slice_get, slice_index, Option, None, Some}
 use Rattle.rawk_slots.specs.declared.saved.Saved.{Saved}
 
 -- the slots with each saved value put back at its place, the newest first
 abbrev pub back : {T : Type 0} → List T → List (Saved T) → List T
 back xs [] = xs
 back xs (e ∷ es) = slice_set (back xs es) e.place e.old
+
+-- what was saved, or else what stands there
+abbrev pub saved_or : {T : Type 0} → Option T → Option T → Option T
+saved_or None now = now
+saved_or (Some old) now = Some old
 
 -- each place is one of n
 abbrev pub AreBelow : {T : Type 0} → ℕ → List (Saved T) → Type 0

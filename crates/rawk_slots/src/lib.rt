@@ -11,6 +11,6 @@ pub mod stack;
 pub use laws::there_and_back;
 pub use reversible::Reversible;
 pub use saved::Saved;
-pub use slot_group::{SlotGroup, led_to};
+pub use slot_group::{SlotGroup, led_to, saved_at};
 pub use slots::Slots;
 pub use stack::{Stack, StackChange, StackGroup};

@@ -39,14 +39,14 @@ impl<T> Model for Slots<T> {
     ghost invariant = { λ s. IsJournal s.items.items s.marks.items s.saved.items };
 }
 
-/// Room for one more old value: for one alone where there is none yet, since most steps save few. It fails where memory is refused.
+/// Room for one more old value: for one alone where there are fewer than four, since most steps save few. It fails where memory is refused.
 #[inline]
 fn reserve_one<T>(saved: &mut Vec<Saved<T>>) -> Result<(), AllocError>
     ensures items { saved.new.items ≡ saved.old.items }
     ensures len { vec_len saved.new ≡ vec_len saved.old }
     ensures ok { OnOk result (vec_len saved.new < vec_capacity saved.new) }
 {
-    if saved.capacity() == 0 {
+    if saved.capacity() < 4 {
         return saved.reserve_exact(1);
     }
     saved.reserve(1)

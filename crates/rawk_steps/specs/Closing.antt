@@ -1,11 +1,10 @@
 -- What a keeper keeps at the end of a step.
 use Rattle.std.specs.Prelude.{◌≡◌, ℕ, Bool, true, false, List, [], ◌∷◌, reverse, Option, Some}
-use Rattle.rawk_store.specs.Back.{back}
 use Rattle.rawk_record.specs.Shown.{record_back}
 use Rattle.rawk_store.specs.Groups.{Group}
 use Rattle.rawk_history.specs.Steps.{Kept, Forth}
 use Rattle.rawk_store.specs.Layout.{Layout}
-use Rattle.rawk_store.specs.GroupBack.{ArraysFit, FitsIn, arrays_in, put_back}
+use Rattle.rawk_store.specs.GroupBack.{ArraysFit, FitsIn, arrays_in, globals_on, put_back}
 use Rattle.rawk_history.specs.Keeping.{KeepsStep}
 use Rattle.rawk_steps.specs.Leading.{AllArraysFit, arrays_forth, back_in, globals_forth, record_forth}
 
@@ -26,7 +25,7 @@ pub record HasGoneBack (item : Kept) (rest : List Kept) (old new : Layout) (stoo
   pub left : kept ≡ rest
   pub forth : Forth
   pub is : ahead ≡ Some forth
-  pub globals : globals_forth (back new.globals forth.globals) forth.sets ≡ old.globals
+  pub globals : globals_forth (globals_on new.globals forth.globals forth.others) forth.sets ≡ old.globals
   pub arrays : arrays_forth (arrays_in new.arrays forth.others) forth.sets ≡ old.arrays
   pub fits : ArraysFit forth.others new.arrays
   pub sets_fit : AllArraysFit (arrays_in new.arrays forth.others) forth.sets

@@ -2,6 +2,10 @@
 use Rattle.std.specs.Prelude.{◌≡◌, ◌≤◌, Bool, List, length, take, Option, None, Some}
 use Rattle.std.specs.Global.{Box}
 use Rattle.rawk_value.specs.declared.value.Value.{Value}
+use Rattle.rawk_slots.specs.declared.saved.Saved.{Saved}
+use Rattle.rawk_cells.specs.declared.cells.Appended.{Appended}
+use Rattle.rawk_cells.specs.Cells.{FitsAppended, with_again, without}
+use Rattle.rawk_store.specs.declared.others.FewGroup.{FewGroup}
 use Rattle.rawk_store.specs.declared.others.Others.{Others}
 use Rattle.rawk_store.specs.declared.others.RareGroup.{RareGroup}
 use Rattle.rawk_store.specs.declared.store.Store.{Store}
@@ -18,10 +22,27 @@ use Rattle.rawk_frames.specs.KeysBack.{FitsKeys, keys_back}
 use Rattle.rawk_record.specs.Shown.{record_back}
 use Rattle.rawk_store.specs.Layout.{Layout}
 
+-- what came behind a text that grew
+abbrev pub grown_in : Option Others → Option (Box Appended)
+grown_in None = None
+grown_in (Some o) = o.grown
+
+-- the globals without it
+abbrev pub globals_in : List Value → Option Others → List Value
+globals_in xs o = without (grown_in o) xs
+
+-- the globals with newer values put in, and with it
+abbrev pub globals_on : List Value → List (Saved Value) → Option Others → List Value
+globals_on xs newer o = with_again (grown_in o) (back xs newer)
+
 -- parts that few steps change, with what was saved of them put back: a part that was not changed stays
+abbrev pub few_arrays : Laid → Option (Box FewGroup) → Laid
+few_arrays l None = l
+few_arrays l (Some f) = arrays_back l f.value.arrays
+
 abbrev pub arrays_in : Laid → Option Others → Laid
 arrays_in l None = l
-arrays_in l (Some o) = arrays_back l o.arrays
+arrays_in l (Some o) = few_arrays l o.few
 
 abbrev pub frames_in : LaidFrames → Option Others → LaidFrames
 frames_in l None = l
@@ -35,13 +56,21 @@ abbrev pub rare_ranges : List Bool → Option (Box RareGroup) → List Bool
 rare_ranges l None = l
 rare_ranges l (Some r) = back l r.value.ranges.entries.items
 
+abbrev pub few_keys : LaidKeys → Option (Box FewGroup) → LaidKeys
+few_keys l None = l
+few_keys l (Some f) = rare_keys l f.value.rare
+
+abbrev pub few_ranges : List Bool → Option (Box FewGroup) → List Bool
+few_ranges l None = l
+few_ranges l (Some f) = rare_ranges l f.value.rare
+
 abbrev pub keys_in : LaidKeys → Option Others → LaidKeys
 keys_in l None = l
-keys_in l (Some o) = rare_keys l o.rare
+keys_in l (Some o) = few_keys l o.few
 
 abbrev pub ranges_in : List Bool → Option Others → List Bool
 ranges_in l None = l
-ranges_in l (Some o) = rare_ranges l o.rare
+ranges_in l (Some o) = few_ranges l o.few
 
 abbrev pub operands_in : Stacked Value → Option Others → Stacked Value
 operands_in l None = l
@@ -50,7 +79,7 @@ operands_in l (Some o) = stack_back l o.operands
 -- the layout with what the group saved put back
 abbrev pub put_back : Layout → Group → Layout
 put_back l group = record {
-  globals = back l.globals group.globals;
+  globals = back (globals_in l.globals group.others) group.globals;
   arrays = arrays_in l.arrays group.others;
   frames = frames_in l.frames group.others;
   keys = keys_in l.keys group.others;
@@ -62,21 +91,30 @@ put_back l group = record {
 }
 
 -- each place that was saved of arrays is one of theirs
+abbrev pub FewArraysFit : Option (Box FewGroup) → Laid → Type 0
+FewArraysFit None l = Unit {0}
+FewArraysFit (Some f) l = FitsArrays f.value.arrays l
+
 abbrev pub ArraysFit : Option Others → Laid → Type 0
 ArraysFit None l = Unit {0}
-ArraysFit (Some o) l = FitsArrays o.arrays l
+ArraysFit (Some o) l = FewArraysFit o.few l
 
 -- each place of the rarest parts is one of the layout
 abbrev pub RareFit : Option (Box RareGroup) → Layout → Type 0
 RareFit None l = Unit {0}
 RareFit (Some r) l = FitsKeys r.value.keys l.keys × AreBelow (length l.ranges) r.value.ranges.entries.items
 
+-- each place of the parts that fewer steps change is one of the layout
+abbrev pub FewFit : Option (Box FewGroup) → Layout → Type 0
+FewFit None l = Unit {0}
+FewFit (Some f) l = FitsArrays f.value.arrays l.arrays × RareFit f.value.rare l
+
 -- each place of these parts is one of the layout
 pub record OthersFit (o : Others) (l : Layout) : Type 0 where
-  pub arrays : FitsArrays o.arrays l.arrays
   pub frames : FitsFrames o.frames l.frames
   pub operands : FitsStack o.operands l.operands
-  pub rare : RareFit o.rare l
+  pub grown : FitsAppended o.grown l.globals
+  pub few : FewFit o.few l
 
 abbrev pub FitsOthers : Option Others → Layout → Type 0
 FitsOthers None l = Unit {0}
@@ -85,7 +123,7 @@ FitsOthers (Some o) l = OthersFit o l
 -- the layout with these parts put back
 abbrev pub others_put : Layout → Option Others → Layout
 others_put l o = record {
-  globals = l.globals;
+  globals = globals_in l.globals o;
   arrays = arrays_in l.arrays o;
   frames = frames_in l.frames o;
   keys = keys_in l.keys o;
@@ -109,13 +147,28 @@ pub record RareLeads (r : Option (Box RareGroup)) (s : Store) : Type 0 where
   pub keys : rare_keys s.keys.now r ≡ s.keys.start
   pub ranges : rare_ranges s.ranges.now r ≡ s.ranges.start
 
+-- what was saved of the parts that fewer steps change leads back to how they stood when the step began
+pub record FewLead (f : Option (Box FewGroup)) (s : Store) : Type 0 where
+  pub arrays : few_arrays s.arrays.now f ≡ s.arrays.start
+  pub keys : few_keys s.keys.now f ≡ s.keys.start
+  pub ranges : few_ranges s.ranges.now f ≡ s.ranges.start
+
 -- there is room for what the step changed in the rarest parts, or it changed nothing there
 pub record HasRoom (room : Option (Box RareGroup)) (s : Store) : Type 0 where
   pub keys : room ≡ None → s.keys.start ≡ s.keys.now
   pub ranges : room ≡ None → s.ranges.start ≡ s.ranges.now
 
+-- the same of the parts that fewer steps change
+abbrev pub rare_in : Option (Box FewGroup) → Option (Box RareGroup)
+rare_in None = None
+rare_in (Some f) = f.value.rare
+
+pub record HasFewRoom (room : Option (Box FewGroup)) (s : Store) : Type 0 where
+  pub arrays : room ≡ None → s.arrays.start ≡ s.arrays.now
+  pub rare : HasRoom (rare_in room) s
+
 -- each place of the group is one of the layout
 pub record FitsIn (group : Group) (l : Layout) : Type 0 where
-  pub globals : AreBelow (length l.globals) group.globals
+  pub globals : AreBelow (length (globals_in l.globals group.others)) group.globals
   pub others : FitsOthers group.others l
   pub output : group.output ≤ length l.output

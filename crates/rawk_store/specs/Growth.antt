@@ -7,10 +7,11 @@ use Rattle.rawk_slots.specs.Saving.{OnTrue-any, OnTrue-map, OnTrue-both}
 use Rattle.rawk_value.specs.Values.{Bytes}
 use Rattle.rawk_value.specs.declared.value.Value.{Value}
 use Rattle.rawk_slots.specs.Back.{back, AreBelow}
+use Rattle.rawk_cells.specs.Cells.{FitsAppended}
 use Rattle.rawk_slots.specs.Stacked.{Stacked, GrownStack}
 use Rattle.rawk_slots.specs.StackLaws.{live_values-grown, GrownStack-refl, GrownStack-trans, GrownStack-back, FitsStack-over, IsLive-stack_back}
 use Rattle.rawk_arrays.specs.Elements.{Elements}
-use Rattle.rawk_arrays.specs.Laid.{Laid, GrownArrays, arrays_of}
+use Rattle.rawk_arrays.specs.Laid.{Laid, GrownArrays, IsLaid, arrays_of}
 use Rattle.rawk_arrays.specs.ArraysLaws.{arrays_of-grown, GrownArrays-refl, GrownArrays-trans, GrownArrays-back, FitsArrays-grown, IsLaid-back}
 use Rattle.rawk_frames.specs.Frame.{Frame}
 use Rattle.rawk_frames.specs.LaidFrames.{LaidFrames, AreNested, GrownFrames, frames_of}
@@ -18,12 +19,13 @@ use Rattle.rawk_frames.specs.LaidKeys.{AreKeysLive, GrownKeys}
 use Rattle.rawk_frames.specs.FramesLaws.{frames_of-grown, keys_of-grown, GrownFrames-refl, GrownFrames-trans, GrownFrames-back, GrownKeys-refl, GrownKeys-trans, GrownKeys-back, FitsFrames-grown, FitsKeys-grown, AreFramesLive-back, AreKeysLive-back, AreNested-grown}
 use Rattle.rawk_record.specs.Shown.{Shown, record_back}
 use Rattle.rawk_store.specs.declared.registers.Registers.{Registers}
+use Rattle.rawk_store.specs.declared.others.FewGroup.{FewGroup}
 use Rattle.rawk_store.specs.declared.others.Others.{Others}
 use Rattle.rawk_store.specs.declared.others.RareGroup.{RareGroup}
 use Rattle.rawk_store.specs.Groups.{Group}
 use Rattle.rawk_store.specs.State.{State}
 use Rattle.rawk_store.specs.Layout.{Layout, Grown, IsSound, keys, operands, state}
-use Rattle.rawk_store.specs.GroupBack.{FitsIn, FitsOthers, RareFit, rare_keys, arrays_in, frames_in, keys_in, operands_in, others_put, put_back, ranges_in}
+use Rattle.rawk_store.specs.GroupBack.{FewFit, FitsIn, FitsOthers, RareFit, few_arrays, few_keys, rare_keys, arrays_in, frames_in, keys_in, globals_in, operands_in, others_put, put_back, ranges_in}
 
 pub Grown-refl : (l : Layout) → Grown l l
 Grown-refl l = record {
@@ -158,9 +160,13 @@ state-grown l m g h =
     ∙ ap (λ (x : Bytes). made_of l.globals (arrays_of l.arrays) (frames_of l.frames) l.ranges l.current x m.registers) g.output
     ∙ ap (λ (x : Registers). made_of l.globals (arrays_of l.arrays) (frames_of l.frames) l.ranges l.current l.output x) g.registers
 
+few_arrays-grown : (l m : Layout) (f : Option (Box FewGroup)) → Grown l m → FewFit f l → GrownArrays (few_arrays l.arrays f) (few_arrays m.arrays f)
+few_arrays-grown l m None g h = g.arrays
+few_arrays-grown l m (Some f) g h = GrownArrays-back l.arrays m.arrays f.value.arrays g.arrays h.0
+
 arrays_in-grown : (l m : Layout) (o : Option Others) → Grown l m → FitsOthers o l → GrownArrays (arrays_in l.arrays o) (arrays_in m.arrays o)
 arrays_in-grown l m None g h = g.arrays
-arrays_in-grown l m (Some o) g h = GrownArrays-back l.arrays m.arrays o.arrays g.arrays h.arrays
+arrays_in-grown l m (Some o) g h = few_arrays-grown l m o.few g h.few
 
 frames_in-grown : (l m : Layout) (o : Option Others) → Grown l m → FitsOthers o l → GrownFrames (frames_in l.frames o) (frames_in m.frames o)
 frames_in-grown l m None g h = g.frames
@@ -170,9 +176,13 @@ rare_keys-grown : (l m : Layout) (r : Option (Box RareGroup)) → Grown l m → 
 rare_keys-grown l m None g h = g.keys
 rare_keys-grown l m (Some r) g h = GrownKeys-back l.keys m.keys r.value.keys g.keys h.0
 
+few_keys-grown : (l m : Layout) (f : Option (Box FewGroup)) → Grown l m → FewFit f l → GrownKeys (few_keys l.keys f) (few_keys m.keys f)
+few_keys-grown l m None g h = g.keys
+few_keys-grown l m (Some f) g h = rare_keys-grown l m f.value.rare g h.1
+
 keys_in-grown : (l m : Layout) (o : Option Others) → Grown l m → FitsOthers o l → GrownKeys (keys_in l.keys o) (keys_in m.keys o)
 keys_in-grown l m None g h = g.keys
-keys_in-grown l m (Some o) g h = rare_keys-grown l m o.rare g h.rare
+keys_in-grown l m (Some o) g h = few_keys-grown l m o.few g h.few
 
 operands_in-grown : (l m : Layout) (o : Option Others) → Grown l m → FitsOthers o l → GrownStack (operands_in l.operands o) (operands_in m.operands o)
 operands_in-grown l m None g h = g.operands
@@ -181,7 +191,7 @@ operands_in-grown l m (Some o) g h = GrownStack-back l.operands m.operands o.ope
 -- putting back, over more slots
 pub Grown-put_back : (l m : Layout) (group : Group) → Grown l m → FitsIn group l → Grown (put_back l group) (put_back m group)
 Grown-put_back l m group g h = record {
-  globals = ap (λ (xs : List Value). back xs group.globals) g.globals;
+  globals = ap (λ (xs : List Value). back (globals_in xs group.others) group.globals) g.globals;
   arrays = arrays_in-grown l m group.others g h.others;
   frames = frames_in-grown l m group.others g h.others;
   keys = keys_in-grown l m group.others g h.others;
@@ -196,18 +206,22 @@ RareFit-grown : (l m : Layout) (r : Option (Box RareGroup)) → Grown l m → Ra
 RareFit-grown l m None g h = tt
 RareFit-grown l m (Some r) g h = (FitsKeys-grown l.keys m.keys r.value.keys g.keys h.0, subst (λ (xs : List Bool). AreBelow (length xs) r.value.ranges.entries.items) (sym g.ranges) h.1)
 
+FewFit-grown : (l m : Layout) (f : Option (Box FewGroup)) → Grown l m → FewFit f l → FewFit f m
+FewFit-grown l m None g h = tt
+FewFit-grown l m (Some f) g h = (FitsArrays-grown l.arrays m.arrays f.value.arrays g.arrays h.0, RareFit-grown l m f.value.rare g h.1)
+
 FitsOthers-grown : (l m : Layout) (o : Option Others) → Grown l m → FitsOthers o l → FitsOthers o m
 FitsOthers-grown l m None g h = tt
 FitsOthers-grown l m (Some o) g h = record {
-  arrays = FitsArrays-grown l.arrays m.arrays o.arrays g.arrays h.arrays;
   frames = FitsFrames-grown l.frames m.frames o.frames g.frames h.frames;
   operands = FitsStack-over l.operands m.operands o.operands g.operands h.operands;
-  rare = RareFit-grown l m o.rare g h.rare;
+  grown = subst (λ (xs : List Value). FitsAppended o.grown xs) (sym g.globals) h.grown;
+  few = FewFit-grown l m o.few g h.few;
 }
 
 pub FitsIn-grown : (l m : Layout) (group : Group) → Grown l m → FitsIn group l → FitsIn group m
 FitsIn-grown l m group g h = record {
-  globals = subst (λ (xs : List Value). AreBelow (length xs) group.globals) (sym g.globals) h.globals;
+  globals = subst (λ (xs : List Value). AreBelow (length (globals_in xs group.others)) group.globals) (sym g.globals) h.globals;
   others = FitsOthers-grown l m group.others g h.others;
   output = rw g.output h.output;
 }
@@ -216,13 +230,21 @@ rare_live : (l : Layout) (r : Option (Box RareGroup)) → RareFit r l → AreKey
 rare_live l None h s = s
 rare_live l (Some r) h s = AreKeysLive-back l.keys r.value.keys h.0
 
+few_laid : (l : Layout) (f : Option (Box FewGroup)) → FewFit f l → IsLaid l.arrays.index l.arrays.slots → IsLaid (few_arrays l.arrays f).index (few_arrays l.arrays f).slots
+few_laid l None h s = s
+few_laid l (Some f) h s = IsLaid-back l.arrays f.value.arrays s
+
+few_live : (l : Layout) (f : Option (Box FewGroup)) → FewFit f l → AreKeysLive l.keys → AreKeysLive (few_keys l.keys f)
+few_live l None h s = s
+few_live l (Some f) h s = rare_live l f.value.rare h.1 s
+
 IsSound-others : (l : Layout) (o : Option Others) → FitsOthers o l → IsSound l → IsSound (others_put l o)
 IsSound-others l None h s = record { arrays = s.arrays; frames = s.frames; nested = s.nested; keys = s.keys; operands = s.operands }
 IsSound-others l (Some o) h s = record {
-  arrays = IsLaid-back l.arrays o.arrays s.arrays;
+  arrays = few_laid l o.few h.few s.arrays;
   frames = AreFramesLive-back l.frames o.frames h.frames;
   nested = h.frames.nested;
-  keys = rare_live l o.rare h.rare s.keys;
+  keys = few_live l o.few h.few s.keys;
   operands = IsLive-stack_back l.operands o.operands h.operands;
 }
 

@@ -13,4 +13,6 @@ pub mod Stores
 pub mod Groups
 pub mod GroupBack
 pub mod Saving
+pub mod Lent
+pub mod GrownLaws
 pub mod Growth

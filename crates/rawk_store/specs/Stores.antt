@@ -51,6 +51,20 @@ others_rested now start = record {
   registers = start.registers;
 }
 
+-- the globals too
+abbrev pub globals_rested : Layout → Layout → Layout
+globals_rested now start = record {
+  globals = now.globals;
+  arrays = now.arrays;
+  frames = now.frames;
+  keys = now.keys;
+  ranges = now.ranges;
+  operands = now.operands;
+  current = start.current;
+  output = start.output;
+  registers = start.registers;
+}
+
 -- nothing stands there but the registers
 abbrev pub empty_layout : Registers → Layout
 empty_layout registers = record { globals = []; arrays = no_arrays; frames = no_frames; keys = no_keys; ranges = []; operands = empty_stack; current = no_record; output = []; registers = registers }

@@ -2,7 +2,7 @@
 
 ghost use Rattle.std.specs.Prelude.{◌≡◌};
 ghost use Rattle.std.specs.Option.{option_copied};
-ghost use Rattle.rawk_store.specs.Saving.{saved_elements, saved_in};
+ghost use Rattle.rawk_store.specs.Saving.{saved_in, saved_others};
 
 use crate::others::Others;
 use crate::registers::Registers;
@@ -23,9 +23,15 @@ pub struct Group {
 }
 
 impl Model for Group {
+    ghost use Rattle.std.specs.Prelude.{◌≡◌, None};
     ghost use Rattle.rawk_store.specs.Groups.{Group};
 
     ghost Value = { Group };
+
+    ghost use Rattle.rawk_store.specs.GroupBack.{grown_in};
+
+    // No text grew: where one did, a keeper keeps the step in its lists.
+    ghost invariant = { λ g. grown_in g.others ≡ None };
 
     ghost view = { λ g. record { globals = g.globals.entries.items; others = g.others; current = g.current; output = g.output; registers = g.registers } };
 }
@@ -52,12 +58,12 @@ impl Group {
         self.current.as_ref()
     }
 
-    /// How many old values of globals, of elements and of the record it holds: one for each of them that was written, also where an element was not there. It
-    /// takes no memory.
+    /// How many old values of globals, of elements and of the record it holds: one for each of them that was written, also where an element was not there or a text grew
+    /// in place. It takes no memory.
     pub fn saved(&self) -> usize
         ensures { result ≡ saved_in self.now }
     {
-        let places = self.globals.entries.len() + saved_elements(&self.others);
+        let places = self.globals.entries.len() + saved_others(&self.others);
         match &self.current {
             None => places,
             Some(_) => places + 1,
@@ -65,12 +71,12 @@ impl Group {
     }
 }
 
-/// How many old values of elements are held, also where an element was not there.
-fn saved_elements(others: &Option<Others>) -> usize
-    ensures { result ≡ saved_elements others.now }
+/// How many old values these parts hold, if any was changed (see `Others::saved`).
+fn saved_others(others: &Option<Others>) -> usize
+    ensures { result ≡ saved_others others.now }
 {
     match others {
         None => 0,
-        Some(group) => group.arrays.slots.entries.len(),
+        Some(group) => group.saved(),
     }
 }

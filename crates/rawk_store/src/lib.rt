@@ -4,6 +4,7 @@
 mod assign;
 pub mod current;
 pub mod group;
+pub mod lent;
 pub mod numbering;
 pub mod others;
 pub mod output;
@@ -15,8 +16,9 @@ pub mod target;
 pub use assign::array_number;
 pub use current::Current;
 pub use group::Group;
+pub use lent::{ValueRef, global_after, global_before};
 pub use numbering::field_number;
-pub use others::{OperandsGroup, Others, RareGroup};
+pub use others::{FewGroup, OperandsGroup, Others, RareGroup};
 pub use output::Output;
 pub use rawk_arrays::{Arrays, ArraysGroup};
 pub use rawk_cells::Cells;
@@ -26,7 +28,7 @@ pub use rawk_frames::{
 pub use rawk_record::{
     FieldRef, Fields, Piece, Record, RecordChange, Separator, fields_of, pieces_between,
 };
-pub use rawk_slots::{Reversible, Saved, SlotGroup, Slots, Stack, StackGroup, led_to};
+pub use rawk_slots::{Reversible, Saved, SlotGroup, Slots, Stack, StackGroup, led_to, saved_at};
 pub use registers::{Bank, Ending, Phase, Registers};
 pub use split::fill_elements;
 pub use store::{Operands, Store};

@@ -3,21 +3,23 @@
 ghost use Rattle.std.specs.Prelude.{◌≡◌, IfOk, None, OnErr, OnOk};
 ghost use Rattle.std.specs.Bool.{OnTrue};
 ghost use Rattle.rawk_record.specs.Shown.{record_back};
-ghost use Rattle.rawk_slots.specs.Back.{back};
 ghost use Rattle.rawk_store.specs.Layout.{IsSound, state};
 ghost use Rattle.rawk_store.specs.Saving.{SavesOnce};
-ghost use Rattle.rawk_store.specs.Stores.{BeganNested, IsNew, IsPlainStep, now_of, others_rested, start_of};
-ghost use Rattle.rawk_store.specs.GroupBack.{ArraysFit, FitsIn, FitsOthers, HasRoom, OthersLead, RareFit, RareLeads, arrays_in, others_put, put_back, rare_keys, rare_ranges};
+ghost use Rattle.rawk_store.specs.Stores.{BeganNested, IsNew, IsPlainStep, globals_rested, now_of, others_rested, start_of};
+ghost use Rattle.rawk_store.specs.GroupBack.{ArraysFit, FewArraysFit, FewFit, FewLead, FitsIn, FitsOthers, HasFewRoom, HasRoom, OthersLead, RareFit, RareLeads, arrays_in, few_arrays, few_keys, few_ranges, grown_in, others_put, put_back, rare_keys, rare_ranges};
+ghost use Rattle.rawk_arrays.specs.Laid.{IsLaid};
+ghost use Rattle.rawk_cells.specs.Cells.{FitsAppended, with_again, without};
+ghost use Rattle.rawk_slots.specs.Back.{back};
 ghost use Rattle.rawk_slots.specs.Journaled.{at_rest};
 ghost use Rattle.rawk_frames.specs.LaidKeys.{AreKeysLive};
 
 use crate::current::Current;
 use crate::group::Group;
-use crate::others::{Others, RareGroup};
+use crate::others::{FewGroup, Others, RareGroup};
 use crate::output::Output;
 use crate::registers::{Bank, Registers};
 use rawk_arrays::Arrays;
-use rawk_cells::Cells;
+use rawk_cells::{Appended, Cells};
 use rawk_frames::{Frames, KeysLeft, Ranges};
 use rawk_slots::{Slots, Stack};
 use rawk_value::Value;
@@ -71,9 +73,29 @@ impl Store {
             && self.ranges.is_at_rest()
     }
 
+    /// Room for what the step changed in arrays, keys that are left and ranges, where it changed any of these. It fails where memory is refused.
+    #[inline]
+    pub fn few_room(&self, alloc: Global) -> Result<Option<Box<FewGroup>>, AllocError>
+        ensures { IfOk result (λ room. HasFewRoom room self.now) }
+    {
+        let rare = self.rare_room(alloc)?;
+        if rare.is_none() && self.arrays.is_at_rest() {
+            return Ok(None);
+        }
+        let mut arrays = Arrays::new(alloc, 0);
+        let room = Box::new(
+            alloc,
+            FewGroup {
+                arrays: arrays.finish(alloc),
+                rare,
+            },
+        )?;
+        Ok(Some(room))
+    }
+
     /// Room for what the step changed in keys that are left and in ranges, where it changed any of these. It fails where memory is refused.
     #[inline]
-    pub fn rare_room(&self, alloc: Global) -> Result<Option<Box<RareGroup>>, AllocError>
+    fn rare_room(&self, alloc: Global) -> Result<Option<Box<RareGroup>>, AllocError>
         ensures { IfOk result (λ room. HasRoom room self.now) }
     {
         if self.keys.is_at_rest() && self.ranges.is_at_rest() {
@@ -116,31 +138,65 @@ impl Store {
         }
     }
 
-    /// Ends the step in the parts that few steps change, and gives what it changed there, if it changed anything, with room for the rarest where it changed these. It takes no
-    /// memory.
+    /// Ends the step in arrays, keys that are left and ranges, and gives what it changed there, in the room for it; where there is none, nothing was changed. It takes no memory.
     #[inline]
-    pub fn finish_others(&mut self, alloc: Global, room: Option<Box<RareGroup>>) -> Option<Others>
+    fn finish_few(&mut self, alloc: Global, room: Option<Box<FewGroup>>) -> Option<Box<FewGroup>>
+        requires { HasFewRoom room self.old }
+        ensures arrays { self.new.arrays ≡ at_rest self.old.arrays.now }
+        ensures keys { self.new.keys ≡ at_rest self.old.keys.now }
+        ensures ranges { self.new.ranges ≡ at_rest self.old.ranges.now }
+        ensures others { self.new ≡ record self.old { arrays = self.new.arrays; keys = self.new.keys; ranges = self.new.ranges } }
+        ensures back { FewLead result self.old }
+        ensures fits { FewFit result (now_of self.old) }
+    {
+        match room {
+            None => {
+                self.arrays.forget();
+                self.keys.forget();
+                self.ranges.forget();
+                None
+            }
+            Some(room) => {
+                let mut room = room;
+                room.arrays = self.arrays.finish(alloc);
+                room.rare = self.finish_rare(alloc, room.rare.take());
+                Some(room)
+            }
+        }
+    }
+
+    /// Ends the step in the parts that few steps change, and gives what it changed there, if it changed anything, with room for those that fewer change where it changed
+    /// these, and with what came behind a text of the globals. It takes no memory.
+    #[inline]
+    pub fn finish_others(
+        &mut self,
+        alloc: Global,
+        room: Option<Box<FewGroup>>,
+        grown: Option<Box<Appended>>,
+    ) -> Option<Others>
         requires nested { BeganNested self.old }
-        requires room { HasRoom room self.old }
+        requires room { HasFewRoom room self.old }
+        requires grown { FitsAppended grown self.old.globals.now }
         ensures now { now_of self.new ≡ now_of self.old }
         ensures start { start_of self.new ≡ others_rested (now_of self.old) (start_of self.old) }
         ensures back { OthersLead result (now_of self.old) (start_of self.old) }
         ensures fits { FitsOthers result (now_of self.old) }
+        ensures grown { grown_in result ≡ grown }
         ensures sound { IsSound (now_of self.old) }
     {
         self.known();
-        if self.is_plain() {
+        if grown.is_none() && self.is_plain() {
             return None;
         }
         Some(Others {
-            arrays: self.arrays.finish(alloc),
             frames: self.frames.finish(alloc),
             operands: self.operands.finish(alloc),
-            rare: self.finish_rare(alloc, room),
+            grown,
+            few: self.finish_few(alloc, room),
         })
     }
 
-    /// Ends the step, and gives what it changed, of each global and each element once. It takes memory at most where a text grew in place, or keys
+    /// Ends the step, and gives what it changed, of each global and each element once. It takes memory at most where a text grew in place, or arrays, keys
     /// that are left or ranges have changed, and where that is refused nothing has changed.
     pub fn finish(&mut self, alloc: Global) -> Result<Group, AllocError>
         requires nested { BeganNested self.old }
@@ -153,9 +209,9 @@ impl Store {
         ensures sound { IsSound (now_of self.old) }
     {
         self.known();
-        let room = self.rare_room(alloc)?;
+        let room = self.few_room(alloc)?;
         let globals = self.globals.finish(alloc)?;
-        let others = self.finish_others(alloc, room);
+        let others = self.finish_others(alloc, room, None);
         Ok(Group {
             globals,
             others,
@@ -243,17 +299,59 @@ impl Store {
         }
     }
 
-    /// Puts back what a step that ended changed in the parts that few steps change, and leaves the newer values there. It takes no memory and always succeeds.
+    /// Takes what came behind a text of the globals in a step that ended from there. It takes no memory and always succeeds.
+    fn undo_grown(&mut self, grown: &Option<Box<Appended>>)
+        requires { FitsAppended grown.now self.old.globals.now }
+        ensures globals { self.new.globals ≡ at_rest (without grown.now self.old.globals.now) }
+        ensures others { self.new ≡ record self.old { globals = self.new.globals } }
+        ensures newer { with_again grown.now self.new.globals.now ≡ self.old.globals.now }
+    {
+        match grown {
+            None => self.globals.forget(),
+            Some(appended) => self.globals.take_back(appended),
+        }
+    }
+
+    /// Puts back what a step that ended changed in arrays, keys that are left and ranges, and leaves the newer ones there. It takes no memory and always succeeds.
+    fn undo_few(&mut self, few: &mut Option<Box<FewGroup>>)
+        requires { FewFit few.old (now_of self.old) }
+        ensures arrays { self.new.arrays ≡ at_rest (few_arrays self.old.arrays.now few.old) }
+        ensures keys { self.new.keys ≡ at_rest (few_keys self.old.keys.now few.old) }
+        ensures ranges { self.new.ranges ≡ at_rest (few_ranges self.old.ranges.now few.old) }
+        ensures others { self.new ≡ record self.old { arrays = self.new.arrays; keys = self.new.keys; ranges = self.new.ranges } }
+        ensures sound { IsLaid self.new.arrays.now.index self.new.arrays.now.slots }
+        ensures live { AreKeysLive self.new.keys.now }
+        ensures newer { few_arrays self.new.arrays.now few.new ≡ self.old.arrays.now }
+        ensures newer_fits { FewArraysFit few.new self.new.arrays.now }
+    {
+        match few {
+            None => {
+                self.arrays.forget();
+                self.keys.forget();
+                self.ranges.forget();
+            }
+            Some(group) => {
+                self.arrays.undo(&mut group.arrays);
+                self.undo_rare(&mut group.rare);
+            }
+        }
+    }
+
+    /// Puts back what a step that ended changed in the parts that few steps change, and leaves the newer values there, and takes what came behind a text of the globals from
+    /// there. It takes no memory and always succeeds.
     pub fn undo_others(&mut self, others: &mut Option<Others>)
         requires { FitsOthers others.old (now_of self.old) }
         ensures now { now_of self.new ≡ others_put (now_of self.old) others.old }
-        ensures start { start_of self.new ≡ others_rested (now_of self.new) (start_of self.old) }
+        ensures start { start_of self.new ≡ globals_rested (now_of self.new) (start_of self.old) }
         ensures sound { IsSound (now_of self.new) }
+        ensures newer_globals { with_again (grown_in others.new) self.new.globals.now ≡ self.old.globals.now }
+        ensures grown { grown_in others.new ≡ grown_in others.old }
         ensures newer { arrays_in self.new.arrays.now others.new ≡ self.old.arrays.now }
         ensures newer_fits { ArraysFit others.new self.new.arrays.now }
     {
         match others {
             None => {
+                self.globals.forget();
                 self.arrays.forget();
                 self.frames.forget();
                 self.keys.forget();
@@ -261,10 +359,10 @@ impl Store {
                 self.operands.forget();
             }
             Some(group) => {
-                self.arrays.undo(&mut group.arrays);
+                self.undo_grown(&group.grown);
                 self.frames.undo(&mut group.frames);
                 self.operands.undo(&mut group.operands);
-                self.undo_rare(&mut group.rare);
+                self.undo_few(&mut group.few);
             }
         }
     }

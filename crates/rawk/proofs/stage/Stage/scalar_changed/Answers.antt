@@ -6,6 +6,7 @@ use Rattle.rawk_value.specs.declared.value.Value.{Value}
 use Rattle.rawk_value.specs.declared.value.Value.TheVariants.{Uninitialized, Input}
 use Rattle.rawk_debug.specs.declared.stop.Scalar.{Scalar}
 use Rattle.rawk_debug.specs.declared.stop.Scalar.TheVariants.{Global, Field}
+use Rattle.rawk_store.specs.Lent.{lent}
 use Rattle.rawk_store.specs.Observed.{Observed, seen}
 use Rattle.rawk_debug.specs.Watching.{same_value, scalar_at}
 use Rattle.rawk.specs.Staged.{Staged, seen_or}
@@ -20,7 +21,7 @@ returns-in-Global g c =
     let m = c.self.inside.machine in
     let n = c.in-Global.number in
     let some = some_of m.before (subst (λ (s : Staged g.row.R.Denot). IsTrue (is_some s.machine.before)) (sym c.self.view_is) c.requires) in
-    let left = or_at some.0.globals n (option_copied c.earlier_global.result) (c.earlier_global.ensures some.0 some.1) in
+    let left = or_at some.0.globals n (option_map lent c.earlier_global.result) (c.earlier_global.ensures some.0 some.1) in
     let right = or_at m.state.globals n (option_copied c.global.result) c.global.ensures in
     ap not (c.same_global.ensures ∙ ap (λ (v : Value). same_value v (unwrap_or (option_copied c.global.result) Uninitialized)) left ∙ ap (same_value (slice_index_or some.0.globals n Uninitialized)) right)
     ∙ ap (λ o. apart (Global n) (seen_or o) (seen m.state)) (sym some.1)

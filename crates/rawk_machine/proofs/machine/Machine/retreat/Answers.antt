@@ -5,8 +5,7 @@ use Rattle.rawk_history.specs.Steps.{Forth, Kept}
 use Rattle.rawk_store.specs.Layout.{Layout}
 use Rattle.rawk_store.specs.Stores.{now_of}
 use Rattle.rawk_code.specs.Actions.{SetAt}
-use Rattle.rawk_store.specs.Back.{back}
-use Rattle.rawk_store.specs.GroupBack.{arrays_in}
+use Rattle.rawk_store.specs.GroupBack.{arrays_in, globals_on}
 use Rattle.rawk_record.specs.Shown.{record_back}
 use Rattle.rawk_machine.specs.Last.{Back, Last, last_of}
 use Rattle.rawk_machine.specs.declared.last_move.LastMove.TheVariants as move
@@ -110,7 +109,7 @@ returns-clause-back g c =
     ∙ ap (λ (gs : List Group). standing (below i.point i.sets.items) (record i.tape { consumed = m.registers.consumed }) m gs (g.K.Keeper.limit c.go_back.new.keeper)) b.here
     ∙ ap (λ (top : Option ℕ). standing (below i.point i.sets.items) (record i.tape { consumed = m.registers.consumed }) m item.sets top) c.go_back.ensures.limit
     ∙ gone_is i.code i.settings i.steps i.sets.items i.point i.tape l i.executed here item newer items limit (last_of i.last (g.K.Keeper.forth i.keeper))
-    (ap (λ (x : Layout). globals_forth (back x.globals newer.globals) newer.sets) (sym is) ∙ b.globals)
+    (ap (λ (x : Layout). globals_forth (globals_on x.globals newer.globals newer.others) newer.sets) (sym is) ∙ b.globals)
     (ap (λ (x : Layout). arrays_forth (arrays_in x.arrays newer.others) newer.sets) (sym is) ∙ b.arrays)
     (ap (λ (x : Layout). record_forth (record_back x.current newer.current) newer.sets) (sym is) ∙ b.current)
     ∙ ap old (sym took)
