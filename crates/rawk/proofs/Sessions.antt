@@ -9,8 +9,8 @@ use Rattle.rawk_tree.specs.declared.tree.Program.{Program}
 use Rattle.rawk_code.specs.Actions.{SetAt}
 use Rattle.rawk_code.specs.Trace.{FirstValue}
 use Rattle.rawk_machine.specs.Standing.{Standing, Past}
-use Rattle.rawk_debug.specs.Positions.{Position, Snapshot, Stands}
-use Rattle.rawk_debug.specs.Works.{Draws, Work, read_failed}
+use Rattle.rawk_answers.specs.Positions.{Position, Snapshot, Stands}
+use Rattle.rawk_answers.specs.Works.{Draws, Work, read_failed}
 use Rattle.rawk_debug.specs.Moves.{Stand}
 use Rattle.rawk_debug.specs.Sessions.{stand, machine_of}
 use Rattle.rawk_debug.specs.declared.session.Session.{Session}

@@ -15,13 +15,13 @@ use Rattle.rawk_code.specs.Correct.{CodeOf}
 use Rattle.rawk_machine.specs.Standing.{Standing, Earlier, Past, MayCome, Stood, LastMade, given_of, IsSet, gone_back, taken_back}
 use Rattle.rawk_machine.specs.Kept.{AllBelow, Few}
 use Rattle.rawk_machine.specs.InTrace.{exactly_by}
-use Rattle.rawk_debug.specs.Positions.{Snapshot, Stands, at, held_or, upto, raised, has_set_at, trace_under}
+use Rattle.rawk_answers.specs.Positions.{Snapshot, Stands, at, held_or, upto, raised, has_set_at, trace_under}
 use Rattle.rawk_value.specs.declared.fault.Fault.{Fault}
 use Rattle.rawk_store.specs.State.{Target}
 use Rattle.rawk_tape.specs.Inputs.{before}
 use Rattle.rawk_tape.specs.declared.source.Ending.{Ending as End}
 use Rattle.rawk_travel.specs.Asking as asking
-use Rattle.rawk_debug.specs.Works.{Draws}
+use Rattle.rawk_answers.specs.Works.{Draws}
 use Rattle.rawk.specs.Staged.{IsStage, held_of, position_of, work_of}
 
 pub stage_kept : {S : Type 0} (may_give : S → Input → Type 0) (p : Program) (old new : Standing S) → IsStage may_give p old → new.code ≡ old.code → new.limit ≡ old.limit → ((input : Input) → MayCome may_give new [] input → MayCome may_give old [] input) →

@@ -10,7 +10,7 @@ use Rattle.rawk_value.specs.declared.fault.Fault.TheVariants as fault
 use Rattle.rawk_code.specs.Laws.{IsBeginning}
 use Rattle.rawk_code.specs.Trace.{FirstValue}
 use Rattle.rawk_code.specs.Settings.{settings_fit}
-use Rattle.rawk_debug.specs.Positions.{Position}
+use Rattle.rawk_answers.specs.Positions.{Position}
 use Rattle.rawk_debug.specs.Moves.{Stand}
 use Rattle.rawk.specs.declared.dialog.Over.{Over}
 use Rattle.rawk.specs.Dialogs.{IsHeld, report_over}

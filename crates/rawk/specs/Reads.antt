@@ -8,8 +8,8 @@ use Rattle.rawk_tape.specs.declared.source.Ending.{Ending}
 use Rattle.rawk_tape.specs.declared.source.Ending.TheVariants.{Failed}
 use Rattle.rawk_tree.specs.declared.tree.Program.{Program}
 use Rattle.rawk_code.specs.Trace.{FirstValue}
-use Rattle.rawk_debug.specs.Positions.{Position, here}
-use Rattle.rawk_debug.specs.Works.{Work, read_failed}
+use Rattle.rawk_answers.specs.Positions.{Position, here}
+use Rattle.rawk_answers.specs.Works.{Work, read_failed}
 use Rattle.rawk.specs.declared.report.Cause.TheVariants as cause
 use Rattle.rawk.specs.Reports.{stopped_by}
 use Rattle.rawk.specs.Runs.{Took}

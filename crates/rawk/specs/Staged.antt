@@ -5,8 +5,8 @@ use Rattle.rawk_tape.specs.Records.{Input}
 use Rattle.rawk_history.specs.Keeping.{keeps_any}
 use Rattle.rawk_code.specs.Correct.{CodeOf}
 use Rattle.rawk_machine.specs.Standing.{Standing, MayCome, Stood}
-use Rattle.rawk_debug.specs.Positions.{Position, Snapshot}
-use Rattle.rawk_debug.specs.Works.{Work}
+use Rattle.rawk_answers.specs.Positions.{Position, Snapshot}
+use Rattle.rawk_answers.specs.Works.{Work}
 use Rattle.rawk_store.specs.Observed.{Observed}
 
 -- a machine and its program

@@ -8,7 +8,7 @@ ghost use Rattle.rawk_tape.specs.Lines.{FindsNone, failures_at};
 ghost use Rattle.rawk_tape.specs.Records.{Input};
 ghost use Rattle.rawk_debug.specs.Sessions.{stand, machine_of};
 ghost use Rattle.rawk_debug.specs.Transcript.{reply_text};
-ghost use Rattle.rawk_debug.specs.Works.{Draws};
+ghost use Rattle.rawk_answers.specs.Works.{Draws};
 ghost use Rattle.rawk.specs.Reads.{WasRead};
 ghost use Rattle.rawk.specs.Reports.{read_failures, write_failures};
 ghost use Rattle.rawk.specs.Dialogs.{Speaks, Told, over_by, quits_by, report_over};

@@ -5,7 +5,7 @@ ghost use Rattle.rawk_value.specs.declared.value.Value.TheVariants.{Uninitialize
 ghost use Rattle.std.specs.Str.{bytes_eq};
 ghost use Rattle.rawk_record.specs.FieldRefs.{ref_value};
 ghost use Rattle.rawk_store.specs.Lent.{lent};
-ghost use Rattle.rawk_debug.specs.Watching.{same_held, same_value, scalar_at};
+ghost use Rattle.rawk_answers.specs.Watching.{same_held, same_value, scalar_at};
 ghost use Rattle.rawk_store.specs.Observed.{seen};
 ghost use Rattle.rawk.specs.Staged.{IsStage, seen_or};
 

@@ -8,8 +8,8 @@ use Rattle.rawk_code.specs.Laws.{SetsAgreeBelow, SetsLawBelow}
 use Rattle.rawk_code.specs.Trace.{Trace, number}
 use Rattle.rawk_commands.specs.declared.command.Way.TheVariants.{Forward, Back}
 use Rattle.rawk_commands.specs.declared.command.Goal.{Goal}
-use Rattle.rawk_debug.specs.declared.stop.Entry.{Entry}
-use Rattle.rawk_debug.specs.Positions.{Position, Snapshot, Stands, held_or, trace_under, trace_of, at, here, upto, raised, gone_to, back_at}
+use Rattle.rawk_answers.specs.declared.stop.Entry.{Entry}
+use Rattle.rawk_answers.specs.Positions.{Position, Snapshot, Stands, held_or, trace_under, trace_of, at, here, upto, raised, gone_to, back_at}
 use Rattle.rawk_store.specs.Observed.{Observed, seen}
 use Rattle.rawk_debug.specs.Moves.{Stand, sought, wanted, depth_of, from_below, from_above, Halts, Returns, is_found}
 

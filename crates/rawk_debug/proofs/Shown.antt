@@ -5,10 +5,11 @@ use Rattle.std.proofs.Math.Seq.{drop-append_seam}
 use Rattle.rawk_value.specs.Values.{Bytes}
 use Rattle.rawk_debug.specs.declared.answer.Answer.{Answer}
 use Rattle.rawk_debug.specs.declared.answer.Answer.TheVariants.{Went, Halted, Returned, Stayed, Shown, Listed, TakenBack, Made, BreakDeleted, WatchDeleted, Traced, Left}
-use Rattle.rawk_debug.specs.Positions.{Snapshot}
+use Rattle.rawk_answers.specs.Positions.{Snapshot}
 use Rattle.rawk_store.specs.Observed.{Observed}
 use Rattle.rawk_debug.specs.Moves.{Stand}
-use Rattle.rawk_debug.specs.Answers.{as_lines, behind_shown, line_end, shown_of, text_of}
+use Rattle.rawk_answers.specs.Texts.{as_lines, line_end}
+use Rattle.rawk_debug.specs.Answers.{behind_shown, shown_of, text_of}
 
 ended : (text : Bytes) (whole : Bool) → (if whole then text else text ++ 10 ∷ []) ≡ text ++ (if whole then [] else 10 ∷ [])
 ended text true = sym (append-nil text)

@@ -4,7 +4,7 @@ use Rattle.std.proofs.lemmas.Bool.Decides.{leb_tells}
 use Rattle.rawk_tape.specs.Records.{Input}
 use Rattle.rawk_code.specs.Actions.{SetAt}
 use Rattle.rawk_commands.specs.declared.command.Goal.TheVariants.{AnyPoint}
-use Rattle.rawk_debug.specs.Positions.{Position, IsPosition, here, upto, raised, back_at, IsTakenBack}
+use Rattle.rawk_answers.specs.Positions.{Position, IsPosition, here, upto, raised, back_at, IsTakenBack}
 use Rattle.rawk_debug.specs.Moves.{Stand, Goes, Returns}
 use Rattle.rawk_debug.specs.Laws.{KeepsAStep, IsBack, StepLaw, SetLaw}
 

@@ -15,17 +15,17 @@ use Rattle.rawk_commands.specs.declared.command.C.{C}
 use Rattle.rawk_commands.specs.declared.command.C.TheVariants.{BadArgument, NoSuchPlace, NoSuchNumber, ProgramEnded, NotInFunction, SetRefused, NoSetToTakeBack, OutOfMemory}
 use Rattle.rawk_commands.specs.Reading.{names_something}
 use Rattle.rawk_words.specs.declared.array.Array.{Array}
-use Rattle.rawk_debug.specs.declared.stop.Watched.{Watched}
-use Rattle.rawk_debug.specs.declared.stop.Lvalue.{Lvalue}
-use Rattle.rawk_debug.specs.declared.stop.Stop.{Stop}
-use Rattle.rawk_debug.specs.declared.stop.Stop.TheVariants as stop
-use Rattle.rawk_debug.specs.declared.stop.Entry.{Entry}
+use Rattle.rawk_answers.specs.declared.stop.Watched.{Watched}
+use Rattle.rawk_answers.specs.declared.stop.Lvalue.{Lvalue}
+use Rattle.rawk_answers.specs.declared.stop.Stop.{Stop}
+use Rattle.rawk_answers.specs.declared.stop.Stop.TheVariants as stop
+use Rattle.rawk_answers.specs.declared.stop.Entry.{Entry}
 use Rattle.rawk_debug.specs.declared.answer.Answer.{Answer}
 use Rattle.rawk_debug.specs.declared.answer.Answer.TheVariants.{Went, Halted, Returned, Stayed, Shown, Listed, TakenBack, Made, BreakDeleted, WatchDeleted, Traced, Left}
-use Rattle.rawk_debug.specs.Positions.{Snapshot, here, back_at, with_set, has_set_at, IsTakenBack}
+use Rattle.rawk_answers.specs.Positions.{Snapshot, here, back_at, with_set, has_set_at, IsTakenBack}
 use Rattle.rawk_store.specs.Observed.{Observed}
-use Rattle.rawk_debug.specs.Activations.{local_kinds, local_names}
-use Rattle.rawk_debug.specs.Naming.{place_of, listed_of, lvalue_of, site_of, target_of, constant_value, is_refused}
+use Rattle.rawk_answers.specs.Activations.{local_kinds, local_names}
+use Rattle.rawk_answers.specs.Naming.{place_of, listed_of, lvalue_of, site_of, target_of, constant_value, is_refused}
 use Rattle.rawk_debug.specs.Moves.{Stand, Goes, Halts, Returns, is_found, from_below, from_above, depth_of}
 
 -- whether a move leaves a function where there is none

@@ -8,7 +8,7 @@ use Rattle.rawk_commands.specs.declared.command.Place.{Place}
 use Rattle.rawk_commands.specs.declared.command.Constant.{Constant}
 use Rattle.rawk_debug.specs.declared.answer.Answer.{Answer}
 use Rattle.rawk_debug.specs.declared.answer.Answer.TheVariants.{Went}
-use Rattle.rawk_debug.specs.Positions.{IsPosition, here}
+use Rattle.rawk_answers.specs.Positions.{IsPosition, here}
 use Rattle.rawk_store.specs.Observed.{Observed}
 use Rattle.rawk_debug.specs.Moves.{Stand}
 use Rattle.rawk_debug.specs.Commands.{Executes}

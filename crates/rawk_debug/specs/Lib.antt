@@ -1,9 +1,4 @@
-pub mod Positions
-pub mod Watching
-pub mod Works
 pub mod Moves
-pub mod Activations
-pub mod Naming
 pub mod Commands
 pub mod Sessions
 pub mod Answers

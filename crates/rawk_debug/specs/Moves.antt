@@ -8,12 +8,12 @@ use Rattle.rawk_commands.specs.declared.command.Way.{Way}
 use Rattle.rawk_commands.specs.declared.command.Way.TheVariants.{Forward, Back}
 use Rattle.rawk_commands.specs.declared.command.Goal.{Goal}
 use Rattle.rawk_commands.specs.declared.command.Goal.TheVariants.{AnyPoint, NoDeeper, Shallower, StopOnly}
-use Rattle.rawk_debug.specs.declared.stop.Stop.{Stop}
-use Rattle.rawk_debug.specs.declared.stop.Stop.TheVariants.{Break, Watch}
-use Rattle.rawk_debug.specs.declared.stop.Entry.{Entry}
-use Rattle.rawk_debug.specs.Positions.{Position, Snapshot, trace_of, at, gone_to, back_at}
+use Rattle.rawk_answers.specs.declared.stop.Stop.{Stop}
+use Rattle.rawk_answers.specs.declared.stop.Stop.TheVariants.{Break, Watch}
+use Rattle.rawk_answers.specs.declared.stop.Entry.{Entry}
+use Rattle.rawk_answers.specs.Positions.{Position, Snapshot, trace_of, at, gone_to, back_at}
 use Rattle.rawk_store.specs.Observed.{Observed, seen}
-use Rattle.rawk_debug.specs.Watching.{differs}
+use Rattle.rawk_answers.specs.Watching.{differs}
 
 -- whether a site stands there; at the ending none does
 abbrev pub stands_at : ℕ → Option Ending → Option ℕ → Bool

@@ -1,5 +1,5 @@
 -- A session as its commands see it.
-use Rattle.rawk_debug.specs.Positions.{Position}
+use Rattle.rawk_answers.specs.Positions.{Position}
 use Rattle.rawk_debug.specs.Moves.{Stand}
 use Rattle.rawk_debug.specs.declared.session.Session.{Session}
 

@@ -13,7 +13,7 @@ use Rattle.rawk_debug.specs.declared.answer.Answer.{Answer}
 use Rattle.rawk_debug.specs.declared.answer.Answer.TheVariants.{Halted}
 use Rattle.rawk_debug.specs.declared.transcript.Reply.{Reply}
 use Rattle.rawk_debug.specs.declared.transcript.Reply.TheVariants.{Text, Line, Nothing, Quits}
-use Rattle.rawk_debug.specs.Positions.{here}
+use Rattle.rawk_answers.specs.Positions.{here}
 use Rattle.rawk_store.specs.Observed.{Observed}
 use Rattle.rawk_debug.specs.Moves.{Stand}
 use Rattle.rawk_debug.specs.Commands.{Executes}

@@ -7,12 +7,11 @@ ghost use Rattle.rawk_debug.specs.Answers.{behind_shown, shown_of, stop_lines, t
 
 use crate::search::hits_here;
 use crate::session::Session;
-use crate::stepper::Stepper;
-use crate::stop::Lvalue;
-use crate::text::{
+use rawk_answers::text::{
     output_from, push_array, push_backtrace, push_deleted, push_line_end, push_newest,
     push_place_line, push_shown_line, push_stop_line,
 };
+use rawk_answers::{Lvalue, Stepper};
 use rawk_commands::{C, push_text};
 use rawk_words::Array;
 use std::alloc::{AllocError, Global};

@@ -5,12 +5,11 @@ ghost use Rattle.rawk_tape.specs.Records.{Input};
 ghost use Rattle.rawk_debug.specs.Moves.{hits, stops_at, sought, Goes, Halts, Returns, is_found, from_below, from_above};
 ghost use Rattle.rawk_debug.specs.Commands.{Forwards, Backwards, Does, IsReady, leaves_none, rewound};
 ghost use Rattle.rawk_debug.specs.Sessions.{stand};
-ghost use Rattle.rawk_debug.specs.Works.{Draws};
+ghost use Rattle.rawk_answers.specs.Works.{Draws};
 
 use crate::answer::Answer;
 use crate::session::Session;
-use crate::stepper::Stepper;
-use crate::stop::Stop;
+use rawk_answers::{Stepper, Stop};
 use rawk_commands::{Command, Goal};
 use rawk_compiler::laws;
 use std::alloc::{AllocError, Global};

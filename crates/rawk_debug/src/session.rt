@@ -5,14 +5,13 @@ ghost use Rattle.rawk_tape.specs.Records.{Input};
 ghost use Rattle.rawk_commands.specs.declared.command.C.TheVariants.{OutOfMemory, NoSuchNumber};
 ghost use Rattle.rawk_debug.specs.Commands.{Makes, Removes, Executes, IsReady, deleted, goes_forward, needs_memory, has_entry, is_entry, is_kind, listed_at, lvalue_at, most};
 ghost use Rattle.rawk_debug.specs.Sessions.{stand, machine_of};
-ghost use Rattle.rawk_debug.specs.Works.{Draws};
+ghost use Rattle.rawk_answers.specs.Works.{Draws};
 
 use crate::answer::Answer;
-use crate::naming::{
+use rawk_answers::naming::{
     constant_value, listed_of, local_kinds, local_names, lvalue_of, place_of, site_of, target_of,
 };
-use crate::stepper::Stepper;
-use crate::stop::{Entry, Lvalue, Stop};
+use rawk_answers::{Entry, Lvalue, Stepper, Stop};
 use rawk_commands::{C, Command, Constant, Goal, Place, Spot, Way};
 use rawk_words::Array;
 use std::alloc::{AllocError, Global};

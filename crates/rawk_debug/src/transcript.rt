@@ -4,13 +4,13 @@ ghost use Rattle.std.specs.Prelude.{◌≡◌, Ok};
 ghost use Rattle.rawk_tape.specs.Records.{Input};
 ghost use Rattle.rawk_debug.specs.Commands.{IsReady};
 ghost use Rattle.rawk_debug.specs.Sessions.{stand, machine_of};
-ghost use Rattle.rawk_debug.specs.Works.{Draws};
+ghost use Rattle.rawk_answers.specs.Works.{Draws};
 ghost use Rattle.rawk_debug.specs.Transcript.{reply_rest, reply_shown, reply_text, Carries, Heard, Obeys, Says, IsReply, lost, quits};
 
 use crate::answer::Answer;
 use crate::session::Session;
-use crate::stepper::Stepper;
-use crate::text::output_from;
+use rawk_answers::Stepper;
+use rawk_answers::text::output_from;
 use rawk_commands::{C, Command};
 use std::alloc::{AllocError, Global};
 

@@ -2,18 +2,15 @@
 use Rattle.std.specs.Prelude.{◌≡◌, ℕ, ℤ, pos, List, [], ◌∷◌, ◌++◌, Option, None, Some}
 use Rattle.std.specs.Global.{Box, Vec}
 use Rattle.rawk_value.specs.declared.operator.Arithmetic.{Arithmetic}
-use Rattle.rawk_value.specs.declared.operator.Arithmetic.TheVariants.{Add, Sub, Pow}
+use Rattle.rawk_value.specs.declared.operator.Arithmetic.TheVariants.{Pow}
 use Rattle.rawk_parsing.specs.declared.tree.Assignment.TheVariants as setting
 use Rattle.rawk_parsing.specs.declared.tree.Operator.{Operator}
-use Rattle.rawk_parsing.specs.declared.tree.Operator.TheVariants as op
 use Rattle.rawk_words.specs.declared.array.Array.{Array}
 use Rattle.rawk_words.specs.declared.operator.Extent.{Extent}
 use Rattle.rawk_words.specs.declared.operator.Extent.TheVariants as extent
 use Rattle.rawk_words.specs.declared.operator.Sign.{Sign}
 use Rattle.rawk_words.specs.declared.operator.Logic.{Logic}
-use Rattle.rawk_words.specs.declared.operator.Logic.TheVariants as logic
 use Rattle.rawk_parsing.specs.declared.tree.Change.{Change}
-use Rattle.rawk_parsing.specs.declared.tree.Change.TheVariants as change
 use Rattle.rawk_parsing.specs.declared.tree.Function.{Function}
 use Rattle.rawk_parsing.specs.declared.tree.Function.TheVariants as fun
 use Rattle.rawk_parsing.specs.declared.tree.Name as word
@@ -33,12 +30,12 @@ use Rattle.rawk_tree.specs.declared.tree.Link.TheVariants as tree_link
 use Rattle.rawk_tree.specs.declared.tree.Place.{Place}
 use Rattle.rawk_tree.specs.declared.tree.Place.TheVariants as tree_place
 use Rattle.rawk_tree.specs.declared.tree.Scalar.{Scalar}
-use Rattle.rawk_tree.specs.declared.tree.Scalar.TheVariants as scalar
 use Rattle.rawk_tree.specs.declared.tree.Kind.{Kind}
 use Rattle.rawk_tree.specs.declared.tree.Kind.TheVariants as kind
 use Rattle.rawk_tree.specs.declared.tree.Separation.{Separation}
 use Rattle.rawk_tree.specs.declared.tree.Separation.TheVariants as separation
 use Rattle.rawk_builtin_trees.specs.Calls.{Applies}
+pub use Rattle.rawk_builtin_trees.specs.Nodes.{joiner_of, scalar_place, IsRecordPlace, IsRecord, IsMatchOf, operator_of, neutral}
 use Rattle.rawk_special.specs.declared.special.TheConstants.{FS}
 use Rattle.rawk_syntax.specs.Meant.{Sense}
 
@@ -56,60 +53,17 @@ pub data Pair : Type 0 where
   -- what separates the parts of a text, or nothing, and how it separates
   ASeparator : List parsed.Expr → Separation → Expr → Pair
 
--- the operator of a link
-abbrev pub joiner_of : Operator → Joiner
-joiner_of (op.Arithmetic o) = joiner.Arithmetic o
-joiner_of (op.Comparison c) = joiner.Comparison c
-joiner_of op.Concat = joiner.Concat
-joiner_of op.Match = joiner.Matches
-joiner_of op.NotMatch = joiner.NotMatches
-
 -- the right operand of a joiner, and what it is settled as: behind `~` and `!~` it is sought
 abbrev pub right_of : Joiner → parsed.Expr → Expr → Pair
 right_of joiner.Matches e s = ASought e s
 right_of joiner.NotMatches e s = ASought e s
 right_of j e s = AnExpr e s
 
--- a scalar, as a place
-abbrev pub scalar_place : Scalar → Place
-scalar_place (scalar.Global n) = tree_place.Global n
-scalar_place (scalar.Local n) = tree_place.Local n
-scalar_place scalar.FieldCount = tree_place.FieldCount
-
--- `$0`, as a place and as its value
-pub record IsRecordPlace (q : Place) : Type 0 where
-  pub number : Box Expr
-  pub zero : number.value ≡ tree.Number (pos 0)
-  pub is : q ≡ tree_place.Field number
-
-pub record IsRecord (e : Expr) : Type 0 where
-  pub place : Place
-  pub whole : IsRecordPlace place
-  pub is : e ≡ tree.Read place
-
 -- which matches a function replaces, if it does
 abbrev pub extent_of : Function → Option Extent
 extent_of fun.Sub = Some extent.First
 extent_of fun.Gsub = Some extent.All
 extent_of _ = None
-
--- whether `$0` has a match of a regular expression (POSIX awk, Regular Expressions)
-pub record IsMatchOf (w : List ℕ) (e : Expr) : Type 0 where
-  pub first : Box Expr
-  pub more : Vec Link
-  pub whole : IsRecord first.value
-  pub link : more.items ≡ tree_link.Combine joiner.Matches (tree.Text w) ∷ []
-  pub is : e ≡ tree.Chain first more
-
--- what `++` and `--` do with 1
-abbrev pub operator_of : Change → Arithmetic
-operator_of change.Increment = Add
-operator_of change.Decrement = Sub
-
--- what stands before the first test: 1 for `&&`, 0 for `||`
-abbrev pub neutral : Logic → ℤ
-neutral logic.And = pos 1
-neutral logic.Or = pos 0
 
 -- whether the array of a name has the element of one subscript (POSIX awk, "Expressions in awk")
 pub record IsMember (means : Sense) (n : word.Name) (subscript : Expr) (e : Expr) : Type 0 where

@@ -10,8 +10,8 @@ ghost use Rattle.rawk_syntax.specs.Meant.{is_there, sense_of};
 ghost use Rattle.rawk_syntax.specs.Settled.{IsIn, IsMember};
 
 use crate::expressions::settle_list;
-use crate::growth::push;
 use crate::scope::{Scope, array_of, the_array};
+use rawk_builtin_trees::growth::push;
 use rawk_items::Boxed;
 use rawk_parsing::tree as parsed;
 use rawk_tree::{Array, Expr, Stmt};

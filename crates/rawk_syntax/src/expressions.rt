@@ -14,13 +14,13 @@ ghost use Rattle.rawk_syntax.specs.Meant.{sense_of};
 ghost use Rattle.rawk_syntax.specs.Settled.{Settles, AnExpr, APlace, ASought, ASeparator, SomeArguments, SomeLinks, SomeTests, SomeExprs, Prints, right_of, extent_of};
 
 use crate::arrays::{array_named, counted, members_of};
-use crate::growth::{boxed, push};
 use crate::kinds::kind_at;
-use crate::nodes::{
+use crate::scope::{Scope, the_array, the_function, the_scalar};
+use rawk_builtin_trees::growth::{boxed, push};
+use rawk_builtin_trees::nodes::{
     field_separator, joiner_of, neutral, number, operator_of, record, record_place, scalar_place,
     settle_ere, settle_number, settle_text,
 };
-use crate::scope::{Scope, the_array, the_function, the_scalar};
 use rawk_builtin_trees::{apply, format_and_arguments};
 use rawk_items::Boxed;
 use rawk_parsing::tree as parsed;

@@ -13,11 +13,11 @@ ghost use Rattle.rawk_syntax.specs.Laid.{sited, rule_of, Adds, Does, Guards, Rul
 ghost use Rattle.rawk_syntax.specs.Texts.{IsText};
 
 use crate::expressions::{settle_expr, settle_printed};
-use crate::growth::push;
 use crate::kinds::{global_kinds, parameter_kinds};
 use crate::lines::Sites;
 use crate::scope::Scope;
 use crate::statements::settle_statements;
+use rawk_builtin_trees::growth::push;
 use rawk_grammar::tree as parsed;
 use rawk_grammar::tree::{Action, Item, Pattern};
 use rawk_items::Boxed;

@@ -3,12 +3,10 @@
 
 mod arrays;
 mod expressions;
-mod growth;
 mod items;
 mod kinds;
 pub mod laws;
 mod lines;
-mod nodes;
 mod parsing;
 mod scope;
 mod statements;

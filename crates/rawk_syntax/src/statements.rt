@@ -12,9 +12,9 @@ ghost use Rattle.rawk_syntax.specs.Laid.{sited, Simply, Exits, Returns, Jumps, T
 
 use crate::arrays::settle_delete;
 use crate::expressions::{settle_expr, settle_formatted, settle_printed};
-use crate::growth::{boxed, push};
 use crate::lines::Sites;
 use crate::scope::{Scope, the_array, the_scalar};
+use rawk_builtin_trees::growth::{boxed, push};
 use rawk_grammar::tree as parsed;
 use rawk_grammar::tree::{Act, Condition, Jump, Simple};
 use rawk_items::Boxed;

@@ -1,5 +1,5 @@
 use Rattle.std.proofs.Common.{◌≡◌, inr, refl, sym, subst}
-use Rattle.rawk_debug.specs.Positions.{Position}
+use Rattle.rawk_answers.specs.Positions.{Position}
 use Rattle.rawk.specs.declared.report.Report.{Report}
 use Rattle.rawk.specs.Dialogs.{IsHeld}
 use Rattle.rawk.specs.Debugs.{Debugs, held, never_stood, stand_at}

@@ -1,7 +1,7 @@
 use Rattle.std.proofs.Common.{◌≡◌, ◌++◌, inl, drop, ap, ◌∙◌, subst}
 use Rattle.rawk_value.specs.Values.{Bytes}
 use Rattle.rawk_debug.specs.Sessions.{stand}
-use Rattle.rawk_debug.specs.Positions.{Snapshot}
+use Rattle.rawk_answers.specs.Positions.{Snapshot}
 use Rattle.rawk_debug.specs.Answers.{shown_of, text_of}
 use Rattle.rawk_debug.proofs.Shown.{whole_answer}
 use Rattle.rawk_debug.proofs.transcript.told.Goals as goal

@@ -1,7 +1,7 @@
 use Rattle.std.proofs.Common.{ap, arith, refl, sym, subst, ◌∙◌}
 use Rattle.rawk_debug.specs.declared.session.Session.{Session}
 use Rattle.rawk_debug.specs.Sessions.{stand, machine_of}
-use Rattle.rawk_debug.specs.Works.{draws_none, draws_on}
+use Rattle.rawk_answers.specs.Works.{draws_none, draws_on}
 use Rattle.rawk_tape.specs.Lines.{LinesState, failures_at}
 use Rattle.rawk.specs.declared.dialog.Over.{Over}
 use Rattle.rawk.specs.Reads.{WasRead}

@@ -1,6 +1,6 @@
 use Rattle.std.proofs.Common.{refl, sym}
 use Rattle.rawk_debug.specs.Sessions.{stand, machine_of}
-use Rattle.rawk_debug.specs.Works.{draws_none, draws_on}
+use Rattle.rawk_answers.specs.Works.{draws_none, draws_on}
 use Rattle.rawk.specs.Reports.{read_failures, write_failures}
 use Rattle.rawk.specs.Dialogs.{report_over}
 use Rattle.rawk.proofs.SoFar.{none_counted, counted}

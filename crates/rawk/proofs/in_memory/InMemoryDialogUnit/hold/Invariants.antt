@@ -2,7 +2,7 @@ use Rattle.std.proofs.Common.{length}
 use Rattle.rawk_tape.specs.Records.{Input}
 use Rattle.rawk_tape.specs.Inputs.{CountsUp}
 use Rattle.rawk_debug.specs.Sessions.{stand, machine_of}
-use Rattle.rawk_debug.specs.Works.{Draws}
+use Rattle.rawk_answers.specs.Works.{Draws}
 use Rattle.rawk.proofs.LinesInMemory.{Carried}
 use Rattle.rawk.proofs.in_memory.InMemoryDialogUnit.hold.Given as goal
 

@@ -4,11 +4,11 @@ use Rattle.rawk_record.specs.FieldRefs.{ref_value}
 use Rattle.std.proofs.lemmas.Bool.{ne_eqb}
 use Rattle.rawk_value.specs.declared.value.Value.{Value}
 use Rattle.rawk_value.specs.declared.value.Value.TheVariants.{Uninitialized, Input}
-use Rattle.rawk_debug.specs.declared.stop.Scalar.{Scalar}
-use Rattle.rawk_debug.specs.declared.stop.Scalar.TheVariants.{Global, Field}
+use Rattle.rawk_answers.specs.declared.stop.Scalar.{Scalar}
+use Rattle.rawk_answers.specs.declared.stop.Scalar.TheVariants.{Global, Field}
 use Rattle.rawk_store.specs.Lent.{lent}
 use Rattle.rawk_store.specs.Observed.{Observed, seen}
-use Rattle.rawk_debug.specs.Watching.{same_value, scalar_at}
+use Rattle.rawk_answers.specs.Watching.{same_value, scalar_at}
 use Rattle.rawk.specs.Staged.{Staged, seen_or}
 use Rattle.rawk.proofs.Stages.{some_of, or_at}
 use Rattle.rawk.proofs.stage.Stage.scalar_changed.Goals as goal

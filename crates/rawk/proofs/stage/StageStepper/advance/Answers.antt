@@ -1,5 +1,5 @@
 use Rattle.std.proofs.Common.{[], subst}
-use Rattle.rawk_debug.specs.Works.{Draws}
+use Rattle.rawk_answers.specs.Works.{Draws}
 use Rattle.rawk.specs.Staged.{Staged, work_of}
 use Rattle.rawk.proofs.Stages.{stage_kept, draws_is}
 use Rattle.rawk.proofs.stage.StageStepper.advance.Goals as goal

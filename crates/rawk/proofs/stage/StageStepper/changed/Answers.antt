@@ -2,9 +2,9 @@ use Rattle.std.proofs.Common.{◌≡◌, ◌∙◌, ap, sym, subst, IsTrue, Opti
 use Rattle.std.specs.Prelude.{not, is_some, option_copied}
 use Rattle.rawk_value.specs.Values.{Bytes}
 use Rattle.rawk_value.specs.declared.value.Value.{Value}
-use Rattle.rawk_debug.specs.declared.stop.Watched.TheVariants.{Element}
+use Rattle.rawk_answers.specs.declared.stop.Watched.TheVariants.{Element}
 use Rattle.rawk_store.specs.Observed.{seen}
-use Rattle.rawk_debug.specs.Watching.{same_held, differs, value_at}
+use Rattle.rawk_answers.specs.Watching.{same_held, differs, value_at}
 use Rattle.rawk.specs.Staged.{Staged, seen_or}
 use Rattle.rawk.proofs.Stages.{some_of}
 use Rattle.rawk.proofs.stage.StageStepper.changed.Goals as goal

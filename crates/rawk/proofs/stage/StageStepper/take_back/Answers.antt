@@ -1,6 +1,6 @@
 use Rattle.std.proofs.Common.{◌∙◌, [], ap}
 use Rattle.rawk_machine.specs.Standing.{Standing}
-use Rattle.rawk_debug.specs.Positions.{has_set_at}
+use Rattle.rawk_answers.specs.Positions.{has_set_at}
 use Rattle.rawk.specs.Staged.{Staged, work_of}
 use Rattle.rawk.proofs.Stages.{stage_kept, unset_work, unset_code, unset_limit, has_by}
 use Rattle.rawk.proofs.stage.StageStepper.take_back.Goals as goal

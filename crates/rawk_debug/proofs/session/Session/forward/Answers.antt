@@ -1,6 +1,6 @@
 use Rattle.std.proofs.Common.{refl, sym, ◌∙◌}
 use Rattle.rawk_debug.specs.Sessions.{stand}
-use Rattle.rawk_debug.specs.Works.{draws_on}
+use Rattle.rawk_answers.specs.Works.{draws_on}
 use Rattle.rawk_debug.proofs.Searches.{halts_on, none_is}
 use Rattle.rawk_debug.proofs.session.Session.forward.Goals as goal
 

@@ -1,9 +1,9 @@
 use Rattle.std.proofs.Common.{◌≡◌, ◌-◌, None}
 use Rattle.rawk_tape.specs.Records.{Input}
-use Rattle.rawk_debug.specs.Positions.{Stands}
+use Rattle.rawk_answers.specs.Positions.{Stands}
 use Rattle.rawk_debug.specs.Moves.{Halts, depth_of}
 use Rattle.rawk_debug.specs.Sessions.{stand}
-use Rattle.rawk_debug.specs.Works.{Work, Draws}
+use Rattle.rawk_answers.specs.Works.{Work, Draws}
 use Rattle.rawk_debug.proofs.session.Session.forward.Given as goal
 
 abbrev pub invariant-search : goal.invariant-search

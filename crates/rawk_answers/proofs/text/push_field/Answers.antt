@@ -1,7 +1,7 @@
 use Rattle.std.proofs.Common.{◌-◌, sym}
 use Rattle.rawk_value.specs.declared.value.Value.TheVariants.{Uninitialized}
-use Rattle.rawk_debug.proofs.Absent.{absent_is, past_zero}
-use Rattle.rawk_debug.proofs.text.push_field.Goals as goal
+use Rattle.rawk_answers.proofs.Absent.{absent_is, past_zero}
+use Rattle.rawk_answers.proofs.text.push_field.Goals as goal
 
 pub returns-in-None : goal.returns-in-None
 returns-in-None g c =

@@ -6,10 +6,10 @@ ghost use Rattle.rawk_tree.specs.Sites.{line_at};
 ghost use Rattle.rawk_arrays.specs.Walks.{texts};
 ghost use Rattle.rawk_commands.specs.Texts.{shown_held, shown_value};
 ghost use Rattle.rawk_store.specs.State.{local_value};
-ghost use Rattle.rawk_debug.specs.Activations.{function_at, name_of};
+ghost use Rattle.rawk_answers.specs.Activations.{function_at, name_of};
 ghost use Rattle.rawk_store.specs.Observed.{seen};
-ghost use Rattle.rawk_debug.specs.Watching.{scalar_at};
-ghost use Rattle.rawk_debug.specs.Answers.{scalar_text, place_text, entry_text, watch_text, stop_line, spot_text, made_line, newest_line, last_of, at_line, fault_place, site_text, where_text, place_line, line_end, array_line, array_name, array_text, element_lines, lvalue_text, held_at, shown_line, frame_line, backtrace};
+ghost use Rattle.rawk_answers.specs.Watching.{scalar_at};
+ghost use Rattle.rawk_answers.specs.Texts.{scalar_text, place_text, entry_text, watch_text, stop_line, spot_text, made_line, newest_line, last_of, at_line, fault_place, site_text, where_text, place_line, line_end, array_line, array_name, array_text, element_lines, lvalue_text, held_at, shown_line, frame_line, backtrace};
 
 use crate::naming::local_names;
 use crate::stepper::Stepper;
@@ -78,11 +78,7 @@ fn push_watch(out: &mut Vec<u8>, names: &[Bytes], stop: &Stop) -> Result<(), All
 }
 
 /// Adds the line of a breakpoint or a watch that stops.
-pub(crate) fn push_stop_line(
-    out: &mut Vec<u8>,
-    names: &[Bytes],
-    entry: &Entry,
-) -> Result<(), AllocError>
+pub fn push_stop_line(out: &mut Vec<u8>, names: &[Bytes], entry: &Entry) -> Result<(), AllocError>
     ensures { OnOk result (out.new.items ≡ out.old.items ++ stop_line names.now entry.now) }
 {
     push_entry(out, entry)?;
@@ -116,11 +112,7 @@ fn push_made(out: &mut Vec<u8>, program: &Program, entry: &Entry) -> Result<(), 
 }
 
 /// Adds the line of the last one that was made, if there is one.
-pub(crate) fn push_newest(
-    out: &mut Vec<u8>,
-    program: &Program,
-    stops: &[Entry],
-) -> Result<(), AllocError>
+pub fn push_newest(out: &mut Vec<u8>, program: &Program, stops: &[Entry]) -> Result<(), AllocError>
     ensures { OnOk result (out.new.items ≡ out.old.items ++ newest_line program.now.lines.items program.now.names.items (last_of stops.now)) }
 {
     match stops.last() {
@@ -130,7 +122,7 @@ pub(crate) fn push_newest(
 }
 
 /// Adds the line of a breakpoint or a watch that was removed: what it was, and its number.
-pub(crate) fn push_deleted(out: &mut Vec<u8>, what: &[u8], number: u64) -> Result<(), AllocError>
+pub fn push_deleted(out: &mut Vec<u8>, what: &[u8], number: u64) -> Result<(), AllocError>
     ensures { OnOk result (out.new.items ≡ out.old.items ++ (what.now ++ decimal number ++ 10 ∷ [])) }
 {
     push_text(out, what)?;
@@ -196,7 +188,7 @@ fn push_where<M: Stepper>(out: &mut Vec<u8>, machine: &M) -> Result<(), AllocErr
 }
 
 /// Adds the line that says where the machine stands.
-pub(crate) fn push_place_line<M: Stepper>(out: &mut Vec<u8>, machine: &M) -> Result<(), AllocError>
+pub fn push_place_line<M: Stepper>(out: &mut Vec<u8>, machine: &M) -> Result<(), AllocError>
     ensures { OnOk result (out.new.items ≡ out.old.items ++ place_line (M.position machine.now) (M.held machine.now)) }
 {
     push_text(out, b"point ")?;
@@ -235,7 +227,7 @@ fn function_name(program: &Program, number: usize) -> &[u8]
 }
 
 /// Adds a line for each activation, the innermost first.
-pub(crate) fn push_backtrace<M: Stepper>(out: &mut Vec<u8>, machine: &M) -> Result<(), AllocError>
+pub fn push_backtrace<M: Stepper>(out: &mut Vec<u8>, machine: &M) -> Result<(), AllocError>
     ensures { OnOk result (out.new.items ≡ out.old.items ++ backtrace (M.position machine.now).program (M.held machine.now)) }
 {
     let program = machine.program();
@@ -252,7 +244,7 @@ pub(crate) fn push_backtrace<M: Stepper>(out: &mut Vec<u8>, machine: &M) -> Resu
 }
 
 /// The output beyond its first bytes.
-pub(crate) fn output_from(output: &[u8], from: usize) -> &[u8]
+pub fn output_from(output: &[u8], from: usize) -> &[u8]
     ensures { result.now ≡ drop from output.now }
 {
     if from < output.len() {
@@ -263,7 +255,7 @@ pub(crate) fn output_from(output: &[u8], from: usize) -> &[u8]
 }
 
 /// Adds the newline that a text lacks for whole lines.
-pub(crate) fn push_line_end(out: &mut Vec<u8>, text: &[u8]) -> Result<(), AllocError>
+pub fn push_line_end(out: &mut Vec<u8>, text: &[u8]) -> Result<(), AllocError>
     ensures { OnOk result (out.new.items ≡ out.old.items ++ line_end text.now) }
 {
     if let Some(last) = text.last() {
@@ -378,7 +370,7 @@ fn push_held_at<M: Stepper>(
 }
 
 /// Adds a place and its value.
-pub(crate) fn push_shown_line<M: Stepper>(
+pub fn push_shown_line<M: Stepper>(
     out: &mut Vec<u8>,
     machine: &M,
     place: &Lvalue,
@@ -438,7 +430,7 @@ fn push_array_line<M: Stepper>(
 }
 
 /// Adds an array with its elements, in byte order of their keys.
-pub(crate) fn push_array<M: Stepper>(
+pub fn push_array<M: Stepper>(
     alloc: Global,
     out: &mut Vec<u8>,
     machine: &M,

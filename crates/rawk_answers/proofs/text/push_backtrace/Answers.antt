@@ -1,10 +1,10 @@
 use Rattle.std.proofs.Common.{◌++◌, ◌∙◌, ap}
 use Rattle.rawk_tree.specs.declared.tree.Program.{Program}
 use Rattle.rawk_tree.specs.Sites.{line_at}
-use Rattle.rawk_debug.specs.Activations.{name_of, function_at}
-use Rattle.rawk_debug.specs.Answers.{backtrace}
-use Rattle.rawk_debug.proofs.Outward.{one_more}
-use Rattle.rawk_debug.proofs.text.push_backtrace.Goals as goal
+use Rattle.rawk_answers.specs.Activations.{name_of, function_at}
+use Rattle.rawk_answers.specs.Texts.{backtrace}
+use Rattle.rawk_answers.proofs.Outward.{one_more}
+use Rattle.rawk_answers.proofs.text.push_backtrace.Goals as goal
 
 pub loop-number-preserved : goal.loop-number-preserved
 loop-number-preserved g c =

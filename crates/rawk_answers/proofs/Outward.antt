@@ -5,9 +5,9 @@ use Rattle.rawk_value.specs.Values.{Bytes}
 use Rattle.rawk_tree.specs.declared.tree.Program.{Program}
 use Rattle.rawk_tree.specs.Sites.{line_at}
 use Rattle.rawk_frames.specs.Frame.{Frame}
-use Rattle.rawk_debug.specs.declared.stepper.Call.{Call}
-use Rattle.rawk_debug.specs.Activations.{call_of, name_of, function_at}
-use Rattle.rawk_debug.specs.Answers.{frame_line, frame_lines}
+use Rattle.rawk_answers.specs.declared.stepper.Call.{Call}
+use Rattle.rawk_answers.specs.Activations.{call_of, name_of, function_at}
+use Rattle.rawk_answers.specs.Texts.{frame_line, frame_lines}
 
 -- the line of a call, and those of the activations outward of it
 abbrev pub from_call : Program → ℕ → ℕ → List Frame → Call → Bytes

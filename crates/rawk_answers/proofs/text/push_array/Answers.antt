@@ -3,8 +3,8 @@ use Rattle.std.proofs.lemmas.Result.{on_ok_weaker}
 use Rattle.rawk_value.specs.Values.{Bytes}
 use Rattle.rawk_arrays.specs.Walks.{texts}
 use Rattle.rawk_store.specs.State.{array_in, keys_in}
-use Rattle.rawk_debug.specs.Answers.{array_line, element_lines}
-use Rattle.rawk_debug.proofs.text.push_array.Goals as goal
+use Rattle.rawk_answers.specs.Texts.{array_line, element_lines}
+use Rattle.rawk_answers.proofs.text.push_array.Goals as goal
 
 pub returns : goal.returns
 returns g c =

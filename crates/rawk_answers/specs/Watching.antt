@@ -6,10 +6,10 @@ use Rattle.rawk_value.specs.declared.value.Value.{Value}
 use Rattle.rawk_value.specs.declared.value.Value.TheVariants.{Uninitialized, Number, String, Input}
 use Rattle.rawk_arrays.specs.Elements.{element_at}
 use Rattle.rawk_store.specs.Observed.{Observed}
-use Rattle.rawk_debug.specs.declared.stop.Scalar.{Scalar}
-use Rattle.rawk_debug.specs.declared.stop.Scalar.TheVariants.{Global, FieldCount, Field}
-use Rattle.rawk_debug.specs.declared.stop.Watched.{Watched}
-use Rattle.rawk_debug.specs.declared.stop.Watched.TheVariants as watched
+use Rattle.rawk_answers.specs.declared.stop.Scalar.{Scalar}
+use Rattle.rawk_answers.specs.declared.stop.Scalar.TheVariants.{Global, FieldCount, Field}
+use Rattle.rawk_answers.specs.declared.stop.Watched.{Watched}
+use Rattle.rawk_answers.specs.declared.stop.Watched.TheVariants as watched
 
 -- a scalar's value; a field past the last is uninitialised
 abbrev pub scalar_at : Scalar → Observed → Value

@@ -5,7 +5,7 @@ use Rattle.rawk_tree.specs.declared.tree.Function.{Function}
 use Rattle.rawk_tree.specs.declared.tree.Kind.{Kind}
 use Rattle.rawk_tree.specs.declared.tree.Program.{Program}
 use Rattle.rawk_frames.specs.Frame.{Frame}
-use Rattle.rawk_debug.specs.declared.stepper.Call.{Call}
+use Rattle.rawk_answers.specs.declared.stepper.Call.{Call}
 
 -- a call that goes on: its function, and the site of its calling point
 abbrev pub call_of : Frame → Call

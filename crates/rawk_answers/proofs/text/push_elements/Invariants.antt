@@ -1,9 +1,9 @@
 use Rattle.std.proofs.Common.{◌≡◌, ◌++◌, drop}
 use Rattle.std.specs.Prelude.{flat_map}
 use Rattle.rawk_arrays.specs.Walks.{texts}
-use Rattle.rawk_debug.specs.Answers.{shown_line}
-use Rattle.rawk_debug.specs.declared.stop.Lvalue.TheVariants.{Element}
-use Rattle.rawk_debug.proofs.text.push_elements.Given as goal
+use Rattle.rawk_answers.specs.Texts.{shown_line}
+use Rattle.rawk_answers.specs.declared.stop.Lvalue.TheVariants.{Element}
+use Rattle.rawk_answers.proofs.text.push_elements.Given as goal
 
 abbrev pub invariant-loop-key : goal.invariant-loop-key
 invariant-loop-key g l =

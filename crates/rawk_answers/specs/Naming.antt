@@ -19,13 +19,13 @@ use Rattle.rawk_commands.specs.declared.command.Constant.{Constant}
 use Rattle.rawk_commands.specs.declared.command.Constant.TheVariants as constant
 use Rattle.rawk_commands.specs.declared.command.C.{C}
 use Rattle.rawk_commands.specs.declared.command.C.TheVariants.{BadArgument, NoSuchVariable}
-use Rattle.rawk_debug.specs.declared.stop.Scalar.{Scalar}
-use Rattle.rawk_debug.specs.declared.stop.Scalar.TheVariants as scalar
-use Rattle.rawk_debug.specs.declared.stop.Watched.{Watched}
-use Rattle.rawk_debug.specs.declared.stop.Watched.TheVariants as watched
-use Rattle.rawk_debug.specs.declared.stop.Lvalue.{Lvalue}
-use Rattle.rawk_debug.specs.declared.stop.Lvalue.TheVariants as lvalue
-use Rattle.rawk_debug.specs.declared.stop.Lvalue.TheVariants.{Local, Shared}
+use Rattle.rawk_answers.specs.declared.stop.Scalar.{Scalar}
+use Rattle.rawk_answers.specs.declared.stop.Scalar.TheVariants as scalar
+use Rattle.rawk_answers.specs.declared.stop.Watched.{Watched}
+use Rattle.rawk_answers.specs.declared.stop.Watched.TheVariants as watched
+use Rattle.rawk_answers.specs.declared.stop.Lvalue.{Lvalue}
+use Rattle.rawk_answers.specs.declared.stop.Lvalue.TheVariants as lvalue
+use Rattle.rawk_answers.specs.declared.stop.Lvalue.TheVariants.{Local, Shared}
 use Rattle.rawk_words.specs.declared.array.Array.{Array}
 use Rattle.rawk_words.specs.declared.array.Array.TheVariants as array
 use Rattle.rawk_code.specs.Actions.{fault_of}

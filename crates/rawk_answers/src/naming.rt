@@ -3,8 +3,8 @@
 ghost use Rattle.std.specs.Prelude.{◌≡◌, if◌then◌else◌, position, slice_get, Err, IfOk, None, Ok, Some};
 ghost use Rattle.std.specs.Str.{bytes_eq};
 ghost use Rattle.rawk_tree.specs.Kinds.{is_array};
-ghost use Rattle.rawk_debug.specs.Activations.{local_kinds, local_names};
-ghost use Rattle.rawk_debug.specs.Naming.{array_here, array_named, array_number, listed_of, scalar_named, subscript_refusal, named, named_here, place_of, lvalue_of, site_of, shared_target, target_of, constant_value};
+ghost use Rattle.rawk_answers.specs.Activations.{local_kinds, local_names};
+ghost use Rattle.rawk_answers.specs.Naming.{array_here, array_named, array_number, listed_of, scalar_named, subscript_refusal, named, named_here, place_of, lvalue_of, site_of, shared_target, target_of, constant_value};
 
 use crate::stepper::Stepper;
 use crate::stop::{Lvalue, Scalar, Watched};
@@ -115,7 +115,7 @@ fn array_here(locals: &[Bytes], kinds: &[Kind], program: &Program, name: &[u8]) 
 }
 
 /// The array that can be shown with its elements where these are the locals, if the place is one.
-pub(crate) fn listed_of(
+pub fn listed_of(
     locals: &[Bytes],
     kinds: &[Kind],
     program: &Program,
@@ -141,7 +141,7 @@ fn subscript_refusal<T: Drop>(named: Result<T, C>) -> C
 }
 
 /// The names of the locals of the innermost activation.
-pub(crate) fn local_names<M: Stepper>(machine: &M) -> &[Bytes]
+pub fn local_names<M: Stepper>(machine: &M) -> &[Bytes]
     ensures { result.now ≡ local_names (M.position machine.now).program (M.held machine.now).state.frames }
 {
     match machine.frame(0) {
@@ -154,7 +154,7 @@ pub(crate) fn local_names<M: Stepper>(machine: &M) -> &[Bytes]
 }
 
 /// What the locals of the innermost activation are.
-pub(crate) fn local_kinds<M: Stepper>(machine: &M) -> &[Kind]
+pub fn local_kinds<M: Stepper>(machine: &M) -> &[Kind]
     ensures { result.now ≡ local_kinds (M.position machine.now).program (M.held machine.now).state.frames }
 {
     match machine.frame(0) {
@@ -167,7 +167,7 @@ pub(crate) fn local_kinds<M: Stepper>(machine: &M) -> &[Kind]
 }
 
 /// A place that can be shown and set where these are the locals, or why it is refused.
-pub(crate) fn lvalue_of(
+pub fn lvalue_of(
     locals: &[Bytes],
     kinds: &[Kind],
     program: &Program,
@@ -186,7 +186,7 @@ pub(crate) fn lvalue_of(
 }
 
 /// A place that can be watched, or why it is refused.
-pub(crate) fn place_of(program: &Program, place: Place) -> Result<Watched, C>
+pub fn place_of(program: &Program, place: Place) -> Result<Watched, C>
     ensures { result ≡ place_of program.now place }
 {
     match place {
@@ -203,7 +203,7 @@ pub(crate) fn place_of(program: &Program, place: Place) -> Result<Watched, C>
 }
 
 /// Where a breakpoint is to stand.
-pub(crate) fn site_of(program: &Program, spot: &Spot) -> Option<usize>
+pub fn site_of(program: &Program, spot: &Spot) -> Option<usize>
     ensures { result ≡ site_of program.now spot.now }
 {
     match spot {
@@ -224,7 +224,7 @@ fn shared_target(place: Scalar) -> Target
 }
 
 /// What is assigned of a place. It fails where memory is refused.
-pub(crate) fn target_of(place: &Lvalue) -> Result<Target, AllocError>
+pub fn target_of(place: &Lvalue) -> Result<Target, AllocError>
     ensures { IfOk result (λ target. target ≡ target_of place.now) }
 {
     match place {
@@ -238,7 +238,7 @@ pub(crate) fn target_of(place: &Lvalue) -> Result<Target, AllocError>
 }
 
 /// The value of a constant, moved.
-pub(crate) fn constant_value(constant: Constant) -> Value
+pub fn constant_value(constant: Constant) -> Value
     ensures { result ≡ constant_value constant }
 {
     match constant {

@@ -2,8 +2,8 @@ use Rattle.std.proofs.Common.{sym}
 use Rattle.rawk_value.specs.declared.value.Value.TheVariants.{Uninitialized}
 use Rattle.rawk_frames.specs.declared.frames.Local.TheVariants.{Holds}
 use Rattle.rawk_frames.specs.Frame.{locals_now}
-use Rattle.rawk_debug.proofs.Absent.{absent_is}
-use Rattle.rawk_debug.proofs.text.push_local.Goals as goal
+use Rattle.rawk_answers.proofs.Absent.{absent_is}
+use Rattle.rawk_answers.proofs.text.push_local.Goals as goal
 
 pub returns-in-None : goal.returns-in-None
 returns-in-None g c =

@@ -1,6 +1,6 @@
 use Rattle.std.proofs.Common.{◌≡◌, ◌++◌, drop}
-use Rattle.rawk_debug.specs.Answers.{frame_lines, backtrace}
-use Rattle.rawk_debug.proofs.text.push_backtrace.Given as goal
+use Rattle.rawk_answers.specs.Texts.{frame_lines, backtrace}
+use Rattle.rawk_answers.proofs.text.push_backtrace.Given as goal
 
 abbrev pub invariant-loop-number : goal.invariant-loop-number
 invariant-loop-number g l =

@@ -9,11 +9,11 @@ ghost use Rattle.rawk_frames.specs.Frame.{locals_now};
 ghost use Rattle.rawk_arrays.specs.Walks.{texts};
 ghost use Rattle.rawk_store.specs.State.{array_in, assigned, count_in, element_in, keys_in};
 ghost use Rattle.rawk_code.specs.Actions.{fault_of};
-ghost use Rattle.rawk_debug.specs.Positions.{Position, Snapshot, IsPosition, Stands, IsTakenBack, gone_to, back_at, with_set, has_set_at};
+ghost use Rattle.rawk_answers.specs.Positions.{Position, Snapshot, IsPosition, Stands, IsTakenBack, gone_to, back_at, with_set, has_set_at};
 ghost use Rattle.rawk_store.specs.Observed.{Observed, seen};
-ghost use Rattle.rawk_debug.specs.Watching.{differs};
-ghost use Rattle.rawk_debug.specs.Activations.{call_of};
-ghost use Rattle.rawk_debug.specs.Works.{Work, Draws, read_failed};
+ghost use Rattle.rawk_answers.specs.Watching.{differs};
+ghost use Rattle.rawk_answers.specs.Activations.{call_of};
+ghost use Rattle.rawk_answers.specs.Works.{Work, Draws, read_failed};
 
 use crate::stop::Watched;
 use rawk_frames::Local;

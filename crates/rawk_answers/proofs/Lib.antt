@@ -1,0 +1,2 @@
+mod Absent
+mod Outward
