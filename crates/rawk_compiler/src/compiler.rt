@@ -7,9 +7,11 @@ ghost use Rattle.rawk_code.specs.Trace.{reads};
 
 use crate::emit::emit_skip;
 use crate::emit_statements::{emit_block, emit_condition, emit_stmt};
-use crate::instructions::{items_of, pass_rest, patch, put, put_go_to, put_point, put_range};
 use crate::loops::Around;
 use rawk_code::{Code, Entry, Instr, Operand, Simple};
+use rawk_selection::instructions::{
+    items_of, pass_rest, patch, put, put_go_to, put_point, put_range,
+};
 use rawk_tree::{Expr, Function, Guard, Program, Rule, Stmt};
 use rawk_value::Bytes;
 use std::alloc::{AllocError, Global};

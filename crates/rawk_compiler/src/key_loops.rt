@@ -5,9 +5,9 @@ ghost use Rattle.rawk_compiler.specs.Code.{expr_code, key_code, key_operand, key
 ghost use Rattle.rawk_compiler.specs.Written.{keys_written};
 
 use crate::emit::emit_key_operand;
-use crate::instructions::{patch, put, put_open, put_point};
 use crate::loops::Around;
 use rawk_code::{Destination, Instr, Op, Variable};
+use rawk_selection::instructions::{patch, put, put_open, put_point};
 use rawk_tree::{Expr, Scalar};
 use rawk_words::Array;
 use std::alloc::{AllocError, Global};

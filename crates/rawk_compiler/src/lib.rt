@@ -4,11 +4,8 @@
 pub mod compiler;
 mod emit;
 mod emit_statements;
-mod instructions;
 mod key_loops;
 pub mod laws;
-mod logic;
 mod loops;
-mod operands;
 
 pub use compiler::compile;

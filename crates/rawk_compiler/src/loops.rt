@@ -5,8 +5,8 @@ ghost use Rattle.rawk_compiler.specs.Code.{condition_code, condition_leap, jump_
 ghost use Rattle.rawk_compiler.specs.Written.{loop_written};
 
 use crate::emit_statements::emit_condition;
-use crate::instructions::{patch, put, put_go_to, put_open};
 use rawk_code::Instr;
+use rawk_selection::instructions::{patch, put, put_go_to, put_open};
 use rawk_tree::Expr;
 use std::alloc::{AllocError, Global};
 

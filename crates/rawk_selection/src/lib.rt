@@ -1,0 +1,6 @@
+//! Instruction selection: which operands expressions are, and which conditions are jumps; and instructions, one behind another.
+#![tactic(auto)]
+
+pub mod instructions;
+pub mod logic;
+pub mod operands;
