@@ -2,9 +2,8 @@
 use Rattle.std.proofs.Common.{◌≡◌, ℕ, suc, zero, ◌+◌, ◌-◌, ◌<◌, ◌≤◌, List, [], ◌∷◌, ◌++◌, length, take, drop, set, reverse, refl, sym, ap, ◌∙◌, arith, slice_get, Option, None, Some, MatchOption}
 use Rattle.std.proofs.lemmas.List.{length-reverse, length-drop, take-append-le, drop-append-le, take-set-le, reverse-append, reverse-reverse, set_past}
 use Rattle.std.proofs.lemmas.Option.{same_Some, slice_get_past, none-some}
-use Rattle.rawk_slots.specs.Journaled.{Journaled, at_rest}
-use Rattle.rawk_slots.specs.Stacked.{Stacked, GrownStack, IsLive, live_slots, live_values}
-use Rattle.rawk_slots.specs.StackLaws.{live_values-grown, IsLive-grown}
+use Rattle.rawk_slots.specs.Journaled.{Journaled}
+use Rattle.rawk_slots.specs.Stacked.{Stacked, live_slots, live_values}
 use Rattle.rawk_frames.specs.declared.frames.Local.{Local}
 use Rattle.rawk_frames.specs.declared.frames.Activation.{Activation}
 use Rattle.rawk_frames.specs.Frame.{Frame, IsOf, locals_now, with_local, with_more}

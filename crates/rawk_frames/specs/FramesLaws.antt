@@ -3,7 +3,7 @@ use Rattle.std.specs.Prelude.{◌≡◌, ℕ, List, map, refl}
 use Rattle.std.proofs.Common.{ap, ◌∙◌}
 use Rattle.std.specs.Global.{Vec}
 use Rattle.rawk_slots.specs.Stacked.{IsLive, live_slots, live_values}
-use Rattle.rawk_slots.specs.StackLaws.{live_slots-grown, live_values-grown, FitsStack-over, GrownStack-back, GrownStack-refl, GrownStack-trans, IsLive-grown, IsLive-stack_back}
+use Rattle.rawk_slots.specs.StackLaws.{live_slots-grown, live_values-grown, FitsStack-over, FitsStackIf-over, GrownStack-back, GrownStack-in, GrownStack-refl, GrownStack-trans, IsLive-grown, IsLive-stack_back, IsLive-stack_in}
 use Rattle.rawk_frames.specs.declared.frames.Local.{Local}
 use Rattle.rawk_frames.specs.declared.frames.Activation.{Activation}
 use Rattle.rawk_frames.specs.declared.frames.FramesGroup.{FramesGroup}
@@ -37,19 +37,19 @@ GrownFrames-trans l m n a b = record { frames = GrownStack-trans l.frames m.fram
 
 -- what is put back is live
 pub AreFramesLive-back : (l : LaidFrames) (group : FramesGroup) → FitsFrames group l → AreFramesLive (frames_back l group)
-AreFramesLive-back l group h = record { frames = IsLive-stack_back l.frames group.frames h.frames; locals = IsLive-stack_back l.locals group.locals h.locals }
+AreFramesLive-back l group h = record { frames = IsLive-stack_in l.frames group.frames h.frames; locals = IsLive-stack_in l.locals group.locals h.locals }
 
 -- putting back, over more slots
 pub GrownFrames-back : (l m : LaidFrames) (group : FramesGroup) → GrownFrames l m → FitsFrames group l → GrownFrames (frames_back l group) (frames_back m group)
 GrownFrames-back l m group g h = record {
-  frames = GrownStack-back l.frames m.frames group.frames g.frames h.frames;
-  locals = GrownStack-back l.locals m.locals group.locals g.locals h.locals;
+  frames = GrownStack-in l.frames m.frames group.frames g.frames h.frames;
+  locals = GrownStack-in l.locals m.locals group.locals g.locals h.locals;
 }
 
 pub FitsFrames-grown : (l m : LaidFrames) (group : FramesGroup) → GrownFrames l m → FitsFrames group l → FitsFrames group m
 FitsFrames-grown l m group g h = record {
-  frames = FitsStack-over l.frames m.frames group.frames g.frames h.frames;
-  locals = FitsStack-over l.locals m.locals group.locals g.locals h.locals;
+  frames = FitsStackIf-over l.frames m.frames group.frames g.frames h.frames;
+  locals = FitsStackIf-over l.locals m.locals group.locals g.locals h.locals;
   nested = AreNested-grown (frames_back l group) (frames_back m group) (GrownFrames-back l m group g h) (AreFramesLive-back l group h) h.nested;
 }
 

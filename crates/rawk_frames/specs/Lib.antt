@@ -5,3 +5,4 @@ pub mod LaidKeys
 pub mod KeysBack
 pub mod FramesChanges
 pub mod FramesLaws
+pub mod KeptStacks

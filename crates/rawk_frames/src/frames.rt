@@ -1,16 +1,17 @@
 //! Activations of functions, with their locals.
 
-ghost use Rattle.std.specs.Prelude.{◌≡◌, ◌≤◌, ◌∷◌, [], IfNone, IfSome, MatchOption, None, OnErr, OnOk, Some, drop, length, slice_get};
+ghost use Rattle.std.specs.Prelude.{◌≡◌, ◌<◌, ◌≤◌, ◌∷◌, [], IfNone, IfSome, MatchOption, None, OnErr, OnOk, Some, drop, length, slice_get};
 ghost use Rattle.std.specs.Bool.{OnTrue};
 ghost use Rattle.std.specs.Option.{option_copied};
 ghost use Rattle.rawk_slots.specs.Journaled.{at_rest};
+ghost use Rattle.rawk_slots.specs.StackGroups.{first_if, rest_if};
 ghost use Rattle.rawk_slots.specs.Stacked.{live_slots, live_values};
 ghost use Rattle.rawk_frames.specs.Frame.{Frame, IsOf, locals_now, new_frame, with_local, with_more};
 ghost use Rattle.rawk_frames.specs.LaidFrames.{AreFramesLive, AreNested, GrownFrames, IsPlace, frames_from, frames_of, no_frames, returns_of};
 ghost use Rattle.rawk_frames.specs.FramesBack.{FitsFrames, frames_back};
 ghost use Rattle.rawk_frames.specs.FramesChanges.{changed_frames};
 
-use rawk_slots::{Reversible, Stack, StackGroup};
+use rawk_slots::{Reversible, Stack, StackGroup, StackGroups};
 use rawk_value::Value;
 use std::alloc::{AllocError, Global};
 use std::marker::Model;
@@ -55,11 +56,11 @@ impl Model for Frames {
     ghost invariant = { λ f. AreFrames f.frames f.locals };
 }
 
-/// What a step changed in the activations.
+/// What a step changed in the activations and in their locals, in each if it changed anything there.
 #[derive(Drop)]
 pub struct FramesGroup {
-    pub frames: StackGroup<Activation>,
-    pub locals: StackGroup<Local>,
+    pub frames: Option<StackGroup<Activation>>,
+    pub locals: Option<StackGroup<Local>>,
 }
 
 /// A change of the activations.
@@ -199,9 +200,67 @@ impl Frames {
         ensures live { AreFramesLive self.old.now }
     {
         FramesGroup {
-            frames: self.frames.finish(alloc),
-            locals: self.locals.finish(alloc),
+            frames: Some(self.frames.finish(alloc)),
+            locals: Some(self.locals.finish(alloc)),
         }
+    }
+
+    /// Room for one more step. Where memory is refused, no step has changed.
+    #[inline]
+    pub(crate) fn reserve(
+        &self,
+        frames: &mut StackGroups<Activation>,
+        locals: &mut StackGroups<Local>,
+    ) -> Result<(), AllocError>
+        ensures frames { frames.new.groups ≡ frames.old.groups }
+        ensures locals { locals.new.groups ≡ locals.old.groups }
+        ensures frames_room { OnOk result (length self.now.now.frames.slots < frames.new.room) }
+        ensures locals_room { OnOk result (length self.now.now.locals.slots < locals.new.room) }
+    {
+        frames.reserve(&self.frames)?;
+        locals.reserve(&self.locals)
+    }
+
+    /// Ends the step, for which there is room, adds what it changed in activations and in locals, and answers for each whether that was anything. It takes no memory.
+    #[inline]
+    pub(crate) fn keep(
+        &mut self,
+        frames: &mut StackGroups<Activation>,
+        locals: &mut StackGroups<Local>,
+    ) -> (bool, bool)
+        requires nested { AreNested self.old.start }
+        requires frames_room { length self.old.now.frames.slots < frames.old.room }
+        requires locals_room { length self.old.now.locals.slots < locals.old.room }
+        ensures now { self.new ≡ at_rest self.old.now }
+        ensures back { frames_back self.old.now (record { frames = first_if result.0 frames.new.groups; locals = first_if result.1 locals.new.groups }) ≡ self.old.start }
+        ensures fits { FitsFrames (record { frames = first_if result.0 frames.new.groups; locals = first_if result.1 locals.new.groups }) self.old.now }
+        ensures frames { rest_if result.0 frames.new.groups ≡ frames.old.groups }
+        ensures locals { rest_if result.1 locals.new.groups ≡ locals.old.groups }
+        ensures nested { AreNested self.old.now }
+        ensures live { AreFramesLive self.old.now }
+    {
+        let has_frames = frames.keep(&mut self.frames);
+        let has_locals = locals.keep(&mut self.locals);
+        (has_frames, has_locals)
+    }
+
+    /// Puts back the newest step that was kept, where the step that is put back changed activations or locals, and drops it. It takes no memory and always succeeds.
+    pub(crate) fn put_back(
+        &mut self,
+        frames: &mut StackGroups<Activation>,
+        has_frames: bool,
+        locals: &mut StackGroups<Local>,
+        has_locals: bool,
+    )
+        requires { FitsFrames (record { frames = first_if has_frames frames.old.groups; locals = first_if has_locals locals.old.groups }) self.old.now }
+        ensures now { self.new ≡ at_rest (frames_back self.old.now (record { frames = first_if has_frames frames.old.groups; locals = first_if has_locals locals.old.groups })) }
+        ensures frames { frames.new.groups ≡ rest_if has_frames frames.old.groups }
+        ensures locals { locals.new.groups ≡ rest_if has_locals locals.old.groups }
+        ensures nested { AreNested self.new.now }
+        ensures live { AreFramesLive self.new.now }
+    {
+        frames.put_back(&mut self.frames, has_frames);
+        locals.put_back(&mut self.locals, has_locals);
     }
 
     /// Whether the step has changed nothing yet.
@@ -251,8 +310,8 @@ impl Frames {
         ensures nested { AreNested self.new.now }
         ensures live { AreFramesLive self.new.now }
     {
-        self.frames.undo(&mut group.frames);
-        self.locals.undo(&mut group.locals);
+        self.frames.undo_if(&mut group.frames);
+        self.locals.undo_if(&mut group.locals);
     }
 
     /// Makes a change within the step in progress. It fails where memory is refused.

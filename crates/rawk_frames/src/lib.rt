@@ -2,7 +2,9 @@
 #![tactic(auto)]
 
 pub mod frames;
+pub mod kept_stacks;
 pub mod keys_left;
 
 pub use frames::{Activation, Frames, FramesChange, FramesGroup, Local};
+pub use kept_stacks::{HasStacks, KeptStacks};
 pub use keys_left::{KeysChange, KeysLeft, KeysLeftGroup, Ranges, RangesGroup};

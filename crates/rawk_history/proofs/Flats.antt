@@ -8,7 +8,11 @@ use Rattle.std.proofs.lemmas.Option.{slice_get-get_or}
 use Rattle.std.proofs.lemmas.List.Sorted.{sum_by-IsPermutation, IsPermutation-reverse}
 use Rattle.rawk_value.specs.declared.value.Value.{Value}
 use Rattle.rawk_slots.specs.declared.saved.Saved.{Saved}
-use Rattle.rawk_slots.specs.Back.{AreDistinctFrom, HasDistinctPlaces, places}
+use Rattle.rawk_slots.specs.Back.{AreDistinctFrom, HasDistinctPlaces}
+use Rattle.rawk_slots.specs.BackLaws.{distinct_behind}
+use Rattle.rawk_slots.specs.StackGroups.{StackGroup, first_if, rest_if}
+use Rattle.rawk_frames.specs.declared.frames.FramesGroup.{FramesGroup}
+use Rattle.rawk_frames.specs.KeptStacks.{StackLists, newest_frames, newest_operands, older_stacks}
 use Rattle.rawk_record.specs.Shown.{Shown}
 use Rattle.rawk_store.specs.declared.others.FewGroup.{FewGroup}
 use Rattle.rawk_store.specs.declared.others.Others.{Others}
@@ -18,11 +22,10 @@ use Rattle.rawk_store.specs.Groups.{Group}
 use Rattle.rawk_history.specs.Steps.{Kept}
 use Rattle.rawk_store.specs.Saving.{ElementsOnce, FewOnce, saved_in_part}
 use Rattle.rawk_history.specs.Saving.{saved_in_groups, saved_in_others, saved_in_sets}
-use Rattle.rawk_history.specs.Flat.{first_if, rest_if, items_of, step_by, step_of, kept_of, newest_slow, registers_by, slow_of, AreMarked, EndsBehind, IsFull}
+use Rattle.rawk_history.specs.Flat.{items_of, step_by, step_of, kept_of, newest_slow, registers_by, slow_of, AreMarked, EndsBehind, IsFull}
 use Rattle.rawk_store.specs.Layout.{Layout}
 use Rattle.rawk_history.specs.Keeping.{IsPutBack, KeepsStep}
 use Rattle.rawk_store.specs.GroupBack.{ArraysFit, FitsIn, arrays_in, globals_on, put_back}
-use Rattle.rawk_slots.specs.Back.{back}
 use Rattle.rawk_record.specs.Shown.{record_back}
 use Rattle.rawk_store.specs.declared.registers.Registers.{Registers}
 
@@ -32,52 +35,35 @@ same_first x y xs ys e = cc e
 pub same_rest : {T : Type 0} (x y : T) (xs ys : List T) → x ∷ xs ≡ y ∷ ys → xs ≡ ys
 same_rest x y xs ys e = cc e
 
-length-places : (xs : List (Saved Value)) → length (places xs) ≡ length xs
-length-places [] = refl
-length-places (x ∷ xs) = ap suc (length-places xs)
-
-place_behind : (xs ys : List (Saved Value)) (i : ℕ) → length xs ≤ i → get_or (places (xs ++ ys)) i 0 ≡ get_or (places ys) (i - length xs) 0
-place_behind [] ys i le = let e : i - 0 ≡ i = omega arith in ap (λ k. get_or (places ys) k 0) (sym e)
-place_behind (x ∷ xs) ys zero le = absurd (omega arith)
-place_behind (x ∷ xs) ys (suc i) le = let e : suc i - length (x ∷ xs) ≡ i - length xs = omega arith in place_behind xs ys i (omega arith) ∙ ap (λ k. get_or (places ys) k 0) (sym e)
-
-distinct_behind : (xs ys : List (Saved Value)) → HasDistinctPlaces ys → AreDistinctFrom (length xs) (xs ++ ys)
-distinct_behind xs ys h i j le le2 p q e =
-    let size = length-places (xs ++ ys) in
-    let other = length-places ys in
-    let sum = length-append xs ys in
-    let same : i - length xs ≡ j - length xs = h (i - length xs) (j - length xs) (omega arith) (omega arith) (omega (arith, p, le, size, other, sum)) (omega (arith, q, le2, size, other, sum))
-    (sym (place_behind xs ys i le) ∙ (e ∙ place_behind xs ys j le2)) in
-    omega (arith, same, le, le2)
-
 -- a step more
-pub kept_added : (marks marks2 : List Mark) (m : Mark) (slows slows2 : List Slow) (globals list globals2 entries : List (Saved Value)) (live n : ℕ) (others others2 : List Others) (records records2 : List Shown) (sets sets2 : List (Vec Group)) →
-    marks2 ≡ marks ++ m ∷ [] → list ≡ take live globals → live ≤ length globals → m.globals ≡ live → globals2 ≡ list ++ entries → n ≡ length globals2 → rest_if m.has_state (reverse slows2) ≡ reverse slows →
+pub kept_added : (marks marks2 : List Mark) (m : Mark) (slows slows2 : List Slow) (globals list globals2 entries : List (Saved Value)) (live n : ℕ) (stacks stacks2 : StackLists) (others others2 : List Others) (records records2 : List Shown) (sets sets2 : List (Vec Group)) →
+    marks2 ≡ marks ++ m ∷ [] → list ≡ take live globals → live ≤ length globals → m.globals ≡ live → globals2 ≡ list ++ entries → n ≡ length globals2 → rest_if m.has_state (reverse slows2) ≡ reverse slows → older_stacks m.stacks stacks2 ≡ stacks →
     rest_if m.has_others (reverse others2) ≡ reverse others → rest_if m.has_record (reverse records2) ≡ reverse records → rest_if m.has_sets (reverse sets2) ≡ reverse sets →
-    kept_of (reverse marks2) (reverse slows2) (take n globals2) (reverse others2) (reverse records2) (reverse sets2) ≡
+    kept_of (reverse marks2) (reverse slows2) (take n globals2) stacks2 (reverse others2) (reverse records2) (reverse sets2) ≡
     record {
-      step = record { globals = entries; others = first_if m.has_others (reverse others2); current = first_if m.has_record (reverse records2); output = (newest_slow (reverse slows2)).output; registers = registers_by m (newest_slow (reverse slows2)) };
+      step = record { globals = entries; frames = newest_frames m.stacks stacks2; operands = newest_operands m.stacks stacks2; others = first_if m.has_others (reverse others2); current = first_if m.has_record (reverse records2); output = (newest_slow (reverse slows2)).output; registers = registers_by m (newest_slow (reverse slows2)) };
       sets = items_of (first_if m.has_sets (reverse sets2));
     }
-    ∷ kept_of (reverse marks) (reverse slows) (take live globals) (reverse others) (reverse records) (reverse sets)
-kept_added marks marks2 m slows slows2 globals list globals2 entries live n others others2 records records2 sets sets2 marked is le at behind count w o r s =
+    ∷ kept_of (reverse marks) (reverse slows) (take live globals) stacks (reverse others) (reverse records) (reverse sets)
+kept_added marks marks2 m slows slows2 globals list globals2 entries live n stacks stacks2 others others2 records records2 sets sets2 marked is le at behind count w t o r s =
     let size : length list ≡ live = ap length is ∙ length-take-le live globals le in
     let own : drop m.globals globals2 ≡ entries = ap (λ k. drop k globals2) at ∙ (ap (drop live) behind ∙ drop_at list entries live size) in
     let older : take m.globals globals2 ≡ take live globals = ap (λ k. take k globals2) at ∙ (ap (take live) behind ∙ (take_at list entries live size ∙ is)) in
     let whole : take n globals2 ≡ globals2 = take_all n globals2 (omega (arith, count)) in
     let item = λ (es : List (Saved Value)). let k : Kept = record {
-      step = record { globals = es; others = first_if m.has_others (reverse others2); current = first_if m.has_record (reverse records2); output = (newest_slow (reverse slows2)).output; registers = registers_by m (newest_slow (reverse slows2)) };
+      step = record { globals = es; frames = newest_frames m.stacks stacks2; operands = newest_operands m.stacks stacks2; others = first_if m.has_others (reverse others2); current = first_if m.has_record (reverse records2); output = (newest_slow (reverse slows2)).output; registers = registers_by m (newest_slow (reverse slows2)) };
       sets = items_of (first_if m.has_sets (reverse sets2));
     } in k in
-    ap (λ (ms : List Mark). kept_of (reverse ms) (reverse slows2) (take n globals2) (reverse others2) (reverse records2) (reverse sets2)) marked
-    ∙ ap (λ (ms : List Mark). kept_of ms (reverse slows2) (take n globals2) (reverse others2) (reverse records2) (reverse sets2)) (reverse-append marks (m ∷ []))
-    ∙ ap (λ (gs : List (Saved Value)). kept_of (m ∷ reverse marks) (reverse slows2) gs (reverse others2) (reverse records2) (reverse sets2)) whole
-    ∙ ap (λ (gs : List (Saved Value)). item gs ∷ kept_of (reverse marks) (rest_if m.has_state (reverse slows2)) (take m.globals globals2) (rest_if m.has_others (reverse others2)) (rest_if m.has_record (reverse records2)) (rest_if m.has_sets (reverse sets2))) own
-    ∙ ap (λ (ws : List Slow). item entries ∷ kept_of (reverse marks) ws (take m.globals globals2) (rest_if m.has_others (reverse others2)) (rest_if m.has_record (reverse records2)) (rest_if m.has_sets (reverse sets2))) w
-    ∙ ap (λ (gs : List (Saved Value)). item entries ∷ kept_of (reverse marks) (reverse slows) gs (rest_if m.has_others (reverse others2)) (rest_if m.has_record (reverse records2)) (rest_if m.has_sets (reverse sets2))) older
-    ∙ ap (λ (xs : List Others). item entries ∷ kept_of (reverse marks) (reverse slows) (take live globals) xs (rest_if m.has_record (reverse records2)) (rest_if m.has_sets (reverse sets2))) o
-    ∙ ap (λ (xs : List Shown). item entries ∷ kept_of (reverse marks) (reverse slows) (take live globals) (reverse others) xs (rest_if m.has_sets (reverse sets2))) r
-    ∙ ap (λ (xs : List (Vec Group)). item entries ∷ kept_of (reverse marks) (reverse slows) (take live globals) (reverse others) (reverse records) xs) s
+    ap (λ (ms : List Mark). kept_of (reverse ms) (reverse slows2) (take n globals2) stacks2 (reverse others2) (reverse records2) (reverse sets2)) marked
+    ∙ ap (λ (ms : List Mark). kept_of ms (reverse slows2) (take n globals2) stacks2 (reverse others2) (reverse records2) (reverse sets2)) (reverse-append marks (m ∷ []))
+    ∙ ap (λ (gs : List (Saved Value)). kept_of (m ∷ reverse marks) (reverse slows2) gs stacks2 (reverse others2) (reverse records2) (reverse sets2)) whole
+    ∙ ap (λ (gs : List (Saved Value)). item gs ∷ kept_of (reverse marks) (rest_if m.has_state (reverse slows2)) (take m.globals globals2) (older_stacks m.stacks stacks2) (rest_if m.has_others (reverse others2)) (rest_if m.has_record (reverse records2)) (rest_if m.has_sets (reverse sets2))) own
+    ∙ ap (λ (ws : List Slow). item entries ∷ kept_of (reverse marks) ws (take m.globals globals2) (older_stacks m.stacks stacks2) (rest_if m.has_others (reverse others2)) (rest_if m.has_record (reverse records2)) (rest_if m.has_sets (reverse sets2))) w
+    ∙ ap (λ (gs : List (Saved Value)). item entries ∷ kept_of (reverse marks) (reverse slows) gs (older_stacks m.stacks stacks2) (rest_if m.has_others (reverse others2)) (rest_if m.has_record (reverse records2)) (rest_if m.has_sets (reverse sets2))) older
+    ∙ ap (λ (xs : StackLists). item entries ∷ kept_of (reverse marks) (reverse slows) (take live globals) xs (rest_if m.has_others (reverse others2)) (rest_if m.has_record (reverse records2)) (rest_if m.has_sets (reverse sets2))) t
+    ∙ ap (λ (xs : List Others). item entries ∷ kept_of (reverse marks) (reverse slows) (take live globals) stacks xs (rest_if m.has_record (reverse records2)) (rest_if m.has_sets (reverse sets2))) o
+    ∙ ap (λ (xs : List Shown). item entries ∷ kept_of (reverse marks) (reverse slows) (take live globals) stacks (reverse others) xs (rest_if m.has_sets (reverse sets2))) r
+    ∙ ap (λ (xs : List (Vec Group)). item entries ∷ kept_of (reverse marks) (reverse slows) (take live globals) stacks (reverse others) (reverse records) xs) s
 
 pub full_added : (marks marks2 : List Mark) (m : Mark) (globals list globals2 entries : List (Saved Value)) (live n : ℕ) (others others2 : List Others) (records records2 : List Shown) (sets sets2 : List (Vec Group)) →
     IsFull marks globals live others records sets → HasDistinctPlaces entries →
@@ -110,12 +96,12 @@ elements_once None = tt
 elements_once (Some o) = few_once o.few
 
 -- the step with its sets, in front of what was kept
-pub is_added : (start now : Layout) (list longer : List (Saved Value)) (others fo : Option Others) (current fr : Option Shown) (output out : ℕ) (registers regs : Registers) (taken fs : Option (Vec Group)) (here : List Group) (old old2 new : List Kept) →
-    (e : EndsBehind others current output registers start now list longer) →
-    new ≡ record { step = record { globals = e.entries; others = fo; current = fr; output = out; registers = regs }; sets = items_of fs } ∷ old2 →
+pub is_added : (start now : Layout) (list longer : List (Saved Value)) (frames : FramesGroup) (operands : Option (StackGroup Value)) (others fo : Option Others) (current fr : Option Shown) (output out : ℕ) (registers regs : Registers) (taken fs : Option (Vec Group)) (here : List Group) (old old2 new : List Kept) →
+    (e : EndsBehind frames operands others current output registers start now list longer) →
+    new ≡ record { step = record { globals = e.entries; frames = frames; operands = operands; others = fo; current = fr; output = out; registers = regs }; sets = items_of fs } ∷ old2 →
     out ≡ output → regs ≡ registers → fo ≡ others → fr ≡ current → fs ≡ taken → items_of taken ≡ here → old2 ≡ old → KeepsStep start now old new here None
-is_added start now list longer others fo current fr output out registers regs taken fs here old old2 new e all p q o r s h same =
-    let item : Kept = record { step = record { globals = e.entries; others = others; current = current; output = output; registers = registers }; sets = here } in
+is_added start now list longer frames operands others fo current fr output out registers regs taken fs here old old2 new e all p q o r s h same =
+    let item : Kept = record { step = record { globals = e.entries; frames = frames; operands = operands; others = others; current = current; output = output; registers = registers }; sets = here } in
     let is : new ≡ item ∷ old = all ∙ rw (p, q, o, r, s, h, same) refl in
     record {
       item = item;
@@ -128,48 +114,48 @@ is_added start now list longer others fo current fr output out registers regs ta
     }
 
 -- the newest step, and those before it
-pub put_back_is : (marks marks2 : List Mark) (m : Mark) (slows slows2 : List Slow) (slow : Slow) (globals globals2 : List (Saved Value)) (live : ℕ) (others others2 : List Others) (records records2 : List Shown) (sets sets2 : List (Vec Group)) (took : Option Others) (earlier : Option Shown) (group_sets : Option (Vec Group))
+pub put_back_is : (marks marks2 : List Mark) (m : Mark) (slows slows2 : List Slow) (slow : Slow) (globals globals2 : List (Saved Value)) (live : ℕ) (stacks stacks2 : StackLists) (others others2 : List Others) (records records2 : List Shown) (sets sets2 : List (Vec Group)) (took_frames : FramesGroup) (took_operands : Option (StackGroup Value)) (took : Option Others) (earlier : Option Shown) (group_sets : Option (Vec Group))
     (item : Kept) (rest : List Kept) (old new : Layout) (cut : List (Saved Value)) (stood ready newer_sets : List Group) (newer_others : Option Others) (newer : Option Shown) →
-    marks ≡ marks2 ++ m ∷ [] → cut ≡ take live globals → took ≡ first_if m.has_others (reverse others) → earlier ≡ first_if m.has_record (reverse records) → group_sets ≡ first_if m.has_sets (reverse sets) → slow ≡ newest_slow (reverse slows) → reverse slows2 ≡ rest_if m.has_state (reverse slows) →
+    marks ≡ marks2 ++ m ∷ [] → cut ≡ take live globals → took_frames ≡ newest_frames m.stacks stacks → took_operands ≡ newest_operands m.stacks stacks → stacks2 ≡ older_stacks m.stacks stacks → took ≡ first_if m.has_others (reverse others) → earlier ≡ first_if m.has_record (reverse records) → group_sets ≡ first_if m.has_sets (reverse sets) → slow ≡ newest_slow (reverse slows) → reverse slows2 ≡ rest_if m.has_state (reverse slows) →
     reverse others2 ≡ rest_if m.has_others (reverse others) → reverse records2 ≡ rest_if m.has_record (reverse records) → reverse sets2 ≡ rest_if m.has_sets (reverse sets) →
-    take m.globals globals2 ≡ take m.globals cut → new ≡ put_back old (step_of m slow cut took earlier) → globals_on new.globals (drop m.globals globals2) newer_others ≡ old.globals → arrays_in new.arrays newer_others ≡ old.arrays → ArraysFit newer_others new.arrays → record_back new.current newer ≡ old.current →
+    take m.globals globals2 ≡ take m.globals cut → new ≡ put_back old (step_of m slow cut took_frames took_operands took earlier) → globals_on new.globals (drop m.globals globals2) newer_others ≡ old.globals → arrays_in new.arrays newer_others ≡ old.arrays → ArraysFit newer_others new.arrays → record_back new.current newer ≡ old.current →
     ready ≡ items_of group_sets → newer_sets ≡ stood →
-    kept_of (reverse marks) (reverse slows) (take live globals) (reverse others) (reverse records) (reverse sets) ≡ item ∷ rest →
-    IsPutBack item rest old new stood ready (kept_of (reverse marks2) (reverse slows2) (take m.globals globals2) (reverse others2) (reverse records2) (reverse sets2)) (Some (record { globals = drop m.globals globals2; others = newer_others; current = newer; sets = newer_sets }))
-put_back_is marks marks2 m slows slows2 slow globals globals2 live others others2 records records2 sets sets2 took earlier group_sets item rest old new cut stood ready newer_sets newer_others newer marked is o r s w w2 o2 r2 s2 same now globals_forth arrays_forth fits_forth current_forth readied stood_is e =
-    let mine : Kept = record { step = step_of m (newest_slow (reverse slows)) (take live globals) (first_if m.has_others (reverse others)) (first_if m.has_record (reverse records)); sets = items_of (first_if m.has_sets (reverse sets)) } in
-    let older : List Kept = kept_of (reverse marks2) (rest_if m.has_state (reverse slows)) (take m.globals (take live globals)) (rest_if m.has_others (reverse others)) (rest_if m.has_record (reverse records)) (rest_if m.has_sets (reverse sets)) in
+    kept_of (reverse marks) (reverse slows) (take live globals) stacks (reverse others) (reverse records) (reverse sets) ≡ item ∷ rest →
+    IsPutBack item rest old new stood ready (kept_of (reverse marks2) (reverse slows2) (take m.globals globals2) stacks2 (reverse others2) (reverse records2) (reverse sets2)) (Some (record { globals = drop m.globals globals2; others = newer_others; current = newer; sets = newer_sets }))
+put_back_is marks marks2 m slows slows2 slow globals globals2 live stacks stacks2 others others2 records records2 sets sets2 took_frames took_operands took earlier group_sets item rest old new cut stood ready newer_sets newer_others newer marked is tf tp t2 o r s w w2 o2 r2 s2 same now globals_forth arrays_forth fits_forth current_forth readied stood_is e =
+    let mine : Kept = record { step = step_of m (newest_slow (reverse slows)) (take live globals) (newest_frames m.stacks stacks) (newest_operands m.stacks stacks) (first_if m.has_others (reverse others)) (first_if m.has_record (reverse records)); sets = items_of (first_if m.has_sets (reverse sets)) } in
+    let older : List Kept = kept_of (reverse marks2) (rest_if m.has_state (reverse slows)) (take m.globals (take live globals)) (older_stacks m.stacks stacks) (rest_if m.has_others (reverse others)) (rest_if m.has_record (reverse records)) (rest_if m.has_sets (reverse sets)) in
     let whole : mine ∷ older ≡ item ∷ rest =
-    sym (ap (λ (ms : List Mark). kept_of ms (reverse slows) (take live globals) (reverse others) (reverse records) (reverse sets)) (ap (λ (ms : List Mark). reverse ms) marked ∙ reverse-append marks2 (m ∷ []))) ∙ e in
+    sym (ap (λ (ms : List Mark). kept_of ms (reverse slows) (take live globals) stacks (reverse others) (reverse records) (reverse sets)) (ap (λ (ms : List Mark). reverse ms) marked ∙ reverse-append marks2 (m ∷ []))) ∙ e in
     let first : mine ≡ item = same_first mine item older rest whole in
-    let step : step_of m slow cut took earlier ≡ mine.step = rw (is, o, r, w) refl in
+    let step : step_of m slow cut took_frames took_operands took earlier ≡ mine.step = rw (is, tf, tp, o, r, w) refl in
     record {
       now = now ∙ ap (λ (g : Group). put_back old g) (step ∙ ap (λ (k : Kept). k.step) first);
       sets = readied ∙ (ap items_of s ∙ ap (λ (k : Kept). k.sets) first);
-      left = rw (same, is, w2, o2, r2, s2) (same_rest mine item older rest whole);
+      left = rw (same, is, w2, t2, o2, r2, s2) (same_rest mine item older rest whole);
       forth = record { forth = record { globals = drop m.globals globals2; others = newer_others; current = newer; sets = newer_sets }; is = refl; globals = globals_forth; arrays = arrays_forth; fits = fits_forth; current = current_forth; sets = stood_is };
     }
 
 -- the newest step fits
-pub fits_newest : (marks marks2 : List Mark) (m : Mark) (slows : List Slow) (slow : Slow) (globals : List (Saved Value)) (live : ℕ) (others : List Others) (records : List Shown) (sets : List (Vec Group)) (took : Option Others) (earlier : Option Shown) (registers : Registers) (cut : List (Saved Value)) (now : Layout) (kept : List Kept) →
-    marks ≡ marks2 ++ m ∷ [] → cut ≡ take live globals → took ≡ first_if m.has_others (reverse others) → earlier ≡ first_if m.has_record (reverse records) → slow ≡ newest_slow (reverse slows) → registers ≡ registers_by m slow →
-    kept ≡ kept_of (reverse marks) (reverse slows) (take live globals) (reverse others) (reverse records) (reverse sets) →
-    ((item : Kept) (rest : List Kept) → kept ≡ item ∷ rest → FitsIn item.step now) → FitsIn (step_by m.globals slow.output registers cut took earlier) now
-fits_newest marks marks2 m slows slow globals live others records sets took earlier registers cut now kept marked is o r w by whole fits =
-    let mine : Kept = record { step = step_of m (newest_slow (reverse slows)) (take live globals) (first_if m.has_others (reverse others)) (first_if m.has_record (reverse records)); sets = items_of (first_if m.has_sets (reverse sets)) } in
-    let older : List Kept = kept_of (reverse marks2) (rest_if m.has_state (reverse slows)) (take m.globals (take live globals)) (rest_if m.has_others (reverse others)) (rest_if m.has_record (reverse records)) (rest_if m.has_sets (reverse sets)) in
+pub fits_newest : (marks marks2 : List Mark) (m : Mark) (slows : List Slow) (slow : Slow) (globals : List (Saved Value)) (live : ℕ) (stacks : StackLists) (others : List Others) (records : List Shown) (sets : List (Vec Group)) (took_frames : FramesGroup) (took_operands : Option (StackGroup Value)) (took : Option Others) (earlier : Option Shown) (registers : Registers) (cut : List (Saved Value)) (now : Layout) (kept : List Kept) →
+    marks ≡ marks2 ++ m ∷ [] → cut ≡ take live globals → took_frames ≡ newest_frames m.stacks stacks → took_operands ≡ newest_operands m.stacks stacks → took ≡ first_if m.has_others (reverse others) → earlier ≡ first_if m.has_record (reverse records) → slow ≡ newest_slow (reverse slows) → registers ≡ registers_by m slow →
+    kept ≡ kept_of (reverse marks) (reverse slows) (take live globals) stacks (reverse others) (reverse records) (reverse sets) →
+    ((item : Kept) (rest : List Kept) → kept ≡ item ∷ rest → FitsIn item.step now) → FitsIn (step_by m.globals slow.output registers cut took_frames took_operands took earlier) now
+fits_newest marks marks2 m slows slow globals live stacks others records sets took_frames took_operands took earlier registers cut now kept marked is tf tp o r w by whole fits =
+    let mine : Kept = record { step = step_of m (newest_slow (reverse slows)) (take live globals) (newest_frames m.stacks stacks) (newest_operands m.stacks stacks) (first_if m.has_others (reverse others)) (first_if m.has_record (reverse records)); sets = items_of (first_if m.has_sets (reverse sets)) } in
+    let older : List Kept = kept_of (reverse marks2) (rest_if m.has_state (reverse slows)) (take m.globals (take live globals)) (older_stacks m.stacks stacks) (rest_if m.has_others (reverse others)) (rest_if m.has_record (reverse records)) (rest_if m.has_sets (reverse sets)) in
     let split : kept ≡ mine ∷ older =
-    whole ∙ ap (λ (ms : List Mark). kept_of ms (reverse slows) (take live globals) (reverse others) (reverse records) (reverse sets)) (ap (λ (ms : List Mark). reverse ms) marked ∙ reverse-append marks2 (m ∷ [])) in
-    let step : step_of m slow cut took earlier ≡ mine.step = rw (is, o, r, w) refl in
-    subst (λ (g : Group). FitsIn g now) (sym (ap (λ (regs : Registers). step_by m.globals slow.output regs cut took earlier) by ∙ step)) (fits mine older split)
+    whole ∙ ap (λ (ms : List Mark). kept_of ms (reverse slows) (take live globals) stacks (reverse others) (reverse records) (reverse sets)) (ap (λ (ms : List Mark). reverse ms) marked ∙ reverse-append marks2 (m ∷ [])) in
+    let step : step_of m slow cut took_frames took_operands took earlier ≡ mine.step = rw (is, tf, tp, o, r, w) refl in
+    subst (λ (g : Group). FitsIn g now) (sym (ap (λ (regs : Registers). step_by m.globals slow.output regs cut took_frames took_operands took earlier) by ∙ step)) (fits mine older split)
 
 -- the newest step, lent
-pub newest_is : (marks : List Mark) (m : Mark) (slows : List Slow) (globals : List (Saved Value)) (others : List Others) (records : List Shown) (sets : List (Vec Group)) → (ms : List Mark) → reverse marks ≡ m ∷ ms →
-    (item : Kept) × (rest : List Kept) × (kept_of (reverse marks) slows globals others records sets ≡ item ∷ rest) × (item.step.globals ≡ drop m.globals globals) × (item.step.current ≡ first_if m.has_record records) × (item.step.others ≡ first_if m.has_others others)
-newest_is marks m slows globals others records sets ms is = (
-  record { step = step_of m (newest_slow slows) globals (first_if m.has_others others) (first_if m.has_record records); sets = items_of (first_if m.has_sets sets) },
-  kept_of ms (rest_if m.has_state slows) (take m.globals globals) (rest_if m.has_others others) (rest_if m.has_record records) (rest_if m.has_sets sets),
-  ap (λ (xs : List Mark). kept_of xs slows globals others records sets) is,
+pub newest_is : (marks : List Mark) (m : Mark) (slows : List Slow) (globals : List (Saved Value)) (stacks : StackLists) (others : List Others) (records : List Shown) (sets : List (Vec Group)) → (ms : List Mark) → reverse marks ≡ m ∷ ms →
+    (item : Kept) × (rest : List Kept) × (kept_of (reverse marks) slows globals stacks others records sets ≡ item ∷ rest) × (item.step.globals ≡ drop m.globals globals) × (item.step.current ≡ first_if m.has_record records) × (item.step.others ≡ first_if m.has_others others)
+newest_is marks m slows globals stacks others records sets ms is = (
+  record { step = step_of m (newest_slow slows) globals (newest_frames m.stacks stacks) (newest_operands m.stacks stacks) (first_if m.has_others others) (first_if m.has_record records); sets = items_of (first_if m.has_sets sets) },
+  kept_of ms (rest_if m.has_state slows) (take m.globals globals) (older_stacks m.stacks stacks) (rest_if m.has_others others) (rest_if m.has_record records) (rest_if m.has_sets sets),
+  ap (λ (xs : List Mark). kept_of xs slows globals stacks others records sets) is,
   refl,
   refl,
   refl,

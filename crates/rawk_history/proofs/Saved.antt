@@ -16,7 +16,9 @@ use Rattle.rawk_store.specs.Groups.{Group}
 use Rattle.rawk_history.specs.Steps.{Kept}
 use Rattle.rawk_store.specs.Saving.{one_if_some, saved_in_part, saved_others}
 use Rattle.rawk_history.specs.Saving.{saved_in_groups, saved_by, saved_by_all, saved_in_others, saved_in_sets}
-use Rattle.rawk_history.specs.Flat.{AreMarked, began_by, first_if, items_of, kept_of, newest_slow, rest_if, step_of}
+use Rattle.rawk_slots.specs.StackGroups.{first_if, rest_if}
+use Rattle.rawk_frames.specs.KeptStacks.{StackLists, newest_frames, newest_operands, older_stacks}
+use Rattle.rawk_history.specs.Flat.{AreMarked, began_by, items_of, kept_of, newest_slow, step_of}
 
 take_none : (T : Type 0) (n : ℕ) → take {A = T} n [] ≡ []
 take_none T zero = refl
@@ -37,16 +39,16 @@ sets_if false n xs = let e : 0 + n ≡ n = omega arith in rw e (omega arith)
 sets_if true n [] = let e : 1 + n ≡ suc n = omega arith in let f = ap saved_in_sets (take_none (Vec Group) n) in rw e (omega (arith, f))
 sets_if true n (x ∷ xs) = let e : 1 + n ≡ suc n = omega arith in rw e (sum_by-cons (λ (v : Vec Group). saved_in_groups v.items) x (take n xs))
 
-pub saved_newest : (n : ℕ) (marks : List Mark) (slows : List Slow) (globals : List (Saved Value)) (others : List Others) (records : List Shown) (sets : List (Vec Group)) → AreMarked marks globals others records sets →
-    saved_by_all (take n (kept_of marks slows globals others records sets)) + began_by (take n marks) (length globals) ≡
+pub saved_newest : (n : ℕ) (marks : List Mark) (slows : List Slow) (globals : List (Saved Value)) (stacks : StackLists) (others : List Others) (records : List Shown) (sets : List (Vec Group)) → AreMarked marks globals others records sets →
+    saved_by_all (take n (kept_of marks slows globals stacks others records sets)) + began_by (take n marks) (length globals) ≡
     length globals + length (take (count_by (λ m. m.has_record) (take n marks)) records) + saved_in_others (take (count_by (λ m. m.has_others) (take n marks)) others) + saved_in_sets (take (count_by (λ m. m.has_sets) (take n marks)) sets)
-saved_newest zero marks slows globals others records sets h = omega arith
-saved_newest (suc n) [] slows globals others records sets h = omega arith
-saved_newest (suc n) (m ∷ ms) slows globals others records sets (le, d, h) =
+saved_newest zero marks slows globals stacks others records sets h = omega arith
+saved_newest (suc n) [] slows globals stacks others records sets h = omega arith
+saved_newest (suc n) (m ∷ ms) slows globals stacks others records sets (le, d, h) =
     let newest = take n ms in
-    let older = kept_of ms (rest_if m.has_state slows) (take m.globals globals) (rest_if m.has_others others) (rest_if m.has_record records) (rest_if m.has_sets sets) in
-    let rest = saved_newest n ms (rest_if m.has_state slows) (take m.globals globals) (rest_if m.has_others others) (rest_if m.has_record records) (rest_if m.has_sets sets) h in
-    let item : Kept = record { step = step_of m (newest_slow slows) globals (first_if m.has_others others) (first_if m.has_record records); sets = items_of (first_if m.has_sets sets) } in
+    let older = kept_of ms (rest_if m.has_state slows) (take m.globals globals) (older_stacks m.stacks stacks) (rest_if m.has_others others) (rest_if m.has_record records) (rest_if m.has_sets sets) in
+    let rest = saved_newest n ms (rest_if m.has_state slows) (take m.globals globals) (older_stacks m.stacks stacks) (rest_if m.has_others others) (rest_if m.has_record records) (rest_if m.has_sets sets) h in
+    let item : Kept = record { step = step_of m (newest_slow slows) globals (newest_frames m.stacks stacks) (newest_operands m.stacks stacks) (first_if m.has_others others) (first_if m.has_record records); sets = items_of (first_if m.has_sets sets) } in
     let whole = sum_by-cons saved_by item (take n older) in
     let first = length-take-le m.globals globals le in
     let last = length-drop m.globals globals in
@@ -94,6 +96,6 @@ last_are {T} n xs =
 pub count-reverse : (p : Mark → Bool) (ms : List Mark) → count_by p (reverse ms) ≡ count_by p ms
 count-reverse p ms = sum_by-IsPermutation (λ x. cond (p x) 1 0) ms (reverse ms) (IsPermutation-reverse ms)
 
-pub length_of : (marks : List Mark) (slows : List Slow) (globals : List (Saved Value)) (others : List Others) (records : List Shown) (sets : List (Vec Group)) → length (kept_of marks slows globals others records sets) ≡ length marks
-length_of [] slows globals others records sets = refl
-length_of (m ∷ ms) slows globals others records sets = ap suc (length_of ms (rest_if m.has_state slows) (take m.globals globals) (rest_if m.has_others others) (rest_if m.has_record records) (rest_if m.has_sets sets))
+pub length_of : (marks : List Mark) (slows : List Slow) (globals : List (Saved Value)) (stacks : StackLists) (others : List Others) (records : List Shown) (sets : List (Vec Group)) → length (kept_of marks slows globals stacks others records sets) ≡ length marks
+length_of [] slows globals stacks others records sets = refl
+length_of (m ∷ ms) slows globals stacks others records sets = ap suc (length_of ms (rest_if m.has_state slows) (take m.globals globals) (older_stacks m.stacks stacks) (rest_if m.has_others others) (rest_if m.has_record records) (rest_if m.has_sets sets))

@@ -1,9 +1,12 @@
 -- Steps that are kept behind one another, in one list of each kind.
-use Rattle.std.specs.Prelude.{◌≡◌, ℕ, ◌≤◌, Bool, true, false, if◌then◌else◌, List, [], ◌∷◌, ◌++◌, IfSome, drop, length, reverse, take, Option, None, Some}
+use Rattle.std.specs.Prelude.{◌≡◌, ℕ, ◌≤◌, if◌then◌else◌, List, [], ◌∷◌, ◌++◌, IfSome, drop, length, reverse, take, Option, None, Some}
 use Rattle.std.specs.Global.{Vec}
 use Rattle.rawk_value.specs.declared.value.Value.{Value}
 use Rattle.rawk_slots.specs.declared.saved.Saved.{Saved}
 use Rattle.rawk_slots.specs.Back.{AreDistinctFrom, HasDistinctPlaces}
+use Rattle.rawk_slots.specs.StackGroups.{StackGroup, first_if, rest_if}
+use Rattle.rawk_frames.specs.declared.frames.FramesGroup.{FramesGroup}
+use Rattle.rawk_frames.specs.KeptStacks.{StackLists, newest_frames, newest_operands, older_stacks}
 use Rattle.rawk_record.specs.Shown.{Shown}
 use Rattle.rawk_store.specs.declared.others.Others.{Others}
 use Rattle.rawk_history.specs.declared.full.Mark.{Mark}
@@ -14,16 +17,6 @@ use Rattle.rawk_store.specs.Layout.{Layout}
 use Rattle.rawk_store.specs.GroupBack.{FitsIn, grown_in, put_back}
 use Rattle.rawk_store.specs.Groups.{Group}
 use Rattle.rawk_history.specs.Steps.{Kept}
-
--- the first of a list, where a step has one there, and the others
-abbrev pub first_if : {T : Type 0} → Bool → List T → Option T
-first_if false xs = None
-first_if true [] = None
-first_if true (x ∷ xs) = Some x
-
-abbrev pub rest_if : {T : Type 0} → Bool → List T → List T
-rest_if false xs = xs
-rest_if true xs = drop 1 xs
 
 abbrev pub items_of : Option (Vec Group) → List Group
 items_of None = []
@@ -48,30 +41,30 @@ abbrev pub registers_by : Mark → Slow → Registers
 registers_by m s = record { place = m.place; phase = s.phase; status = s.status; here = m.here; site = if m.has_site then Some m.site else None; consumed = m.consumed; ending = s.ending }
 
 -- a step whose old globals stand in a list from a number on
-abbrev pub step_by : ℕ → ℕ → Registers → List (Saved Value) → Option Others → Option Shown → Group
-step_by began output registers globals others current = record { globals = drop began globals; others = others; current = current; output = output; registers = registers }
+abbrev pub step_by : ℕ → ℕ → Registers → List (Saved Value) → FramesGroup → Option (StackGroup Value) → Option Others → Option Shown → Group
+step_by began output registers globals frames operands others current = record { globals = drop began globals; frames = frames; operands = operands; others = others; current = current; output = output; registers = registers }
 
-abbrev pub step_of : Mark → Slow → List (Saved Value) → Option Others → Option Shown → Group
-step_of m s globals others current = step_by m.globals s.output (registers_by m s) globals others current
+abbrev pub step_of : Mark → Slow → List (Saved Value) → FramesGroup → Option (StackGroup Value) → Option Others → Option Shown → Group
+step_of m s globals frames operands others current = step_by m.globals s.output (registers_by m s) globals frames operands others current
 
 -- what a step changed: its old globals stand behind a list, no place twice
-pub record EndsBehind (others : Option Others) (current : Option Shown) (output : ℕ) (registers : Registers) (start now : Layout) (list longer : List (Saved Value)) : Type 0 where
+pub record EndsBehind (frames : FramesGroup) (operands : Option (StackGroup Value)) (others : Option Others) (current : Option Shown) (output : ℕ) (registers : Registers) (start now : Layout) (list longer : List (Saved Value)) : Type 0 where
   pub entries : List (Saved Value)
   pub is : longer ≡ list ++ entries
   pub distinct : HasDistinctPlaces entries
-  pub back : put_back now (record { globals = entries; others = others; current = current; output = output; registers = registers }) ≡ start
-  pub fits : FitsIn (record { globals = entries; others = others; current = current; output = output; registers = registers }) now
+  pub back : put_back now (record { globals = entries; frames = frames; operands = operands; others = others; current = current; output = output; registers = registers }) ≡ start
+  pub fits : FitsIn (record { globals = entries; frames = frames; operands = operands; others = others; current = current; output = output; registers = registers }) now
   pub alone : IfSome (grown_in others) (λ a. entries ≡ [])
 
 -- the steps of these marks, the newest first: the globals of a step stand in their list, the oldest first, from the number in its mark on; in each other list, the newest first, stands what the newest step has there
-abbrev pub kept_of : List Mark → List Slow → List (Saved Value) → List Others → List Shown → List (Vec Group) → List Kept
-kept_of [] slows globals others records sets = []
-kept_of (m ∷ ms) slows globals others records sets =
+abbrev pub kept_of : List Mark → List Slow → List (Saved Value) → StackLists → List Others → List Shown → List (Vec Group) → List Kept
+kept_of [] slows globals stacks others records sets = []
+kept_of (m ∷ ms) slows globals stacks others records sets =
     record {
-      step = step_of m (newest_slow slows) globals (first_if m.has_others others) (first_if m.has_record records);
+      step = step_of m (newest_slow slows) globals (newest_frames m.stacks stacks) (newest_operands m.stacks stacks) (first_if m.has_others others) (first_if m.has_record records);
       sets = items_of (first_if m.has_sets sets);
     }
-    ∷ kept_of ms (rest_if m.has_state slows) (take m.globals globals) (rest_if m.has_others others) (rest_if m.has_record records) (rest_if m.has_sets sets)
+    ∷ kept_of ms (rest_if m.has_state slows) (take m.globals globals) (older_stacks m.stacks stacks) (rest_if m.has_others others) (rest_if m.has_record records) (rest_if m.has_sets sets)
 
 -- the globals of each step begin within the list, and no place stands twice among them; nothing stands before the oldest step
 abbrev pub AreMarked : List Mark → List (Saved Value) → List Others → List Shown → List (Vec Group) → Type 0

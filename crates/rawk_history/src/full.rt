@@ -5,8 +5,10 @@ ghost use Rattle.std.specs.Bool.{OnTrue};
 ghost use Rattle.std.specs.Option.{option_copied};
 ghost use Rattle.std.specs.Vec.{vec_capacity};
 ghost use Rattle.rawk_slots.specs.Back.{AreDistinctFrom};
+ghost use Rattle.rawk_slots.specs.StackGroups.{first_if, rest_if};
+ghost use Rattle.rawk_frames.specs.KeptStacks.{HasRoomFor, lists_of, newest_frames, newest_operands, older_stacks};
 ghost use Rattle.rawk_record.specs.Shown.{record_back};
-ghost use Rattle.rawk_history.specs.Flat.{EndsBehind, began_by, first_if, items_of, newest_slow, registers_by, rest_if, slow_of, step_by};
+ghost use Rattle.rawk_history.specs.Flat.{EndsBehind, began_by, items_of, newest_slow, registers_by, slow_of, step_by};
 ghost use Rattle.rawk_store.specs.GroupBack.{ArraysFit, FitsIn, arrays_in, globals_on, put_back};
 ghost use Rattle.rawk_store.specs.Layout.{IsSound};
 ghost use Rattle.rawk_store.specs.Stores.{BeganNested, now_of, start_of};
@@ -14,7 +16,9 @@ ghost use Rattle.rawk_history.specs.Saving.{Counts, saved_by_all, saved_in_sets}
 
 use crate::keeper::{Keeper, StepRef};
 use crate::saving::{saved_in_groups, saved_in_others};
-use rawk_store::{Ending, Group, Others, Phase, Record, Registers, Saved, Store};
+use rawk_store::{
+    Ending, Group, HasStacks, KeptStacks, Others, Phase, Record, Registers, Saved, Store,
+};
 use rawk_value::Value;
 use std::alloc::{AllocError, Global};
 use std::marker::Model;
@@ -34,6 +38,7 @@ pub struct Mark {
     pub has_others: bool,
     pub has_record: bool,
     pub has_sets: bool,
+    pub stacks: HasStacks,
 }
 
 /// What few steps change of the registers, and how many bytes of output there were.
@@ -57,6 +62,7 @@ pub struct Full {
     globals: Vec<Saved<Value>>,
     // So many of the globals' values are of steps that are kept.
     live: usize,
+    stacks: KeptStacks,
     others: Vec<Others>,
     records: Vec<Record>,
     sets: Vec<Vec<Group>>,
@@ -73,10 +79,11 @@ impl Model for Full {
 
     ghost Value = { Keeping };
 
+    ghost use Rattle.rawk_frames.specs.KeptStacks.{lists_of};
     ghost use Rattle.rawk_history.specs.Flat.{IsFull, kept_of};
 
     ghost view = { λ f. record {
-      kept = kept_of (reverse f.marks.items) (reverse f.slows.items) (take f.live f.globals.items) (reverse f.others.items) (reverse f.records.items) (reverse f.sets.items);
+      kept = kept_of (reverse f.marks.items) (reverse f.slows.items) (take f.live f.globals.items) (lists_of f.stacks) (reverse f.others.items) (reverse f.records.items) (reverse f.sets.items);
       forth = if f.is_back then Some (record { globals = drop f.live f.globals.items; others = f.newer_others; current = f.newer_record; sets = f.newer_sets.items }) else None;
     } };
 
@@ -93,6 +100,7 @@ impl Full {
             slows: Vec::new(alloc),
             globals: Vec::new(alloc),
             live: 0,
+            stacks: KeptStacks::new(alloc),
             others: Vec::new(alloc),
             records: Vec::new(alloc),
             sets: Vec::new(alloc),
@@ -343,6 +351,7 @@ fn reserve(
 /// What a step leaves beside old values: whether it has any in the lists, and how output and registers stood.
 #[derive(Clone, Copy)]
 struct Rest {
+    stacks: HasStacks,
     has_others: bool,
     has_record: bool,
     output: usize,
@@ -357,25 +366,30 @@ fn finish_behind(
     store: &mut Store,
     globals: &mut Vec<Saved<Value>>,
     count: usize,
+    stacks: &mut KeptStacks,
     others: &mut Vec<Others>,
     records: &mut Vec<Record>,
 ) -> Result<Rest, AllocError>
     requires nested { BeganNested store.old }
     requires others { vec_len others.old < vec_capacity others.old }
     requires records { vec_len records.old < vec_capacity records.old }
-    ensures did { IfOk result (λ rest. EndsBehind (first_if rest.has_others (reverse others.new.items)) (first_if rest.has_record (reverse records.new.items)) rest.output rest.registers (start_of store.old) (now_of store.old) (take count globals.old.items) globals.new.items) }
+    ensures did { IfOk result (λ rest. EndsBehind (newest_frames rest.stacks (lists_of stacks.new)) (newest_operands rest.stacks (lists_of stacks.new)) (first_if rest.has_others (reverse others.new.items)) (first_if rest.has_record (reverse records.new.items)) rest.output rest.registers (start_of store.old) (now_of store.old) (take count globals.old.items) globals.new.items) }
+    ensures older { IfOk result (λ rest. older_stacks rest.stacks (lists_of stacks.new) ≡ lists_of stacks.old) }
     ensures others { IfOk result (λ rest. rest_if rest.has_others (reverse others.new.items) ≡ reverse others.old.items) }
     ensures records { IfOk result (λ rest. rest_if rest.has_record (reverse records.new.items) ≡ reverse records.old.items) }
     ensures now { now_of store.new ≡ now_of store.old }
     ensures rest { OnOk result (start_of store.new ≡ now_of store.old) }
     ensures open { OnErr result (start_of store.new ≡ start_of store.old) }
     ensures same { OnErr result (globals.new.items ≡ globals.old.items) }
+    ensures same_stacks { OnErr result (lists_of stacks.new ≡ lists_of stacks.old) }
     ensures same_others { OnErr result (others.new.items ≡ others.old.items) }
     ensures same_records { OnErr result (records.new.items ≡ records.old.items) }
 {
     let room = store.few_room(alloc)?;
+    stacks.reserve(&store.frames, &store.operands)?;
     let grown = store.globals.finish_into(globals, count)?;
     Ok(Rest {
+        stacks: stacks.keep(&mut store.frames, &mut store.operands),
         has_others: add_if(others, store.finish_others(alloc, room, grown)),
         has_record: add_if(records, store.current.finish(alloc)),
         output: store.output.finish(),
@@ -390,6 +404,8 @@ fn undo_behind(
     began: usize,
     output: usize,
     registers: Registers,
+    stacks: &mut KeptStacks,
+    has: HasStacks,
     others: Option<Others>,
     current: Option<Record>,
     newer_others: &mut Option<Others>,
@@ -397,11 +413,12 @@ fn undo_behind(
 )
     requires within { began ≤ length globals.old.items }
     requires distinct { AreDistinctFrom began globals.old.items }
-    requires fits { FitsIn (step_by began output registers globals.old.items others current) (now_of store.old) }
-    ensures now { now_of store.new ≡ put_back (now_of store.old) (step_by began output registers globals.old.items others current) }
+    requires fits { FitsIn (step_by began output registers globals.old.items (newest_frames has (lists_of stacks.old)) (newest_operands has (lists_of stacks.old)) others current) (now_of store.old) }
+    ensures now { now_of store.new ≡ put_back (now_of store.old) (step_by began output registers globals.old.items (newest_frames has (lists_of stacks.old)) (newest_operands has (lists_of stacks.old)) others current) }
     ensures rest { start_of store.new ≡ now_of store.new }
     ensures sound { IsSound (now_of store.new) }
     ensures earlier { take began globals.new.items ≡ take began globals.old.items }
+    ensures stacks { lists_of stacks.new ≡ older_stacks has (lists_of stacks.old) }
     ensures globals { globals_on store.new.globals.now (drop began globals.new.items) newer_others.new ≡ store.old.globals.now }
     ensures arrays { arrays_in store.new.arrays.now newer_others.new ≡ store.old.arrays.now }
     ensures fits { ArraysFit newer_others.new store.new.arrays.now }
@@ -415,6 +432,8 @@ fn undo_behind(
         began,
         output,
         registers,
+        stacks,
+        has,
         &mut others,
         &mut current,
     );
@@ -431,26 +450,31 @@ fn undo_parts(
     began: usize,
     output: usize,
     registers: Registers,
+    stacks: &mut KeptStacks,
+    has: HasStacks,
     others: &mut Option<Others>,
     current: &mut Option<Record>,
 )
     requires within { began ≤ length globals.old.items }
     requires distinct { AreDistinctFrom began globals.old.items }
-    requires fits { FitsIn (step_by began output registers globals.old.items others.old current.old) (now_of store.old) }
-    ensures now { now_of store.new ≡ put_back (now_of store.old) (step_by began output registers globals.old.items others.old current.old) }
+    requires fits { FitsIn (step_by began output registers globals.old.items (newest_frames has (lists_of stacks.old)) (newest_operands has (lists_of stacks.old)) others.old current.old) (now_of store.old) }
+    ensures now { now_of store.new ≡ put_back (now_of store.old) (step_by began output registers globals.old.items (newest_frames has (lists_of stacks.old)) (newest_operands has (lists_of stacks.old)) others.old current.old) }
     ensures rest { start_of store.new ≡ now_of store.new }
     ensures sound { IsSound (now_of store.new) }
     ensures earlier { take began globals.new.items ≡ take began globals.old.items }
+    ensures stacks { lists_of stacks.new ≡ older_stacks has (lists_of stacks.old) }
     ensures globals { globals_on store.new.globals.now (drop began globals.new.items) others.new ≡ store.old.globals.now }
     ensures arrays { arrays_in store.new.arrays.now others.new ≡ store.old.arrays.now }
     ensures fits { ArraysFit others.new store.new.arrays.now }
     ensures current { record_back store.new.current.now current.new ≡ store.old.current.now }
 {
     store.undo_others(others);
+    stacks.put_back(&mut store.frames, &mut store.operands, has);
     store.globals.undo_from(globals, began);
     store.current.undo(current);
     store.output.undo(output);
     store.registers.go_back(registers);
+    store.known();
 }
 
 impl Keeper for Full {
@@ -485,6 +509,7 @@ impl Keeper for Full {
             store,
             &mut self.globals,
             self.live,
+            &mut self.stacks,
             &mut self.others,
             &mut self.records,
         )?;
@@ -501,6 +526,7 @@ impl Keeper for Full {
             has_others: rest.has_others,
             has_record: rest.has_record,
             has_sets: add_if(&mut self.sets, taken(alloc, sets)),
+            stacks: rest.stacks,
         });
         self.is_back = false;
         Ok(())
@@ -533,6 +559,8 @@ impl Keeper for Full {
                 mark.globals,
                 slow.output,
                 registers_by(&mark, &slow),
+                &mut self.stacks,
+                mark.stacks,
                 take_if(&mut self.others, mark.has_others),
                 take_if(&mut self.records, mark.has_record),
                 &mut self.newer_others,

@@ -1,10 +1,13 @@
-use Rattle.std.proofs.Common.{◌≡◌, ◌≢◌, ℕ, ◌+◌, ◌-◌, ◌<◌, ◌≤◌, suc, zero, List, [], ◌∷◌, ◌++◌, ◌⊎◌, inl, inr, length, get_or, set, take, drop, slice_get, Some, refl, sym, ap, ◌∙◌, arith, get_or-set_other, get_or-set_same, IsTrue, ◌↔◌, nat_eq, nat_lt}
+use Rattle.std.proofs.Common.{◌≡◌, ◌≢◌, ℕ, ◌+◌, ◌-◌, ◌<◌, ◌≤◌, suc, zero, List, [], ◌∷◌, ◌++◌, ◌⊎◌, inl, inr, length, get_or, set, take, drop, slice_get, Some, refl, sym, ap, ◌∙◌, arith, get_or-set_other, get_or-set_same, IsTrue, ◌↔◌, nat_eq, nat_lt, true}
 use Rattle.std.proofs.lemmas.Bool.Decides.{Decides-eqb, Decides-ltb}
 use Rattle.std.proofs.lemmas.List.{get_or-take, get_or_push, get_or_append_left, set-set, set_comm, set-get_or, length-set, drop_more, length_push, take-take, drop-set}
 use Rattle.std.proofs.lemmas.Bool.{cases_eq, cases_lt}
+use Rattle.std.specs.List.{list_any}
+use Rattle.std.proofs.lemmas.List.Folds.{list_any_at}
+use Rattle.std.proofs.lemmas.Map.Steps.{le-length_from_below}
 use Rattle.std.proofs.lemmas.Option.{none-some, same_Some, slice_get_within, slice_get-get_or, get_or_from_slice_get}
 use Rattle.rawk_slots.specs.declared.saved.Saved.{Saved}
-use Rattle.rawk_slots.specs.BackLaws.{AreBelow-more, length-back}
+use Rattle.rawk_slots.specs.BackLaws.{AreBelow-more, length-back, length-places}
 use Rattle.rawk_slots.specs.Back.{back, AreBelow, IsSavedAt, IsJournal, places, AreDistinctFrom, HasAdded, HasDistinctPlaces}
 
 -- the newest is put back first
@@ -91,17 +94,17 @@ IsJournal-push {T} items marks saved e v h p fresh = record {
         let same : e ≡ d = sym (get_or_push saved e d j (sym last)) ∙ get_or_from_slice_get (saved ++ e ∷ []) j d d q in
         rw (← same, last) (get_or-set_same marks e.place (length saved) 0 (omega (arith, h.marked)))
 
+AreBelow-of : {T : Type 0} (n : ℕ) (es : List (Saved T)) (j : ℕ) (e : Saved T) → AreBelow n es → slice_get es j ≡ Some e → e.place < n
+AreBelow-of n es j e b q = let k = AreBelow-at n es j e b (slice_get_within es j e q) in rw (get_or_from_slice_get es j e e q) at k
+
 pub IsJournal-add : {T : Type 0} (items : List T) (marks : List ℕ) (saved : List (Saved T)) (v : T) → IsJournal items marks saved → IsJournal (items ++ v ∷ []) (marks ++ 0 ∷ []) saved
 IsJournal-add {T} items marks saved v h = record {
   marked = length_push marks 0 ∙ (ap (λ n. n + 1) h.marked ∙ sym (length_push items v));
   below = AreBelow-more (length items) (length (items ++ v ∷ [])) saved (omega (arith, length_push items v)) h.below;
   once = λ j e q.
-      let p : e.place < length items = below_of saved j e h.below q in
+      let p : e.place < length items = AreBelow-of (length items) saved j e h.below q in
       get_or_append_left marks (0 ∷ []) 0 e.place (omega (arith, h.marked)) ∙ h.once j e q;
 }
-  where
-    below_of : (es : List (Saved T)) (j : ℕ) (e : Saved T) → AreBelow (length items) es → slice_get es j ≡ Some e → e.place < length items
-    below_of es j e b q = let k = AreBelow-at (length items) es j e b (slice_get_within es j e q) in rw (get_or_from_slice_get es j e e q) at k
 
 pub IsJournal-none : {T : Type 0} (items : List T) (marks : List ℕ) → length marks ≡ length items → IsJournal items marks []
 IsJournal-none items marks h = record { marked = h; below = tt; once = λ j e q. absurd (cc q) }
@@ -235,3 +238,12 @@ back_saved {T} xs es ns e v is h = ap (λ (ds : List (Saved T)). back (set xs e.
 -- a write leaves as many slots at the beginning as there were
 pub length-written : {T : Type 0} (xs : List T) (es ns : List (Saved T)) (p : ℕ) (v : T) → length (back (set xs p v) ns) ≡ length (back xs es)
 length-written xs es ns p v = length-back (set xs p v) ns ∙ (length-set xs p v ∙ sym (length-back xs es))
+
+-- a journal saves no more values than there are slots
+pub saved-le : {T : Type 0} (items : List T) (marks : List ℕ) (saved : List (Saved T)) → IsJournal items marks saved → length saved ≤ length items
+saved-le {T} items marks saved h = rw (← h.marked) (le-length_from_below marks (length saved) (λ q lt. marked_at q (entry_at saved q (omega (arith, lt, length-places saved)))))
+  where
+    marked_at : (q : ℕ) → (e : Saved T) × (slice_get saved q ≡ Some e) × (get_or (places saved) q 0 ≡ e.place) → list_any (nat_eq q) marks ≡ true
+    marked_at q (e, there, is) =
+        let inside : e.place < length items = AreBelow-of (length items) saved q e h.below there in
+        list_any_at (nat_eq q) marks e.place 0 (omega (arith, inside, h.marked)) ((Decides-eqb q (get_or marks e.place 0)).1 (sym (h.once q e there)))

@@ -1,2 +1,3 @@
 pub mod Backs
 pub mod Stacks
+pub mod Groups

@@ -2,6 +2,7 @@ pub mod Journaled
 pub mod Back
 pub mod BackLaws
 pub mod Stacked
+pub mod StackGroups
 pub mod StackBack
 pub mod StackChanges
 pub mod StackLaws

@@ -1,11 +1,11 @@
 -- Slots that were added beyond the live values of a stack change nothing, and putting back works over them.
-use Rattle.std.specs.Prelude.{◌≡◌, List, [], ◌++◌, length, refl, reverse}
+use Rattle.std.specs.Prelude.{◌≡◌, List, [], ◌++◌, length, refl, reverse, Option, None, Some}
 use Rattle.std.proofs.Common.{sym, ap, ◌∙◌, arith, append_assoc}
 use Rattle.std.proofs.lemmas.List.{append-nil, length-append, reverse-reverse, take-append-le}
-use Rattle.rawk_slots.specs.declared.stack.StackGroup.{StackGroup}
+use Rattle.rawk_slots.specs.StackGroups.{StackGroup}
 use Rattle.rawk_slots.specs.BackLaws.{back_grow, AreBelow-more, length-back}
 use Rattle.rawk_slots.specs.Stacked.{Stacked, GrownStack, IsLive, IsSameStack, live_slots, live_values, with_slots}
-use Rattle.rawk_slots.specs.StackBack.{FitsStack, stack_back}
+use Rattle.rawk_slots.specs.StackBack.{FitsStack, FitsStackIf, stack_back, stack_in}
 
 -- a grown stack has the same live values
 pub live_values-grown : {T : Type 0} (s t : Stacked T) → GrownStack s t → IsLive s → live_values t ≡ live_values s
@@ -27,13 +27,13 @@ GrownStack-trans {T} s t u a b = record {
 }
 
 pub stack_back-grown : {T : Type 0} (s : Stacked T) (group : StackGroup T) (more : List T) → FitsStack group s → stack_back (with_slots s more) group ≡ with_slots (stack_back s group) more
-stack_back-grown {T} s group more h = ap (λ (xs : List T). record { slots = xs; live = group.live }) (back_grow s.slots group.slots.entries.items more h.places)
+stack_back-grown {T} s group more h = ap (λ (xs : List T). record { slots = xs; live = group.live }) (back_grow s.slots group.entries more h.places)
 
 pub FitsStack-grown : {T : Type 0} (s : Stacked T) (group : StackGroup T) (more : List T) → FitsStack group s → FitsStack group (with_slots s more)
 FitsStack-grown s group more h =
     let size = length-append s.slots more in
     record {
-      places = AreBelow-more (length s.slots) (length (s.slots ++ more)) group.slots.entries.items (omega arith) h.places;
+      places = AreBelow-more (length s.slots) (length (s.slots ++ more)) group.entries (omega arith) h.places;
       live = omega (arith, h.live);
     }
 
@@ -46,7 +46,7 @@ pub FitsStack-over : {T : Type 0} (s t : Stacked T) (group : StackGroup T) → G
 FitsStack-over s t group g h = rw g.is (FitsStack-grown s group g.more h)
 
 pub IsLive-stack_back : {T : Type 0} (s : Stacked T) (group : StackGroup T) → FitsStack group s → IsLive (stack_back s group)
-IsLive-stack_back s group h = omega (arith, length-back s.slots group.slots.entries.items, h.live)
+IsLive-stack_back s group h = omega (arith, length-back s.slots group.entries, h.live)
 
 pub IsSameStack-refl : {T : Type 0} (s : Stacked T) → IsSameStack s s
 IsSameStack-refl s = record { grown = GrownStack-refl s; same = refl }
@@ -66,3 +66,16 @@ IsSameStack-back s t group g h = IsSameStack-grown (stack_back s group) (stack_b
 pub leads_back-grown : {T : Type 0} (s t earlier : Stacked T) (group : StackGroup T) → FitsStack group s → IsSameStack earlier (stack_back s group) → IsSameStack s t → FitsStack group t × IsSameStack earlier (stack_back t group)
 leads_back-grown s t earlier group h e g =
     (FitsStack-over s t group g.grown h, IsSameStack-trans earlier (stack_back s group) (stack_back t group) e (IsSameStack-back s t group g.grown h))
+
+-- the same of what a step changed, if it changed anything
+pub FitsStackIf-over : {T : Type 0} (s t : Stacked T) (o : Option (StackGroup T)) → GrownStack s t → FitsStackIf o s → FitsStackIf o t
+FitsStackIf-over s t None g h = IsLive-grown s t g h
+FitsStackIf-over s t (Some group) g h = FitsStack-over s t group g h
+
+pub IsLive-stack_in : {T : Type 0} (s : Stacked T) (o : Option (StackGroup T)) → FitsStackIf o s → IsLive (stack_in s o)
+IsLive-stack_in s None h = h
+IsLive-stack_in s (Some group) h = IsLive-stack_back s group h
+
+pub GrownStack-in : {T : Type 0} (s t : Stacked T) (o : Option (StackGroup T)) → GrownStack s t → FitsStackIf o s → GrownStack (stack_in s o) (stack_in t o)
+GrownStack-in s t None g h = g
+GrownStack-in s t (Some group) g h = GrownStack-back s t group g h

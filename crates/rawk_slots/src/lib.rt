@@ -7,6 +7,7 @@ pub mod saved;
 pub mod slot_group;
 pub mod slots;
 pub mod stack;
+pub mod stack_groups;
 
 pub use laws::there_and_back;
 pub use reversible::Reversible;
@@ -14,3 +15,4 @@ pub use saved::Saved;
 pub use slot_group::{SlotGroup, led_to, saved_at};
 pub use slots::Slots;
 pub use stack::{Stack, StackChange, StackGroup};
+pub use stack_groups::{Begins, StackGroups};

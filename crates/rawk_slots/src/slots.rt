@@ -215,6 +215,16 @@ impl<T: Drop> Slots<T> {
         Ok(())
     }
 
+    /// Ends the step, and puts what it changed behind the old values of a list that has room for one of each slot. It takes no memory.
+    #[inline]
+    pub fn finish_behind(&mut self, list: &mut Vec<Saved<T>>)
+        requires { vec_len list.old + length self.old.now ≤ vec_capacity list.old }
+        ensures did { HasAdded self.old.now self.old.start list.old.items list.new.items }
+        ensures now { self.new ≡ at_rest self.old.now }
+    {
+        let _moved = list.append(&mut self.saved);
+    }
+
     /// Whether the step has changed nothing yet.
     #[inline]
     pub fn is_at_rest(&self) -> bool

@@ -1,14 +1,17 @@
 //! A stack whose values can be put back as they stood when the step began.
 
-ghost use Rattle.std.specs.Prelude.{◌≡◌, ◌∷◌, [], IfSome, OnErr, OnOk, Some, drop, if◌then◌else◌, length, reverse, slice_get, slice_set, take};
+ghost use Rattle.std.specs.Prelude.{◌≡◌, ◌≤◌, ◌+◌, ◌∷◌, [], IfSome, OnErr, OnOk, Some, drop, if◌then◌else◌, length, reverse, slice_get, slice_set, take, vec_len};
+ghost use Rattle.std.specs.Vec.{vec_capacity};
 ghost use Rattle.std.specs.Option.{is_some, option_copied};
 ghost use Rattle.std.specs.Bool.{OnTrue};
 ghost use Rattle.rawk_slots.specs.Journaled.{at_rest};
 ghost use Rattle.rawk_slots.specs.Stacked.{GrownStack, IsLive, empty_stack, live_slots, live_values};
-ghost use Rattle.rawk_slots.specs.StackBack.{FitsStack, stack_back};
+ghost use Rattle.rawk_slots.specs.Back.{back, AreBelow, AreDistinctFrom, HasAdded};
+ghost use Rattle.rawk_slots.specs.StackBack.{FitsStack, FitsStackIf, stack_back, stack_in};
 ghost use Rattle.rawk_slots.specs.StackChanges.{changed_values};
 
 use crate::reversible::Reversible;
+use crate::saved::Saved;
 use crate::slot_group::SlotGroup;
 use crate::slots::Slots;
 use std::alloc::{AllocError, Global};
@@ -42,8 +45,16 @@ impl<T> Model for Stack<T> {
 /// What a step changed in a stack.
 #[derive(Drop)]
 pub struct StackGroup<T> {
-    pub slots: SlotGroup<T>,
-    pub live: usize,
+    slots: SlotGroup<T>,
+    live: usize,
+}
+
+impl<T> Model for StackGroup<T> {
+    ghost use Rattle.rawk_slots.specs.StackGroups.{StackGroup};
+
+    ghost Value = { StackGroup T };
+
+    ghost view = { λ g. record { entries = g.slots.entries.items; live = g.live } };
 }
 
 impl<T: Drop> Stack<T> {
@@ -188,6 +199,59 @@ impl<T: Drop> Stack<T> {
         };
         self.began = self.live;
         group
+    }
+
+    /// How many slots there are, live ones and others.
+    #[inline]
+    pub(crate) fn slot_count(&self) -> usize
+        ensures { result ≡ length self.now.now.slots }
+    {
+        self.slots.len()
+    }
+
+    /// Ends the step, puts the old values behind those of a list that has room for one of each slot, and gives how many values were live when the step began. It takes no memory.
+    #[inline]
+    pub(crate) fn finish_behind(&mut self, list: &mut Vec<Saved<T>>) -> usize
+        requires { vec_len list.old + length self.old.now.slots ≤ vec_capacity list.old }
+        ensures now { self.new ≡ at_rest self.old.now }
+        ensures did { HasAdded self.old.now.slots self.old.start.slots list.old.items list.new.items }
+        ensures began { result ≡ self.old.start.live }
+        ensures live { IsLive self.old.now }
+        ensures within { result ≤ length self.old.now.slots }
+    {
+        let began = self.began;
+        self.slots.finish_behind(list);
+        self.began = self.live;
+        began
+    }
+
+    /// Puts back what a step that ended changed, whose old values stand in a list from a number on, and leaves the newer ones there. It takes no memory and always succeeds.
+    pub(crate) fn undo_from(&mut self, list: &mut Vec<Saved<T>>, began: usize, live: usize)
+        requires within { began ≤ length list.old.items }
+        requires below { AreBelow (length self.old.now.slots) (drop began list.old.items) }
+        requires distinct { AreDistinctFrom began list.old.items }
+        requires live { live ≤ length self.old.now.slots }
+        ensures now { self.new ≡ at_rest (record { slots = back self.old.now.slots (drop began list.old.items); live = live }) }
+        ensures earlier { take began list.new.items ≡ take began list.old.items }
+        ensures live { IsLive self.new.now }
+    {
+        self.slots.undo_from(list, began);
+        self.live = live;
+        self.began = live;
+    }
+
+    /// Puts back what a step that ended changed, if it changed anything, and leaves the newer values in the group. It takes no memory and always succeeds.
+    #[inline]
+    pub fn undo_if(&mut self, group: &mut Option<StackGroup<T>>)
+        requires { FitsStackIf group.old self.old.now }
+        ensures now { self.new ≡ at_rest (stack_in self.old.now group.old) }
+        ensures newer { stack_in self.new.now group.new ≡ self.old.now }
+        ensures live { IsLive self.new.now }
+    {
+        match group {
+            None => self.forget(),
+            Some(changed) => self.undo(changed),
+        }
     }
 
     /// Whether the step has changed nothing yet.

@@ -11,10 +11,8 @@ use Rattle.rawk_store.specs.declared.others.RareGroup.{RareGroup}
 use Rattle.rawk_store.specs.declared.store.Store.{Store}
 use Rattle.rawk_store.specs.Groups.{Group}
 use Rattle.rawk_slots.specs.Back.{back, AreBelow}
-use Rattle.rawk_slots.specs.Stacked.{Stacked}
-use Rattle.rawk_slots.specs.StackBack.{FitsStack, stack_back}
+use Rattle.rawk_slots.specs.StackBack.{FitsStackIf, stack_in}
 use Rattle.rawk_arrays.specs.Laid.{Laid}
-use Rattle.rawk_frames.specs.LaidFrames.{LaidFrames}
 use Rattle.rawk_frames.specs.LaidKeys.{LaidKeys}
 use Rattle.rawk_arrays.specs.ArraysBack.{FitsArrays, arrays_back}
 use Rattle.rawk_frames.specs.FramesBack.{FitsFrames, frames_back}
@@ -44,10 +42,6 @@ abbrev pub arrays_in : Laid → Option Others → Laid
 arrays_in l None = l
 arrays_in l (Some o) = few_arrays l o.few
 
-abbrev pub frames_in : LaidFrames → Option Others → LaidFrames
-frames_in l None = l
-frames_in l (Some o) = frames_back l o.frames
-
 abbrev pub rare_keys : LaidKeys → Option (Box RareGroup) → LaidKeys
 rare_keys l None = l
 rare_keys l (Some r) = keys_back l r.value.keys
@@ -72,19 +66,15 @@ abbrev pub ranges_in : List Bool → Option Others → List Bool
 ranges_in l None = l
 ranges_in l (Some o) = few_ranges l o.few
 
-abbrev pub operands_in : Stacked Value → Option Others → Stacked Value
-operands_in l None = l
-operands_in l (Some o) = stack_back l o.operands
-
 -- the layout with what the group saved put back
 abbrev pub put_back : Layout → Group → Layout
 put_back l group = record {
   globals = back (globals_in l.globals group.others) group.globals;
   arrays = arrays_in l.arrays group.others;
-  frames = frames_in l.frames group.others;
+  frames = frames_back l.frames group.frames;
   keys = keys_in l.keys group.others;
   ranges = ranges_in l.ranges group.others;
-  operands = operands_in l.operands group.others;
+  operands = stack_in l.operands group.operands;
   current = record_back l.current group.current;
   output = take group.output l.output;
   registers = group.registers;
@@ -111,8 +101,6 @@ FewFit (Some f) l = FitsArrays f.value.arrays l.arrays × RareFit f.value.rare l
 
 -- each place of these parts is one of the layout
 pub record OthersFit (o : Others) (l : Layout) : Type 0 where
-  pub frames : FitsFrames o.frames l.frames
-  pub operands : FitsStack o.operands l.operands
   pub grown : FitsAppended o.grown l.globals
   pub few : FewFit o.few l
 
@@ -125,10 +113,10 @@ abbrev pub others_put : Layout → Option Others → Layout
 others_put l o = record {
   globals = globals_in l.globals o;
   arrays = arrays_in l.arrays o;
-  frames = frames_in l.frames o;
+  frames = l.frames;
   keys = keys_in l.keys o;
   ranges = ranges_in l.ranges o;
-  operands = operands_in l.operands o;
+  operands = l.operands;
   current = l.current;
   output = l.output;
   registers = l.registers;
@@ -137,10 +125,8 @@ others_put l o = record {
 -- what was saved of these parts leads from the one layout back to the other
 pub record OthersLead (o : Option Others) (now start : Layout) : Type 0 where
   pub arrays : arrays_in now.arrays o ≡ start.arrays
-  pub frames : frames_in now.frames o ≡ start.frames
   pub keys : keys_in now.keys o ≡ start.keys
   pub ranges : ranges_in now.ranges o ≡ start.ranges
-  pub operands : operands_in now.operands o ≡ start.operands
 
 -- what was saved of the rarest parts leads back to how they stood when the step began
 pub record RareLeads (r : Option (Box RareGroup)) (s : Store) : Type 0 where
@@ -170,5 +156,7 @@ pub record HasFewRoom (room : Option (Box FewGroup)) (s : Store) : Type 0 where
 -- each place of the group is one of the layout
 pub record FitsIn (group : Group) (l : Layout) : Type 0 where
   pub globals : AreBelow (length (globals_in l.globals group.others)) group.globals
+  pub frames : FitsFrames group.frames l.frames
+  pub operands : FitsStackIf group.operands l.operands
   pub others : FitsOthers group.others l
   pub output : group.output ≤ length l.output

@@ -9,7 +9,7 @@ use Rattle.rawk_value.specs.declared.value.Value.{Value}
 use Rattle.rawk_slots.specs.Back.{back, AreBelow}
 use Rattle.rawk_cells.specs.Cells.{FitsAppended}
 use Rattle.rawk_slots.specs.Stacked.{Stacked, GrownStack}
-use Rattle.rawk_slots.specs.StackLaws.{live_values-grown, GrownStack-refl, GrownStack-trans, GrownStack-back, FitsStack-over, IsLive-stack_back}
+use Rattle.rawk_slots.specs.StackLaws.{live_values-grown, GrownStack-refl, GrownStack-trans, GrownStack-in, FitsStackIf-over, IsLive-stack_in}
 use Rattle.rawk_arrays.specs.Elements.{Elements}
 use Rattle.rawk_arrays.specs.Laid.{Laid, GrownArrays, IsLaid, arrays_of}
 use Rattle.rawk_arrays.specs.ArraysLaws.{arrays_of-grown, GrownArrays-refl, GrownArrays-trans, GrownArrays-back, FitsArrays-grown, IsLaid-back}
@@ -25,7 +25,7 @@ use Rattle.rawk_store.specs.declared.others.RareGroup.{RareGroup}
 use Rattle.rawk_store.specs.Groups.{Group}
 use Rattle.rawk_store.specs.State.{State}
 use Rattle.rawk_store.specs.Layout.{Layout, Grown, IsSound, keys, operands, state}
-use Rattle.rawk_store.specs.GroupBack.{FewFit, FitsIn, FitsOthers, RareFit, few_arrays, few_keys, rare_keys, arrays_in, frames_in, keys_in, globals_in, operands_in, others_put, put_back, ranges_in}
+use Rattle.rawk_store.specs.GroupBack.{FewFit, FitsIn, FitsOthers, RareFit, few_arrays, few_keys, rare_keys, arrays_in, keys_in, globals_in, others_put, put_back, ranges_in}
 
 pub Grown-refl : (l : Layout) → Grown l l
 Grown-refl l = record {
@@ -168,10 +168,6 @@ arrays_in-grown : (l m : Layout) (o : Option Others) → Grown l m → FitsOther
 arrays_in-grown l m None g h = g.arrays
 arrays_in-grown l m (Some o) g h = few_arrays-grown l m o.few g h.few
 
-frames_in-grown : (l m : Layout) (o : Option Others) → Grown l m → FitsOthers o l → GrownFrames (frames_in l.frames o) (frames_in m.frames o)
-frames_in-grown l m None g h = g.frames
-frames_in-grown l m (Some o) g h = GrownFrames-back l.frames m.frames o.frames g.frames h.frames
-
 rare_keys-grown : (l m : Layout) (r : Option (Box RareGroup)) → Grown l m → RareFit r l → GrownKeys (rare_keys l.keys r) (rare_keys m.keys r)
 rare_keys-grown l m None g h = g.keys
 rare_keys-grown l m (Some r) g h = GrownKeys-back l.keys m.keys r.value.keys g.keys h.0
@@ -184,19 +180,15 @@ keys_in-grown : (l m : Layout) (o : Option Others) → Grown l m → FitsOthers 
 keys_in-grown l m None g h = g.keys
 keys_in-grown l m (Some o) g h = few_keys-grown l m o.few g h.few
 
-operands_in-grown : (l m : Layout) (o : Option Others) → Grown l m → FitsOthers o l → GrownStack (operands_in l.operands o) (operands_in m.operands o)
-operands_in-grown l m None g h = g.operands
-operands_in-grown l m (Some o) g h = GrownStack-back l.operands m.operands o.operands g.operands h.operands
-
 -- putting back, over more slots
 pub Grown-put_back : (l m : Layout) (group : Group) → Grown l m → FitsIn group l → Grown (put_back l group) (put_back m group)
 Grown-put_back l m group g h = record {
   globals = ap (λ (xs : List Value). back (globals_in xs group.others) group.globals) g.globals;
   arrays = arrays_in-grown l m group.others g h.others;
-  frames = frames_in-grown l m group.others g h.others;
+  frames = GrownFrames-back l.frames m.frames group.frames g.frames h.frames;
   keys = keys_in-grown l m group.others g h.others;
   ranges = ap (λ (xs : List Bool). ranges_in xs group.others) g.ranges;
-  operands = operands_in-grown l m group.others g h.others;
+  operands = GrownStack-in l.operands m.operands group.operands g.operands h.operands;
   current = ap (λ (x : Shown). record_back x group.current) g.current;
   output = ap (λ (xs : Bytes). take group.output xs) g.output;
   registers = refl;
@@ -213,8 +205,6 @@ FewFit-grown l m (Some f) g h = (FitsArrays-grown l.arrays m.arrays f.value.arra
 FitsOthers-grown : (l m : Layout) (o : Option Others) → Grown l m → FitsOthers o l → FitsOthers o m
 FitsOthers-grown l m None g h = tt
 FitsOthers-grown l m (Some o) g h = record {
-  frames = FitsFrames-grown l.frames m.frames o.frames g.frames h.frames;
-  operands = FitsStack-over l.operands m.operands o.operands g.operands h.operands;
   grown = subst (λ (xs : List Value). FitsAppended o.grown xs) (sym g.globals) h.grown;
   few = FewFit-grown l m o.few g h.few;
 }
@@ -222,6 +212,8 @@ FitsOthers-grown l m (Some o) g h = record {
 pub FitsIn-grown : (l m : Layout) (group : Group) → Grown l m → FitsIn group l → FitsIn group m
 FitsIn-grown l m group g h = record {
   globals = subst (λ (xs : List Value). AreBelow (length (globals_in xs group.others)) group.globals) (sym g.globals) h.globals;
+  frames = FitsFrames-grown l.frames m.frames group.frames g.frames h.frames;
+  operands = FitsStackIf-over l.operands m.operands group.operands g.operands h.operands;
   others = FitsOthers-grown l m group.others g h.others;
   output = rw g.output h.output;
 }
@@ -242,14 +234,16 @@ IsSound-others : (l : Layout) (o : Option Others) → FitsOthers o l → IsSound
 IsSound-others l None h s = record { arrays = s.arrays; frames = s.frames; nested = s.nested; keys = s.keys; operands = s.operands }
 IsSound-others l (Some o) h s = record {
   arrays = few_laid l o.few h.few s.arrays;
-  frames = AreFramesLive-back l.frames o.frames h.frames;
-  nested = h.frames.nested;
+  frames = s.frames;
+  nested = s.nested;
   keys = few_live l o.few h.few s.keys;
-  operands = IsLive-stack_back l.operands o.operands h.operands;
+  operands = s.operands;
 }
 
 pub IsSound-put_back : (l : Layout) (group : Group) → FitsIn group l → IsSound l → IsSound (put_back l group)
-IsSound-put_back l group h s = let o = IsSound-others l group.others h.others s in record { arrays = o.arrays; frames = o.frames; nested = o.nested; keys = o.keys; operands = o.operands }
+IsSound-put_back l group h s =
+    let o = IsSound-others l group.others h.others s in
+    record { arrays = o.arrays; frames = AreFramesLive-back l.frames group.frames h.frames; nested = h.frames.nested; keys = o.keys; operands = IsLive-stack_in l.operands group.operands h.operands }
 
 -- the activations of what has grown are nested
 pub nested-grown : (l m : Layout) → Grown l m → IsSound l → AreNested m.frames

@@ -38,14 +38,14 @@ start_of s = record {
 }
 
 -- the parts that few steps change have begun anew, and the others as before
-abbrev pub others_rested : Layout → Layout → Layout
-others_rested now start = record {
+abbrev pub few_rested : Layout → Layout → Layout
+few_rested now start = record {
   globals = start.globals;
   arrays = now.arrays;
-  frames = now.frames;
+  frames = start.frames;
   keys = now.keys;
   ranges = now.ranges;
-  operands = now.operands;
+  operands = start.operands;
   current = start.current;
   output = start.output;
   registers = start.registers;
@@ -53,17 +53,7 @@ others_rested now start = record {
 
 -- the globals too
 abbrev pub globals_rested : Layout → Layout → Layout
-globals_rested now start = record {
-  globals = now.globals;
-  arrays = now.arrays;
-  frames = now.frames;
-  keys = now.keys;
-  ranges = now.ranges;
-  operands = now.operands;
-  current = start.current;
-  output = start.output;
-  registers = start.registers;
-}
+globals_rested now start = record (few_rested now start) { globals = now.globals }
 
 -- nothing stands there but the registers
 abbrev pub empty_layout : Registers → Layout
@@ -73,14 +63,6 @@ empty_layout registers = record { globals = []; arrays = no_arrays; frames = no_
 pub record IsNew (registers : Registers) (s : Store) : Type 0 where
   pub now : now_of s ≡ empty_layout registers
   pub start : start_of s ≡ empty_layout registers
-
--- the step in progress changed no array, activation, key that is left, range or operand
-pub record IsPlainStep (s : Store) : Type 0 where
-  pub arrays : s.arrays.start ≡ s.arrays.now
-  pub frames : s.frames.start ≡ s.frames.now
-  pub keys : s.keys.start ≡ s.keys.now
-  pub ranges : s.ranges.start ≡ s.ranges.now
-  pub operands : s.operands.start ≡ s.operands.now
 
 -- the activations were nested when the step began
 abbrev pub BeganNested : Store → Type 0

@@ -6,8 +6,9 @@ ghost use Rattle.rawk_store.specs.Saving.{saved_in, saved_others};
 
 use crate::others::Others;
 use crate::registers::Registers;
+use rawk_frames::FramesGroup;
 use rawk_record::Record;
-use rawk_slots::{Saved, SlotGroup};
+use rawk_slots::{Saved, SlotGroup, StackGroup};
 use rawk_value::Value;
 use std::marker::Model;
 
@@ -15,6 +16,8 @@ use std::marker::Model;
 #[derive(Drop)]
 pub struct Group {
     pub(crate) globals: SlotGroup<Value>,
+    pub(crate) frames: FramesGroup,
+    pub(crate) operands: Option<StackGroup<Value>>,
     pub(crate) others: Option<Others>,
     pub(crate) current: Option<Record>,
     /// How many bytes of output there were.
@@ -33,7 +36,7 @@ impl Model for Group {
     // No text grew: where one did, a keeper keeps the step in its lists.
     ghost invariant = { λ g. grown_in g.others ≡ None };
 
-    ghost view = { λ g. record { globals = g.globals.entries.items; others = g.others; current = g.current; output = g.output; registers = g.registers } };
+    ghost view = { λ g. record { globals = g.globals.entries.items; frames = g.frames; operands = g.operands; others = g.others; current = g.current; output = g.output; registers = g.registers } };
 }
 
 impl Group {

@@ -18,12 +18,13 @@ pub use current::Current;
 pub use group::Group;
 pub use lent::{ValueRef, global_after, global_before};
 pub use numbering::field_number;
-pub use others::{FewGroup, OperandsGroup, Others, RareGroup};
+pub use others::{FewGroup, Others, RareGroup};
 pub use output::Output;
 pub use rawk_arrays::{Arrays, ArraysGroup};
 pub use rawk_cells::Cells;
 pub use rawk_frames::{
-    Activation, Frames, FramesGroup, KeysLeft, KeysLeftGroup, Local, Ranges, RangesGroup,
+    Activation, Frames, FramesGroup, HasStacks, KeptStacks, KeysLeft, KeysLeftGroup, Local, Ranges,
+    RangesGroup,
 };
 pub use rawk_record::{
     FieldRef, Fields, Piece, Record, RecordChange, Separator, fields_of, pieces_between,

@@ -5,12 +5,7 @@ ghost use Rattle.rawk_store.specs.Saving.{saved_in_part};
 
 use rawk_arrays::ArraysGroup;
 use rawk_cells::Appended;
-use rawk_frames::{FramesGroup, KeysLeftGroup, RangesGroup};
-use rawk_slots::StackGroup;
-use rawk_value::Value;
-
-/// What a step changed in the operand stack.
-pub type OperandsGroup = StackGroup<Value>;
+use rawk_frames::{KeysLeftGroup, RangesGroup};
 
 /// What a step changed in keys that are left and in ranges, which fewest steps change.
 #[derive(Drop)]
@@ -26,12 +21,9 @@ pub struct FewGroup {
     pub rare: Option<Box<RareGroup>>,
 }
 
-/// What a step changed in activations and operands, and in the parts that fewer steps change if in these at all, and what came behind the text of a global, where a long one
-/// grew in place.
+/// What came behind the text of a global, where a long one grew in place, and what a step changed in the parts that few steps change, if in these at all.
 #[derive(Drop)]
 pub struct Others {
-    pub frames: FramesGroup,
-    pub operands: OperandsGroup,
     pub grown: Option<Box<Appended>>,
     pub few: Option<Box<FewGroup>>,
 }

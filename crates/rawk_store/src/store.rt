@@ -1,11 +1,10 @@
 //! The state of a run, beside what it was when the step began.
 
 ghost use Rattle.std.specs.Prelude.{◌≡◌, IfOk, None, OnErr, OnOk};
-ghost use Rattle.std.specs.Bool.{OnTrue};
 ghost use Rattle.rawk_record.specs.Shown.{record_back};
 ghost use Rattle.rawk_store.specs.Layout.{IsSound, state};
 ghost use Rattle.rawk_store.specs.Saving.{SavesOnce};
-ghost use Rattle.rawk_store.specs.Stores.{BeganNested, IsNew, IsPlainStep, globals_rested, now_of, others_rested, start_of};
+ghost use Rattle.rawk_store.specs.Stores.{BeganNested, IsNew, few_rested, globals_rested, now_of, start_of};
 ghost use Rattle.rawk_store.specs.GroupBack.{ArraysFit, FewArraysFit, FewFit, FewLead, FitsIn, FitsOthers, HasFewRoom, HasRoom, OthersLead, RareFit, RareLeads, arrays_in, few_arrays, few_keys, few_ranges, grown_in, others_put, put_back, rare_keys, rare_ranges};
 ghost use Rattle.rawk_arrays.specs.Laid.{IsLaid};
 ghost use Rattle.rawk_cells.specs.Cells.{FitsAppended, with_again, without};
@@ -59,18 +58,6 @@ impl Store {
             output: Output::new(alloc),
             registers: Bank::new(registers),
         }
-    }
-
-    /// Whether the step has changed no array, activation, key that is left, range or operand.
-    #[inline]
-    pub fn is_plain(&self) -> bool
-        ensures { OnTrue result (IsPlainStep self.now) }
-    {
-        self.operands.is_at_rest()
-            && self.arrays.is_at_rest()
-            && self.frames.is_at_rest()
-            && self.keys.is_at_rest()
-            && self.ranges.is_at_rest()
     }
 
     /// Room for what the step changed in arrays, keys that are left and ranges, where it changed any of these. It fails where memory is refused.
@@ -165,8 +152,8 @@ impl Store {
         }
     }
 
-    /// Ends the step in the parts that few steps change, and gives what it changed there, if it changed anything, with room for those that fewer change where it changed
-    /// these, and with what came behind a text of the globals. It takes no memory.
+    /// Ends the step in the parts that few steps change, and gives what it changed there, in the room for it, with what came behind a text of the globals, if anything did or
+    /// was changed. It takes no memory.
     #[inline]
     pub fn finish_others(
         &mut self,
@@ -174,26 +161,19 @@ impl Store {
         room: Option<Box<FewGroup>>,
         grown: Option<Box<Appended>>,
     ) -> Option<Others>
-        requires nested { BeganNested self.old }
         requires room { HasFewRoom room self.old }
         requires grown { FitsAppended grown self.old.globals.now }
         ensures now { now_of self.new ≡ now_of self.old }
-        ensures start { start_of self.new ≡ others_rested (now_of self.old) (start_of self.old) }
+        ensures start { start_of self.new ≡ few_rested (now_of self.old) (start_of self.old) }
         ensures back { OthersLead result (now_of self.old) (start_of self.old) }
         ensures fits { FitsOthers result (now_of self.old) }
         ensures grown { grown_in result ≡ grown }
-        ensures sound { IsSound (now_of self.old) }
     {
-        self.known();
-        if grown.is_none() && self.is_plain() {
+        let few = self.finish_few(alloc, room);
+        if grown.is_none() && few.is_none() {
             return None;
         }
-        Some(Others {
-            frames: self.frames.finish(alloc),
-            operands: self.operands.finish(alloc),
-            grown,
-            few: self.finish_few(alloc, room),
-        })
+        Some(Others { grown, few })
     }
 
     /// Ends the step, and gives what it changed, of each global and each element once. It takes memory at most where a text grew in place, or arrays, keys
@@ -214,6 +194,8 @@ impl Store {
         let others = self.finish_others(alloc, room, None);
         Ok(Group {
             globals,
+            frames: self.frames.finish(alloc),
+            operands: Some(self.operands.finish(alloc)),
             others,
             current: self.current.finish(alloc),
             output: self.output.finish(),
@@ -343,7 +325,6 @@ impl Store {
         requires { FitsOthers others.old (now_of self.old) }
         ensures now { now_of self.new ≡ others_put (now_of self.old) others.old }
         ensures start { start_of self.new ≡ globals_rested (now_of self.new) (start_of self.old) }
-        ensures sound { IsSound (now_of self.new) }
         ensures newer_globals { with_again (grown_in others.new) self.new.globals.now ≡ self.old.globals.now }
         ensures grown { grown_in others.new ≡ grown_in others.old }
         ensures newer { arrays_in self.new.arrays.now others.new ≡ self.old.arrays.now }
@@ -353,15 +334,11 @@ impl Store {
             None => {
                 self.globals.forget();
                 self.arrays.forget();
-                self.frames.forget();
                 self.keys.forget();
                 self.ranges.forget();
-                self.operands.forget();
             }
             Some(group) => {
                 self.undo_grown(&group.grown);
-                self.frames.undo(&mut group.frames);
-                self.operands.undo(&mut group.operands);
                 self.undo_few(&mut group.few);
             }
         }
@@ -379,9 +356,12 @@ impl Store {
         ensures newer_record { record_back self.new.current.now group.new.current ≡ self.old.current.now }
     {
         self.undo_others(&mut group.others);
+        self.frames.undo(&mut group.frames);
+        self.operands.undo_if(&mut group.operands);
         self.globals.undo(&mut group.globals);
         self.current.undo(&mut group.current);
         self.output.undo(group.output);
         self.registers.undo(&mut group.registers);
+        self.known();
     }
 }

@@ -9,6 +9,7 @@ use Rattle.rawk_history.specs.declared.full.Mark.{Mark}
 use Rattle.rawk_history.specs.Flat.{began_by}
 use Rattle.rawk_history.specs.Saving.{saved_by_all, saved_in_others, saved_in_sets}
 use Rattle.rawk_history.proofs.Flats.{others_reverse, sets_reverse}
+use Rattle.rawk_frames.specs.KeptStacks.{lists_of}
 use Rattle.rawk_history.proofs.Saved.{began-le, count-reverse, saved_newest}
 use Rattle.rawk_history.proofs.full.Full.saved_in_newest.Goals as goal
 
@@ -20,7 +21,7 @@ returns c = λ few.
     let globals = take i.live i.globals.items in
     let newest : List Mark = take n (reverse i.marks.items) in
     let marks = c.newest_of-marks.result.now in
-    let flat = saved_newest n (reverse i.marks.items) (reverse i.slows.items) globals (reverse i.others.items) (reverse i.records.items) (reverse i.sets.items) v.marked in
+    let flat = saved_newest n (reverse i.marks.items) (reverse i.slows.items) globals (lists_of i.stacks) (reverse i.others.items) (reverse i.records.items) (reverse i.sets.items) v.marked in
     let within = began-le n (reverse i.marks.items) globals (reverse i.others.items) (reverse i.records.items) (reverse i.sets.items) v.marked in
     let view = ap (λ k. saved_by_all (take n k.kept)) c.self.view_is in
     let size = length-take-le i.live i.globals.items v.within in

@@ -1,4 +1,5 @@
 use Rattle.std.proofs.Common.{◌≡◌, ◌∙◌, ◌∷◌, ◌++◌, [], ap, refl, take, reverse, if◌then◌else◌, Some, None}
+use Rattle.rawk_frames.specs.KeptStacks.{lists_of}
 use Rattle.rawk_history.specs.declared.full.Mark.{Mark}
 use Rattle.rawk_history.specs.declared.full.Slow.{Slow}
 use Rattle.rawk_history.specs.Flat.{newest_slow, registers_by}
@@ -21,6 +22,7 @@ invariant_of-self-2 c =
       has_others = r.has_others;
       has_record = r.has_record;
       has_sets = c.add_if.result;
+      stacks = r.stacks;
     } in
     full_added i.marks.items c.push_reserved.new.self.items m i.globals.items (take i.live i.globals.items) c.finish_behind.new.globals.items e.entries i.live c.len-self-inside.result
     i.others.items c.finish_behind.new.others.items i.records.items c.finish_behind.new.records.items i.sets.items c.add_if.new.list.items
@@ -44,12 +46,14 @@ returns-clause-did c =
       has_others = r.has_others;
       has_record = r.has_record;
       has_sets = c.add_if.result;
+      stacks = r.stacks;
     } in
     let all = kept_added i.marks.items c.push_reserved.new.self.items m i.slows.items c.add_slow.new.list.items i.globals.items (take i.live i.globals.items) c.finish_behind.new.globals.items e.entries i.live c.len-self-inside.result
-    i.others.items c.finish_behind.new.others.items i.records.items c.finish_behind.new.records.items i.sets.items c.add_if.new.list.items
+    (lists_of i.stacks) (lists_of c.finish_behind.new.stacks) i.others.items c.finish_behind.new.others.items i.records.items c.finish_behind.new.records.items i.sets.items c.add_if.new.list.items
     (c.push_reserved.ensures.items ∙ ap (λ xs. xs ++ m ∷ []) c.reserve.ensures.marks) refl c.self.invariant.within refl e.is (c.len-self-inside.ensures ∙ c.finish_behind.new.globals.ok.0) (c.add_slow.ensures.rest ∙ ap (λ xs. reverse xs) c.reserve.ensures.slows)
+    c.in_ok-rest.ensures.older
     (c.in_ok-rest.ensures.others ∙ ap (λ xs. reverse xs) c.reserve.ensures.others) (c.in_ok-rest.ensures.records ∙ ap (λ xs. reverse xs) c.reserve.ensures.records) (c.add_if.ensures.rest ∙ ap (λ xs. reverse xs) c.reserve.ensures.sets) in
     let slow = c.add_slow.ensures.first ∙ c.slow_of.ensures in
     let s = newest_slow (reverse c.add_slow.new.list.items) in
     let site : (if c.is_some.result then Some c.unwrap_or.result else None) ≡ r.registers.site = rw (c.is_some.ensures, c.unwrap_or.ensures) (site_is r.registers.site) in
-    is_added _ _ _ _ _ _ _ _ r.output s.output r.registers (registers_by m s) c.taken.result _ c.args.sets.now.items _ _ _ e all (ap (λ (x : Slow). x.output) slow) (registers_are m s r.registers r.output slow refl refl refl site) refl refl c.add_if.ensures.first c.taken.ensures.is (ap (λ k. k.kept) c.self.view_is)
+    is_added _ _ _ _ _ _ _ _ _ _ r.output s.output r.registers (registers_by m s) c.taken.result _ c.args.sets.now.items _ _ _ e all (ap (λ (x : Slow). x.output) slow) (registers_are m s r.registers r.output slow refl refl refl site) refl refl c.add_if.ensures.first c.taken.ensures.is (ap (λ k. k.kept) c.self.view_is)
