@@ -1,7 +1,7 @@
 -- Which first values a program can take (POSIX awk, Options, -v).
 use Rattle.std.specs.Prelude.{Bool, not, ◌&&◌, List, is_none}
 use Rattle.std.specs.List.{list_all}
-use Rattle.rawk_lexer.specs.Name.{has_name_form, is_reserved}
+use Rattle.rawk_keywords.specs.Name.{has_name_form, is_reserved}
 use Rattle.rawk_special.specs.Special.{is_field_count}
 use Rattle.rawk_value.specs.Values.{Bytes}
 use Rattle.rawk_tree.specs.declared.tree.Program.{Program}

@@ -5,7 +5,7 @@ ghost use Rattle.std.specs.List.{list_all};
 ghost use Rattle.rawk_code.specs.Settings.{can_assign, settings_fit};
 
 use crate::settings::Settings;
-use rawk_lexer::{has_name_form, is_reserved};
+use rawk_keywords::{has_name_form, is_reserved};
 use rawk_special::is_field_count;
 use rawk_tree::Program;
 

@@ -27,7 +27,7 @@ use Rattle.rawk_commands.specs.declared.verb.Verb.TheVariants as verb
 use Rattle.rawk_commands.specs.Reading.{reading, asked_on, asked_by, or_bad_argument, command_of, spot_of, count_of, place_front, constant_of, setting, keyed, field_front}
 use Rattle.rawk_commands.specs.Texts.{IsPlace, shown_byte, shown_element, shown_place, shown_text}
 use Rattle.rawk_commands.specs.Lines.{line_of, word_of, written_constant, written_spot, IsCommand, IsConstant, IsSpot}
-use Rattle.rawk_lexer.specs.Name.{begins_name, has_name_form, is_in_name}
+use Rattle.rawk_keywords.specs.Name.{begins_name, has_name_form, is_in_name}
 use Rattle.rawk_commands.specs.Words.{verb_of, trimmed, without_front, is_blank}
 use Rattle.rawk_commands.proofs.Shown.{constant_shown}
 use Rattle.rawk_commands.proofs.ShownNumbers.{and_first, and_second, prefix_all, Writes, writes, number_written}

@@ -27,7 +27,7 @@ use Rattle.rawk_commands.specs.declared.verb.Verb.TheVariants as verb
 use Rattle.rawk_commands.specs.Lines.{IsCommand, IsConstant, IsSpot}
 use Rattle.rawk_commands.specs.Reading.{is_text, alone, asked_by, asked_on, assigned, command_of, constant_front, constant_of, count_of, ended, field_front, key_closed, key_of, keyed, named, number_below, number_front, number_of, number_size, or_bad_argument, place_front, place_of, reading, setting, spot_of, string_front, whole}
 use Rattle.rawk_commands.specs.Texts.{IsPlace}
-use Rattle.rawk_lexer.specs.Name.{begins_name, has_name_form, is_in_name}
+use Rattle.rawk_keywords.specs.Name.{begins_name, has_name_form, is_in_name}
 use Rattle.rawk_commands.specs.Words.{is_blank, without_front, trimmed, verb_of}
 use Rattle.rawk_commands.proofs.ShownNumbers.{and_first, and_second, writes}
 use Rattle.rawk_commands.proofs.ShownPlaces.{letter_is_word}

@@ -8,7 +8,7 @@ use Rattle.std.proofs.lemmas.List.Folds.{list_all-append}
 use Rattle.std.proofs.Math.Seq.{take-append_seam, drop-append_seam}
 use Rattle.std.proofs.Math.Nat.{div-div-eq-div-mul}
 use Rattle.rawk_value.specs.Values.{Bytes}
-use Rattle.rawk_lexer.specs.declared.token.Kind.TheVariants as lexeme
+use Rattle.rawk_keywords.specs.declared.token.Kind.TheVariants as lexeme
 use Rattle.rawk_lexer.specs.Lex.{closing, closed, token, skip, kind, spelling, next}
 use Rattle.rawk_lexer.specs.Escape.{is_octal, unescaped_from, unescaped_of, unquoted}
 use Rattle.rawk_commands.specs.declared.command.Constant.TheVariants.{Text}

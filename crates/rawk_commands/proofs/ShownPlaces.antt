@@ -15,7 +15,7 @@ use Rattle.rawk_commands.specs.declared.command.Place.{Place}
 use Rattle.rawk_commands.specs.declared.command.Place.TheVariants.{Name, Element, Field}
 use Rattle.rawk_commands.specs.Reading.{number_below, number_of, number_size, number_front, constant_of, field_front, named, keyed, place_front, place_of, whole}
 use Rattle.rawk_commands.specs.Texts.{shown_text, shown_element, shown_place, IsPlace}
-use Rattle.rawk_lexer.specs.Name.{begins_name, has_name_form, is_in_name}
+use Rattle.rawk_keywords.specs.Name.{begins_name, has_name_form, is_in_name}
 use Rattle.rawk_commands.proofs.Shown.{constant_shown}
 use Rattle.rawk_commands.proofs.ShownNumbers.{and_first, and_second, prefix_all, Writes, writes, number_written}
 

@@ -14,7 +14,7 @@ use Rattle.rawk_commands.specs.declared.command.Spot.TheVariants.{Line, Function
 use Rattle.rawk_commands.specs.declared.command.Way.{Way}
 use Rattle.rawk_commands.specs.declared.command.Way.TheVariants.{Forward, Back}
 use Rattle.rawk_commands.specs.Texts.{IsPlace, shown_place, shown_text}
-use Rattle.rawk_lexer.specs.Name.{has_name_form}
+use Rattle.rawk_keywords.specs.Name.{has_name_form}
 
 -- a constant that there can be: a number within 64 bits with a sign, or bytes
 abbrev pub IsConstant : Constant → Type 0

@@ -7,8 +7,8 @@ use Rattle.std.specs.List.{list_all, prefix_len, position_or_len}
 use Rattle.std.specs.Option.{option_map}
 use Rattle.std.specs.Str.Parse.{digits_value}
 use Rattle.rawk_value.specs.Values.{Bytes, int_text}
-use Rattle.rawk_lexer.specs.declared.token.Kind.{Kind}
-use Rattle.rawk_lexer.specs.declared.token.Kind.TheVariants as token
+use Rattle.rawk_keywords.specs.declared.token.Kind.{Kind}
+use Rattle.rawk_keywords.specs.declared.token.Kind.TheVariants as token
 use Rattle.rawk_lexer.specs.Lex.{kind, spelling, next}
 use Rattle.rawk_lexer.specs.Escape.{unescaped_of, unquoted}
 use Rattle.rawk_commands.specs.declared.command.C.{C}
@@ -23,7 +23,7 @@ use Rattle.rawk_commands.specs.declared.command.Spot.{Spot}
 use Rattle.rawk_commands.specs.declared.command.Spot.TheVariants.{Line, Function}
 use Rattle.rawk_commands.specs.declared.verb.Verb.{Verb}
 use Rattle.rawk_commands.specs.declared.verb.Verb.TheVariants as verb
-use Rattle.rawk_lexer.specs.Name.{begins_name, has_name_form, is_in_name}
+use Rattle.rawk_keywords.specs.Name.{begins_name, has_name_form, is_in_name}
 use Rattle.rawk_commands.specs.Words.{is_blank, without_front, trimmed, verb_of}
 
 -- What is found at the front of a text, with the text after it.

@@ -8,7 +8,7 @@ use Rattle.rawk_value.specs.declared.value.Value.TheVariants.{Uninitialized, Num
 use Rattle.rawk_value.specs.Values.{Bytes, decimal, int_text}
 use Rattle.rawk_commands.specs.declared.command.Place.{Place}
 use Rattle.rawk_commands.specs.declared.command.Place.TheVariants.{Name, Element, Field}
-use Rattle.rawk_lexer.specs.Name.{has_name_form}
+use Rattle.rawk_keywords.specs.Name.{has_name_form}
 
 -- three octal digits
 abbrev pub octal : ℕ → Bytes

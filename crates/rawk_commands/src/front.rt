@@ -6,10 +6,11 @@ ghost use Rattle.std.specs.List.{prefix_len};
 ghost use Rattle.std.specs.Option.{option_map};
 ghost use Rattle.rawk_commands.specs.Asked.{constant_written, place_written};
 ghost use Rattle.rawk_commands.specs.Reading as spec;
-ghost use Rattle.rawk_lexer.specs.Name as word;
+ghost use Rattle.rawk_keywords.specs.Name as word;
 
 use crate::asked::{Literal, PlaceName};
-use rawk_lexer::{Cursor, Kind, begins_name, is_in_name, unquoted};
+use rawk_keywords::{Kind, begins_name, is_in_name};
+use rawk_lexer::{Cursor, unquoted};
 use rawk_limits::LAST_FIELD;
 
 /// Numbers without a sign are below it.

@@ -11,7 +11,7 @@ use crate::asked::{Asked, Literal, PlaceName, command_copied};
 use crate::command::{C, Command, Spot};
 use crate::front::{constant_front, count_of, place_front};
 use crate::verb::{Verb, verb_of};
-use rawk_lexer::has_name_form;
+use rawk_keywords::has_name_form;
 use std::alloc::Global;
 
 fn is_blank(b: u8) -> bool

@@ -1,7 +1,7 @@
 -- The parser reads each expression that is derived, before a token that ends it.
 use Rattle.std.proofs.Common.{◌≡◌, ◌≢◌, ℕ, zero, suc, ◌<◌, ◌≤◌, Bool, true, false, not, cond, List, [], ◌∷◌, ◌++◌, Option, Some, None, Ok, Err, refl, sym, ap, ◌∙◌, append_assoc, append-nil, arith}
-use Rattle.rawk_lexer.specs.declared.token.Kind.{Kind}
-use Rattle.rawk_lexer.specs.declared.token.Kind.TheVariants as k
+use Rattle.rawk_keywords.specs.declared.token.Kind.{Kind}
+use Rattle.rawk_keywords.specs.declared.token.Kind.TheVariants as k
 use Rattle.rawk_lexer.specs.Lex.{kind, next, left}
 use Rattle.rawk_lexer.specs.Moves.{some_left}
 use Rattle.rawk_expression.specs.declared.grammar.Wanted.TheVariants as want

@@ -1,7 +1,7 @@
 -- Expressions, as functions on the text. The code equals them; Grammar.antt says what is right.
 use Rattle.std.specs.Prelude.{ℕ, zero, suc, Bool, true, false, not, ◌||◌, if◌then◌else◌, ◌==◌, List, [], ◌∷◌, ◌++◌, Option, Some, None, Ok, Err}
-use Rattle.rawk_lexer.specs.declared.token.Kind.{Kind}
-use Rattle.rawk_lexer.specs.declared.token.Kind.TheVariants as k
+use Rattle.rawk_keywords.specs.declared.token.Kind.{Kind}
+use Rattle.rawk_keywords.specs.declared.token.Kind.TheVariants as k
 use Rattle.rawk_lexer.specs.Lex.{kind, next, left}
 use Rattle.rawk_parsing.specs.declared.refusal.RefusalKind.TheVariants as refused
 use Rattle.rawk_parsing.specs.declared.parse_error.ParseError.TheVariants.{Here}

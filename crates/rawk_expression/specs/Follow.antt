@@ -1,9 +1,9 @@
 -- What stands behind an operand, and what a step of the parser answers there.
 use Rattle.std.proofs.Common.{◌≡◌, ◌≢◌, ℕ, zero, suc, ◌≤◌, Bool, true, false, not, ◌&&◌, cond, ◌==◌, List, Some, None, Ok, refl, sym, ap, ◌∙◌, rules, arith}
 use denote.Enum.Bare.{true_same, false_same}
-use Rattle.rawk_lexer.specs.contracts.token.Kind.{the_type}
-use Rattle.rawk_lexer.specs.declared.token.Kind.{Kind}
-use Rattle.rawk_lexer.specs.declared.token.Kind.TheVariants as k
+use Rattle.rawk_keywords.specs.contracts.token.Kind.{the_type}
+use Rattle.rawk_keywords.specs.declared.token.Kind.{Kind}
+use Rattle.rawk_keywords.specs.declared.token.Kind.TheVariants as k
 use Rattle.rawk_lexer.specs.Lex.{kind, next, left}
 use Rattle.rawk_lexer.specs.Moves.{some_left, next_shrinks}
 use Rattle.rawk_value.specs.declared.operator.Arithmetic.TheVariants as arithmetic

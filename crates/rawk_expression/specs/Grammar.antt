@@ -1,7 +1,7 @@
 -- The grammar of expressions (POSIX awk, "Grammar" and "Expressions in awk").
 use Rattle.std.specs.Prelude.{◌≡◌, ◌≢◌, ℕ, suc, ℤ, Bool, true, false, List, [], ◌∷◌, Some, None}
-use Rattle.rawk_lexer.specs.declared.token.Kind.{Kind}
-use Rattle.rawk_lexer.specs.declared.token.Kind.TheVariants as k
+use Rattle.rawk_keywords.specs.declared.token.Kind.{Kind}
+use Rattle.rawk_keywords.specs.declared.token.Kind.TheVariants as k
 use Rattle.rawk_lexer.specs.Escape.{unescaped_of, unquoted}
 use Rattle.rawk_lexer.specs.Lex.{kind, left}
 use Rattle.rawk_parsing.specs.declared.tree.Operator.{Operator}

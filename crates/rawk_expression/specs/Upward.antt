@@ -1,7 +1,7 @@
 -- How an operand becomes an expression: what goes on behind it, and what does not.
 use Rattle.std.proofs.Common.{◌≡◌, ◌≢◌, ℕ, zero, suc, ◌<◌, ◌≤◌, Bool, true, false, not, ◌&&◌, ◌||◌, cond, List, [], ◌∷◌, ◌++◌, Option, Some, None, Ok, Err, refl, sym, ap, ◌∙◌, append_assoc, append-nil, arith}
-use Rattle.rawk_lexer.specs.declared.token.Kind.{Kind}
-use Rattle.rawk_lexer.specs.declared.token.Kind.TheVariants as k
+use Rattle.rawk_keywords.specs.declared.token.Kind.{Kind}
+use Rattle.rawk_keywords.specs.declared.token.Kind.TheVariants as k
 use Rattle.rawk_lexer.specs.Lex.{kind, next, left}
 use Rattle.rawk_parsing.specs.declared.refusal.RefusalKind.TheVariants as refused
 use Rattle.rawk_parsing.specs.declared.parse_error.ParseError.TheVariants.{Here}

@@ -1,7 +1,7 @@
 //! Laws of the grammar, for all texts.
 
 ghost use Rattle.std.specs.Prelude.{◌≡◌, ◌≢◌, ℕ, suc, Bool, true, List, Ok};
-ghost use Rattle.rawk_lexer.specs.declared.token.Kind.TheVariants as k;
+ghost use Rattle.rawk_keywords.specs.declared.token.Kind.TheVariants as k;
 ghost use Rattle.rawk_lexer.specs.Lex.{kind};
 ghost use Rattle.rawk_parsing.specs.declared.tree.Expr.{Expr};
 ghost use Rattle.rawk_parsing.specs.declared.tree.Place.{Place};

@@ -1,7 +1,7 @@
 -- Behind a statement that ends in an `if` with no `else` none comes.
 use Rattle.std.proofs.Common.{◌≡◌, ℕ, zero, suc, Bool, true, false, cond, List, Option, Some, None, Ok, refl, sym, ap, ◌∙◌}
 use Rattle.std.proofs.lemmas.Bool.{false_from_ne_true}
-use Rattle.rawk_lexer.specs.declared.token.Kind.TheVariants as k
+use Rattle.rawk_keywords.specs.declared.token.Kind.TheVariants as k
 use Rattle.rawk_lexer.specs.Lex.{next}
 use Rattle.rawk_parsing.specs.Parser.{Input, pure, sees, newlines}
 use Rattle.rawk_parsing.specs.Steps.{and_then_ok, sees_kind, not_ok, newlines_are}

@@ -1,7 +1,7 @@
 -- What the parser's steps do at a token of a known kind.
 use Rattle.std.proofs.Common.{◌≡◌, ◌≢◌, ℕ, suc, Bool, true, false, ◌&&◌, cond, ◌==◌, Ok, refl, ap, ◌∙◌, List, rules, arith}
 use Rattle.std.proofs.lemmas.Bool.{false_from_ne_true}
-use Rattle.rawk_lexer.specs.declared.token.Kind.{Kind}
+use Rattle.rawk_keywords.specs.declared.token.Kind.{Kind}
 use Rattle.rawk_lexer.specs.Lex.{kind}
 use Rattle.rawk_parsing.specs.Parser.{Input, Outcome, Parser, and_then, sees, after}
 use Rattle.rawk_parsing.specs.Tokens.{Spells}

@@ -1,7 +1,7 @@
 -- Where jump statements may stand (POSIX awk, "Actions" and "User-Defined Functions").
 use Rattle.std.specs.Prelude.{Bool, true, false}
-use Rattle.rawk_lexer.specs.declared.token.Kind.{Kind}
-use Rattle.rawk_lexer.specs.declared.token.Kind.TheVariants as k
+use Rattle.rawk_keywords.specs.declared.token.Kind.{Kind}
+use Rattle.rawk_keywords.specs.declared.token.Kind.TheVariants as k
 use Rattle.rawk_grammar.specs.declared.context.Owner.{Owner}
 use Rattle.rawk_grammar.specs.declared.context.Owner.TheVariants.{BeginOrEnd, Function}
 use Rattle.rawk_grammar.specs.declared.context.Context.{Context}

@@ -1,7 +1,7 @@
 -- Items and programs, as functions on the text: `depth` bounds the constructs of expressions, `room` is one less.
 use Rattle.std.specs.Prelude.{ℕ, zero, suc, Bool, true, false, if◌then◌else◌, List, [], ◌∷◌, ◌++◌, length, Ok}
-use Rattle.rawk_lexer.specs.declared.token.Kind.{Kind}
-use Rattle.rawk_lexer.specs.declared.token.Kind.TheVariants as k
+use Rattle.rawk_keywords.specs.declared.token.Kind.{Kind}
+use Rattle.rawk_keywords.specs.declared.token.Kind.TheVariants as k
 use Rattle.rawk_lexer.specs.Lex.{kind, next, left}
 use Rattle.rawk_expression.specs.declared.grammar.Wanted.TheVariants as want
 use Rattle.rawk_parsing.specs.declared.tree.Name.{Name}

@@ -5,11 +5,13 @@ use Rattle.std.proofs.lemmas.List.{take-append-drop, length-drop, length-take-le
 use Rattle.std.proofs.lemmas.Bool.{cases_lt}
 use Rattle.std.proofs.lemmas.List.Sums.{prefix_len-le-length}
 use Rattle.std.proofs.Math.Seq.{take-append_seam, drop-append_seam}
-use Rattle.rawk_lexer.specs.declared.scan.Class.TheVariants as class
-use Rattle.rawk_lexer.specs.declared.token.Kind.{Kind}
-use Rattle.rawk_lexer.specs.declared.token.Kind.TheVariants as k
+use Rattle.rawk_keywords.specs.declared.class.Class.TheVariants as class
+use Rattle.rawk_keywords.specs.declared.token.Kind.{Kind}
+use Rattle.rawk_keywords.specs.declared.token.Kind.TheVariants as k
 use Rattle.rawk_lexer.proofs.Gaps.{skip_clears, clear_alone, gap_skips, no_gap_clear}
-use Rattle.rawk_lexer.specs.Lex.{Token, is_in, run, keyword, called, fraction_len, sign_len, exponent_len, mantissa_len, number_len, begins_number, closing, closed, quoted, single, double, two_or_one, symbol, token, blank_len, skip, kind, spelling, next}
+use Rattle.rawk_keywords.specs.Classes.{is_in}
+use Rattle.rawk_keywords.specs.Keywords.{keyword}
+use Rattle.rawk_lexer.specs.Lex.{Token, run, called, fraction_len, sign_len, exponent_len, mantissa_len, number_len, begins_number, closing, closed, quoted, single, double, two_or_one, symbol, token, blank_len, skip, kind, spelling, next}
 use Rattle.rawk_lexer.proofs.Lexemes.{is_same, is_other, other_test, apart, run_take, run_front, take_one, number_take, number_front, begins_as_number, number_begins, inside_take, inside_front, is_symbol, single_holds, double_holds, single_byte, double_byte}
 use Rattle.rawk_lexer.specs.Moves.{token_moves}
 use Rattle.rawk_lexer.specs.Shown.{Shows}

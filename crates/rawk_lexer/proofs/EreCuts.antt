@@ -6,7 +6,7 @@ use Rattle.std.proofs.Math.Seq.{take-append_seam, drop-append_seam}
 use Rattle.rawk_lexer.specs.declared.ere.Behind.{Behind}
 use Rattle.rawk_lexer.specs.declared.ere.Behind.TheVariants as behind
 use Rattle.rawk_lexer.specs.Ere.{is_outside, after_item, after_first, after, closing}
-use Rattle.rawk_lexer.specs.declared.token.Kind.TheVariants as k
+use Rattle.rawk_keywords.specs.declared.token.Kind.TheVariants as k
 use Rattle.rawk_lexer.specs.EreToken.{Where, Outside, First, Items, Class, Goes, ends, byte, escaped, bracket, negated, literal, items, closes, item, escaped_item, open_item, class, class_ends, class_byte, IsEre, between}
 use Rattle.rawk_lexer.proofs.Gaps.{skip_clears, gap_skips}
 use Rattle.rawk_lexer.specs.Lex.{single, double, two_or_one, symbol, token, kind, skip, ere_end, ere_at, ere_len, ere_spelling, past_ere}

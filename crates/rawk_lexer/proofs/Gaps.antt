@@ -2,8 +2,9 @@
 use Rattle.std.proofs.Common.{◌≡◌, ◌≢◌, ℕ, zero, suc, ◌+◌, ◌-◌, ◌≤◌, Bool, true, false, not, ◌&&◌, cond, ◌==◌, List, [], ◌∷◌, length, drop, refl, sym, ap, subst, ◌∙◌, arith, rules}
 use Rattle.std.specs.Prelude.{slice_index}
 use Rattle.std.proofs.lemmas.List.{length-drop}
-use Rattle.rawk_lexer.specs.declared.scan.Class.TheVariants as class
-use Rattle.rawk_lexer.specs.Lex.{is_in, run, blank_len, skip_from, skip}
+use Rattle.rawk_keywords.specs.declared.class.Class.TheVariants as class
+use Rattle.rawk_keywords.specs.Classes.{is_in}
+use Rattle.rawk_lexer.specs.Lex.{run, blank_len, skip_from, skip}
 use Rattle.rawk_lexer.proofs.Lexemes.{is_same, drop_one}
 use Rattle.rawk_lexer.specs.Token.{line_rest, Gap, no_blank, blank, comment, continued, HasNoGap}
 

@@ -2,11 +2,12 @@
 use Rattle.std.proofs.Common.{◌≡◌, ◌≢◌, ℕ, zero, suc, ◌+◌, ◌≤◌, Bool, true, false, not, ◌&&◌, ◌||◌, cond, ◌==◌, ◌⊎◌, inl, inr, List, [], ◌∷◌, ◌++◌, length, take, drop, Some, None, refl, sym, ap, subst, ◌∙◌, append_assoc, append-nil, length-append, arith, rules}
 use Rattle.std.specs.Prelude.{slice_index}
 use Rattle.std.proofs.Math.Seq.{take-add, drop-append_seam}
-use Rattle.rawk_lexer.specs.declared.scan.Class.{Class}
-use Rattle.rawk_lexer.specs.declared.scan.Class.TheVariants as class
-use Rattle.rawk_lexer.specs.declared.token.Kind.{Kind}
-use Rattle.rawk_lexer.specs.declared.token.Kind.TheVariants as k
-use Rattle.rawk_lexer.specs.Lex.{is_in, run, fraction_len, sign_len, power_len, exponent_len, mantissa_len, number_len, begins_number, closing, singles, doubles, among, among_pairs, single, double}
+use Rattle.rawk_keywords.specs.declared.class.Class.{Class}
+use Rattle.rawk_keywords.specs.declared.class.Class.TheVariants as class
+use Rattle.rawk_keywords.specs.declared.token.Kind.{Kind}
+use Rattle.rawk_keywords.specs.declared.token.Kind.TheVariants as k
+use Rattle.rawk_keywords.specs.Classes.{is_in}
+use Rattle.rawk_lexer.specs.Lex.{run, fraction_len, sign_len, power_len, exponent_len, mantissa_len, number_len, begins_number, closing, singles, doubles, among, among_pairs, single, double}
 use Rattle.rawk_lexer.specs.Token.{Run, no_more, more, Mantissa, whole, pointed, fraction, Sign, no_sign, plus, minus, Exponent, no_exponent, power, Inside, close, byte, escaped}
 
 -- ---- tests

@@ -1,57 +1,25 @@
 -- The token at the front of a text, as a function (POSIX awk, "Lexical Conventions"). Bytes are written by their codes: 9 is a tab,
 -- 10 a newline, 32 a space, 34 a quote, 35 `#`, 40 `(`, 43 `+`, 45 `-`, 46 `.`, 47 `/`, 69 `E`, 92 a backslash, 95 `_`, 101 `e`.
-use Rattle.std.specs.Prelude.{ℕ, zero, suc, ◌+◌, ◌-◌, Bool, true, false, not, ◌&&◌, ◌||◌, if◌then◌else◌, ◌==◌, List, [], ◌∷◌, length, take, drop, slice_index, codes, Option, Some, None}
-use Rattle.std.specs.Char.{is_ascii_digit, is_ascii_alphanumeric}
+use Rattle.std.specs.Prelude.{ℕ, zero, suc, ◌+◌, ◌-◌, Bool, true, false, ◌&&◌, ◌||◌, if◌then◌else◌, ◌==◌, List, [], ◌∷◌, length, take, drop, slice_index, Option, Some, None}
 use Rattle.std.specs.List.{prefix_len}
-use Rattle.std.specs.Str.{bytes_eq}
 use Rattle.rawk_lexer.specs.declared.ere.Behind.TheVariants.{Outside}
-use Rattle.rawk_lexer.specs.declared.scan.Class.{Class}
-use Rattle.rawk_lexer.specs.declared.scan.Class.TheVariants as class
-use Rattle.rawk_lexer.specs.declared.token.Kind.{Kind}
-use Rattle.rawk_lexer.specs.declared.token.Kind.TheVariants as k
+use Rattle.rawk_keywords.specs.declared.class.Class.{Class}
+use Rattle.rawk_keywords.specs.declared.class.Class.TheVariants as class
+use Rattle.rawk_keywords.specs.declared.token.Kind.{Kind}
+use Rattle.rawk_keywords.specs.declared.token.Kind.TheVariants as k
+use Rattle.rawk_keywords.specs.Classes.{is_in}
+use Rattle.rawk_keywords.specs.Keywords.{keyword}
 use Rattle.rawk_lexer.specs.Ere as ere
 
 -- a kind, and a length in bytes
 abbrev pub Token : Type 0
 Token = Kind × ℕ
 
--- whether a byte is of the class
-abbrev pub is_in : Class → ℕ → Bool
-is_in class.Blank b = b == 32 || b == 9
-is_in class.Digit b = is_ascii_digit b
-is_in class.Word b = is_ascii_alphanumeric b || b == 95
-is_in class.Line b = not (b == 10)
-
 -- how many bytes of the class a text begins with
 abbrev pub run : Class → List ℕ → ℕ
 run c z = prefix_len (is_in c) z
 
 -- ---- words
-
--- the kind of a word by a table of words, or a name
-abbrev pub lookup : List (List ℕ × Kind) → List ℕ → Kind
-lookup [] word = k.Name
-lookup (e ∷ es) word = if bytes_eq word e.0 then e.1 else lookup es word
-
--- the words that are no names: keywords, built-in functions, and what is left out
-abbrev pub words : List (List ℕ × Kind)
-words =
-    (codes "BEGIN", k.BeginKeyword) ∷ (codes "END", k.EndKeyword) ∷ (codes "function", k.Function) ∷ (codes "if", k.If)
-    ∷ (codes "else", k.Else) ∷ (codes "while", k.While) ∷ (codes "for", k.For) ∷ (codes "do", k.Do)
-    ∷ (codes "break", k.Break) ∷ (codes "continue", k.Continue) ∷ (codes "next", k.Next) ∷ (codes "exit", k.Exit)
-    ∷ (codes "return", k.Return) ∷ (codes "delete", k.Delete) ∷ (codes "in", k.In) ∷ (codes "getline", k.Getline)
-    ∷ (codes "print", k.Print) ∷ (codes "printf", k.Printf)
-    ∷ (codes "length", k.Length) ∷ (codes "index", k.Index) ∷ (codes "substr", k.Substr) ∷ (codes "split", k.Split)
-    ∷ (codes "sub", k.Sub) ∷ (codes "gsub", k.Gsub) ∷ (codes "match", k.Match) ∷ (codes "sprintf", k.Sprintf)
-    ∷ (codes "tolower", k.Tolower) ∷ (codes "toupper", k.Toupper) ∷ (codes "int", k.Int)
-    ∷ (codes "sin", k.LeftOut) ∷ (codes "cos", k.LeftOut) ∷ (codes "atan2", k.LeftOut) ∷ (codes "exp", k.LeftOut)
-    ∷ (codes "log", k.LeftOut) ∷ (codes "sqrt", k.LeftOut) ∷ (codes "rand", k.LeftOut) ∷ (codes "srand", k.LeftOut)
-    ∷ (codes "system", k.LeftOut) ∷ (codes "close", k.LeftOut) ∷ (codes "fflush", k.LeftOut) ∷ (codes "nextfile", k.LeftOut)
-    ∷ (codes "ARGV", k.LeftOut) ∷ (codes "ARGC", k.LeftOut) ∷ (codes "ENVIRON", k.LeftOut) ∷ (codes "FILENAME", k.LeftOut) ∷ []
-
--- the kind of a word
-unfoldable pub keyword : List ℕ → Kind
-keyword = lookup words
 
 -- a name is a function's where `(` comes next
 abbrev pub called : Kind → ℕ → Kind

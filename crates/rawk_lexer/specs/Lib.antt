@@ -4,7 +4,6 @@ pub mod Escape
 pub mod Lex
 pub mod Lines
 pub mod Moves
-pub mod Name
 pub mod Ready
 pub mod Shown
 pub mod Token

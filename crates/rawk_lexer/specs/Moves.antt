@@ -2,11 +2,12 @@
 use Rattle.std.proofs.Common.{◌≡◌, ◌≢◌, ℕ, zero, suc, ◌+◌, ◌-◌, ◌<◌, ◌≤◌, Bool, true, false, ◌&&◌, ◌||◌, cond, ◌==◌, List, [], ◌∷◌, length, drop, Option, Some, None, refl, ap, ◌∙◌, arith}
 use Rattle.std.specs.Prelude.{slice_index}
 use Rattle.std.proofs.lemmas.List.{length-drop}
-use Rattle.rawk_lexer.specs.declared.scan.Class.{Class}
-use Rattle.rawk_lexer.specs.declared.scan.Class.TheVariants as class
-use Rattle.rawk_lexer.specs.declared.token.Kind.{Kind}
-use Rattle.rawk_lexer.specs.declared.token.Kind.TheVariants.{EndOfText}
-use Rattle.rawk_lexer.specs.Lex.{Token, is_in, run, mantissa_len, number_len, begins_number, closing, closed, quoted, double, two_or_one, symbol, token, blank_len, skip_from, skip, kind, next, left}
+use Rattle.rawk_keywords.specs.declared.class.Class.{Class}
+use Rattle.rawk_keywords.specs.declared.class.Class.TheVariants as class
+use Rattle.rawk_keywords.specs.declared.token.Kind.{Kind}
+use Rattle.rawk_keywords.specs.declared.token.Kind.TheVariants.{EndOfText}
+use Rattle.rawk_keywords.specs.Classes.{is_in}
+use Rattle.rawk_lexer.specs.Lex.{Token, run, mantissa_len, number_len, begins_number, closing, closed, quoted, double, two_or_one, symbol, token, blank_len, skip_from, skip, kind, next, left}
 
 run_moves : (c : Class) (b : ℕ) (z : List ℕ) → is_in c b ≡ true → 1 ≤ run c (b ∷ z)
 run_moves c b z h = rw h (omega arith)

@@ -1,6 +1,6 @@
 -- What a Cursor shows of a text.
 use Rattle.std.specs.Prelude.{◌≡◌, ◌≢◌, ℕ, List}
-use Rattle.rawk_lexer.specs.declared.token.Kind.{Kind}
+use Rattle.rawk_keywords.specs.declared.token.Kind.{Kind}
 use Rattle.rawk_lexer.specs.Lex.{kind, spelling, next, ere_len, ere_spelling, past_ere}
 
 -- of the text i, a token of kind c with the bytes w, and behind it the text j

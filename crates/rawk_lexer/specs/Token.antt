@@ -1,11 +1,13 @@
 -- What a token is: a text's longest front that is one (POSIX awk, "Lexical Conventions"). Bytes are written by their codes: 10 is a
 -- newline, 34 a quote, 35 `#`, 43 `+`, 45 `-`, 46 `.`, 69 `E`, 92 a backslash, 101 `e`.
 use Rattle.std.specs.Prelude.{◌≡◌, ◌≢◌, ◌<◌, ℕ, true, false, List, [], ◌∷◌, ◌++◌, length, Some, slice_index, ◌⊎◌, ◌==◌, if◌then◌else◌}
-use Rattle.rawk_lexer.specs.declared.scan.Class.{Class}
-use Rattle.rawk_lexer.specs.declared.scan.Class.TheVariants as class
-use Rattle.rawk_lexer.specs.declared.token.Kind.{Kind}
-use Rattle.rawk_lexer.specs.declared.token.Kind.TheVariants as k
-use Rattle.rawk_lexer.specs.Lex.{is_in, keyword, called, single, double}
+use Rattle.rawk_keywords.specs.declared.class.Class.{Class}
+use Rattle.rawk_keywords.specs.declared.class.Class.TheVariants as class
+use Rattle.rawk_keywords.specs.declared.token.Kind.{Kind}
+use Rattle.rawk_keywords.specs.declared.token.Kind.TheVariants as k
+use Rattle.rawk_keywords.specs.Classes.{is_in}
+use Rattle.rawk_keywords.specs.Keywords.{keyword}
+use Rattle.rawk_lexer.specs.Lex.{called, single, double}
 
 -- ---- blanks
 

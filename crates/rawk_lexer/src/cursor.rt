@@ -5,7 +5,7 @@ ghost use Rattle.rawk_lexer.specs.Lex as spec;
 
 use crate::scan;
 use crate::scan::Token;
-use crate::token::Kind;
+use rawk_keywords::Kind;
 use std::marker::Model;
 
 /// Contracts see it as the text that is not yet read.

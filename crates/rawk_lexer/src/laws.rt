@@ -1,7 +1,7 @@
 //! Laws of tokens, for all texts.
 
 ghost use Rattle.std.specs.Prelude.{◌≢◌, List, ℕ};
-ghost use Rattle.rawk_lexer.specs.declared.token.Kind.{Kind};
+ghost use Rattle.rawk_keywords.specs.declared.token.Kind.{Kind};
 ghost use Rattle.rawk_lexer.specs.EreToken.{IsEre};
 ghost use Rattle.rawk_lexer.specs.Lex as spec;
 ghost use Rattle.rawk_lexer.specs.Shown.{Shows, ShowsEre};

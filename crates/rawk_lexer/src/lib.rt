@@ -7,12 +7,9 @@ mod ere;
 mod escape;
 pub mod laws;
 mod line;
-mod name;
 mod scan;
-pub mod token;
 
 pub use cursor::Cursor;
 pub use escape::{unescaped, unquoted};
 pub use line::{line_of, newlines};
-pub use name::{begins_name, has_name_form, is_in_name, is_reserved};
-pub use token::Kind;
+pub use rawk_keywords::Kind;

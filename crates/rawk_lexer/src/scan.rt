@@ -5,29 +5,10 @@ ghost use Rattle.rawk_lexer.specs.Lex as spec;
 
 use crate::bytes::byte_at;
 use crate::ere;
-use crate::token::{Kind, WORDS};
-
-#[derive(Clone, Copy)]
-pub(crate) enum Class {
-    Blank,
-    Digit,
-    Word,
-    Line,
-}
+use rawk_keywords::{Class, Kind, is_in, keyword};
 
 /// A kind, and a length in bytes.
 pub type Token = (Kind, usize);
-
-pub(crate) fn is_in(class: Class, b: u8) -> bool
-    ensures { result ≡ spec.is_in class b }
-{
-    match class {
-        Class::Blank => b == b' ' || b == b'\t',
-        Class::Digit => b.is_ascii_digit(),
-        Class::Word => b.is_ascii_alphanumeric() || b == b'_',
-        Class::Line => b != b'\n',
-    }
-}
 
 /// How many bytes of a class a text begins with.
 fn run(class: Class, z: &[u8]) -> usize
@@ -39,25 +20,6 @@ fn run(class: Class, z: &[u8]) -> usize
         len += 1;
     }
     len
-}
-
-fn lookup(mut table: &[(&[u8], Kind)], word: &[u8]) -> Kind
-    ensures { result ≡ spec.lookup (map (λ k. (k.0.now, k.1)) table.entry.now) word.now }
-{
-    while let [entry, rest @ ..] = table {
-        if word == entry.0 {
-            return entry.1;
-        }
-        table = rest;
-    }
-    Kind::Name
-}
-
-#[tactic(auto, unfolding(crate::specs::Lex::keyword))]
-pub(crate) fn keyword(word: &[u8]) -> Kind
-    ensures { result ≡ spec.keyword word.now }
-{
-    lookup(&WORDS, word)
 }
 
 fn called(kind: Kind, next: u8) -> Kind

@@ -10,7 +10,7 @@ use crate::words::separated;
 use clap::builder::ValueRange;
 use clap::error::ErrorKind;
 use clap::{Arg, ArgAction, ArgMatches, Command, value_parser};
-use rawk_lexer::has_name_form;
+use rawk_keywords::has_name_form;
 use rawk_limits::HISTORY;
 use std::alloc::{AllocError, Global};
 

@@ -1,9 +1,9 @@
 -- The steps of a parser, as functions on the text that is not yet read.
 use Rattle.std.specs.Prelude.{◌≡◌, ◌≢◌, ℕ, zero, suc, ℤ, Bool, ◌&&◌, if◌then◌else◌, ◌==◌, List, Option, Some, None, Result, Ok, Err}
 use denote.Enum.Bare.{sameb}
-use Rattle.rawk_lexer.specs.contracts.token.Kind.{the_type}
-use Rattle.rawk_lexer.specs.declared.token.Kind.{Kind}
-use Rattle.rawk_lexer.specs.declared.token.Kind.TheVariants as k
+use Rattle.rawk_keywords.specs.contracts.token.Kind.{the_type}
+use Rattle.rawk_keywords.specs.declared.token.Kind.{Kind}
+use Rattle.rawk_keywords.specs.declared.token.Kind.TheVariants as k
 use Rattle.rawk_lexer.specs.Escape.{unescaped_of, unquoted}
 use Rattle.rawk_lexer.specs.Lex.{kind, next, left, spelling, ere_len, ere_spelling, past_ere}
 use Rattle.rawk_parsing.specs.declared.refusal.RefusalKind.{RefusalKind}

@@ -1,9 +1,9 @@
 -- What an outcome of a parser's step says.
 use Rattle.std.proofs.Common.{◌≡◌, ℕ, zero, suc, ℤ, Bool, true, false, cond, ◌==◌, ◌⊎◌, inl, inr, List, Option, Some, None, Ok, Err, refl, sym, ap, subst, rules}
 use denote.Enum.Bare.{same_true}
-use Rattle.rawk_lexer.specs.contracts.token.Kind.{the_type}
-use Rattle.rawk_lexer.specs.declared.token.Kind.{Kind}
-use Rattle.rawk_lexer.specs.declared.token.Kind.TheVariants as k
+use Rattle.rawk_keywords.specs.contracts.token.Kind.{the_type}
+use Rattle.rawk_keywords.specs.declared.token.Kind.{Kind}
+use Rattle.rawk_keywords.specs.declared.token.Kind.TheVariants as k
 use Rattle.rawk_lexer.specs.Lex.{kind, next, spelling, left, ere_len, ere_spelling, past_ere}
 use Rattle.rawk_parsing.specs.declared.parse_error.ParseError.{ParseError}
 use Rattle.rawk_lexer.specs.Escape.{unquoted}

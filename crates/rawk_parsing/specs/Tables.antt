@@ -1,7 +1,7 @@
 -- The tokens that are operators, signs and functions (POSIX awk, "Expressions in awk" and "Grammar"); grammar and parser share them.
 use Rattle.std.specs.Prelude.{ℕ, Bool, true, false, not, ◌&&◌, ◌||◌, if◌then◌else◌, ◌==◌, List, ◌∷◌, length, Option, Some, None}
-use Rattle.rawk_lexer.specs.declared.token.Kind.{Kind}
-use Rattle.rawk_lexer.specs.declared.token.Kind.TheVariants as k
+use Rattle.rawk_keywords.specs.declared.token.Kind.{Kind}
+use Rattle.rawk_keywords.specs.declared.token.Kind.TheVariants as k
 use Rattle.rawk_value.specs.declared.operator.Arithmetic.TheVariants as arithmetic
 use Rattle.rawk_value.specs.declared.operator.Comparison.TheVariants as comparison
 use Rattle.rawk_parsing.specs.declared.tree.Operator.{Operator}

@@ -1,7 +1,7 @@
 -- What a token of a text is.
 use Rattle.std.specs.Prelude.{◌≡◌, ◌≢◌, ℕ, List, [], ◌∷◌, ◌⊎◌}
-use Rattle.rawk_lexer.specs.declared.token.Kind.{Kind}
-use Rattle.rawk_lexer.specs.declared.token.Kind.TheVariants as k
+use Rattle.rawk_keywords.specs.declared.token.Kind.{Kind}
+use Rattle.rawk_keywords.specs.declared.token.Kind.TheVariants as k
 use Rattle.rawk_lexer.specs.Escape.{unquoted}
 use Rattle.rawk_lexer.specs.Lex.{kind, next, spelling, ere_len, ere_spelling, past_ere}
 use Rattle.rawk_parsing.specs.declared.tree.Name.{Name}

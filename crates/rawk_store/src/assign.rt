@@ -17,7 +17,6 @@ ghost use Rattle.rawk_store.specs.State.{array_in, clear_elements, count_in, del
 ghost use Rattle.rawk_store.specs.Stores.{now_of, start_of};
 ghost use Rattle.rawk_special.specs.declared.special.TheConstants.{FS, OFS, RS};
 
-use crate::current::Current;
 use crate::numbering::field_number;
 use crate::store::Store;
 use crate::target::Target;
@@ -25,6 +24,7 @@ use itoa::Buffer;
 use rawk_arrays::Arrays;
 use rawk_cells::Cells;
 use rawk_frames::{Frames, Local};
+use rawk_current::Current;
 use rawk_special::{FS, OFS, RS};
 use rawk_value::order::text_in;
 use rawk_value::{Fault, Value};

@@ -2,7 +2,6 @@
 #![tactic(auto)]
 
 mod assign;
-pub mod current;
 pub mod group;
 pub mod lent;
 pub mod numbering;
@@ -14,7 +13,6 @@ pub mod store;
 pub mod target;
 
 pub use assign::array_number;
-pub use current::Current;
 pub use group::Group;
 pub use lent::{ValueRef, global_after, global_before};
 pub use numbering::field_number;
@@ -22,6 +20,7 @@ pub use others::{FewGroup, Others, RareGroup};
 pub use output::Output;
 pub use rawk_arrays::{Arrays, ArraysGroup};
 pub use rawk_cells::Cells;
+pub use rawk_current::Current;
 pub use rawk_frames::{
     Activation, Frames, FramesGroup, HasStacks, KeptStacks, KeysLeft, KeysLeftGroup, Local, Ranges,
     RangesGroup,

@@ -12,13 +12,13 @@ ghost use Rattle.rawk_slots.specs.Back.{back};
 ghost use Rattle.rawk_slots.specs.Journaled.{at_rest};
 ghost use Rattle.rawk_frames.specs.LaidKeys.{AreKeysLive};
 
-use crate::current::Current;
 use crate::group::Group;
 use crate::others::{FewGroup, Others, RareGroup};
 use crate::output::Output;
 use crate::registers::{Bank, Registers};
 use rawk_arrays::Arrays;
 use rawk_cells::{Appended, Cells};
+use rawk_current::Current;
 use rawk_frames::{Frames, KeysLeft, Ranges};
 use rawk_slots::{Slots, Stack};
 use rawk_value::Value;

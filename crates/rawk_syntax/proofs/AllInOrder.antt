@@ -18,9 +18,9 @@ use Rattle.rawk_names.specs.Statements.{action_mentions, pattern_mentions}
 use Rattle.rawk_names.specs.Items.{parameters_checked, within, scope_of, inside, all_defined, start, item_noted, all_noted}
 use Rattle.rawk_names.specs.Items as naming
 use Rattle.rawk_names.specs.Named.{Known, IsNamed}
-use Rattle.rawk_syntax.specs.Meant.{Sense, sense}
-use Rattle.rawk_syntax.specs.InOrder.{each, in_order, stmt_in_order, pattern_in_order, item_in_order, items_in_order, functions_behind}
-use Rattle.rawk_syntax.proofs.Orders.{both}
+use Rattle.rawk_resolution.specs.Meant.{Sense, sense}
+use Rattle.rawk_resolution.specs.InOrder.{each, in_order, stmt_in_order, pattern_in_order, item_in_order, items_in_order, functions_behind}
+use Rattle.rawk_resolution.specs.Orders.{both}
 use Rattle.rawk_syntax.proofs.Meets.{AllMeet}
 use Rattle.rawk_syntax.proofs.FineExprs.{fine}
 use Rattle.rawk_syntax.proofs.FineStatements.{Holds, both_parts, states_fine}

@@ -20,7 +20,7 @@ use Rattle.rawk_names.specs.Statements.{action_mentions, pattern_mentions, given
 use Rattle.rawk_names.specs.Items.{with_variable, start, parameter_defined, parameters_defined, begun, signed, function_in, function_at, function_defined, defined, all_defined, checked_at, parameter_checked, parameters_checked, within, scope_of, inside, item_noted, all_noted}
 use Rattle.rawk_names.specs.Items as x
 use Rattle.rawk_special.specs.Special.{is_special}
-use Rattle.rawk_syntax.specs.InOrder.{functions_behind}
+use Rattle.rawk_resolution.specs.InOrder.{functions_behind}
 use Rattle.rawk_syntax.proofs.Noting.{Stay, stay_more, last_stands, last_or, KeysStay, keys_stay, numbered_there, Later, later_item, later_items, grows_noted, grows_all, grows_parameters, later_inside, later_on}
 use Rattle.rawk_syntax.proofs.NamesInOrder.{IsOwn, AreOwn}
 

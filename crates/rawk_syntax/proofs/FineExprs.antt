@@ -26,10 +26,10 @@ use Rattle.rawk_words.specs.declared.operator.Extent.TheVariants as extent
 use Rattle.rawk_builtin_trees.specs.Calls.{has_builtin}
 use Rattle.rawk_names.specs.Mentions.{AsScalar, AsArray, Measured, Called, Pattern, Seen, all, every, builtin_name, builtin_at, builtin_arguments, call_arguments, seen, place_seen, link_mentions, mentions, place_mentions}
 use Rattle.rawk_names.proofs.SeenLaws.{seen-Number, seen-Text, seen-Ere, seen-Group, seen-Before, seen-After, seen-Power, seen-Signed, seen-Chain, seen-In, seen-ListIn, seen-Logic, seen-Choice, seen-Assign, seen-Builtin, seen-Call, seen-Getline, seen-GetlineTo, seen-Of, place_seen-Name, place_seen-Element, place_seen-Field, link_mentions-is, name-Of, place_name-Name}
-use Rattle.rawk_syntax.specs.Meant.{Sense}
-use Rattle.rawk_syntax.specs.Settled.{extent_of}
-use Rattle.rawk_syntax.specs.InOrder.{Use, place_step, names_array, names_scalar, calls, each, use_of, place_use, in_order, place_in_order, link_in_order, changes}
-use Rattle.rawk_syntax.proofs.Orders.{both, split, number_is, text_is, ere_is, getline_is, getline_to_is, of_is, group_is, signed_is, power_is, chain_is, assign_is, logic_is, choice_is, before_is, after_is, call_is, in_is, list_in_is, match_is, record_is, changed_is, split_is, separated_is, applied_is, counted_is, uncounted_is, of_use, name_use, of_changes, field_is, element_is, link_is}
+use Rattle.rawk_resolution.specs.Meant.{Sense}
+use Rattle.rawk_resolution.specs.Settled.{extent_of}
+use Rattle.rawk_resolution.specs.InOrder.{Use, place_step, names_array, names_scalar, calls, each, use_of, place_use, in_order, place_in_order, link_in_order, changes}
+use Rattle.rawk_resolution.specs.Orders.{both, split, number_is, text_is, ere_is, getline_is, getline_to_is, of_is, group_is, signed_is, power_is, chain_is, assign_is, logic_is, choice_is, before_is, after_is, call_is, in_is, list_in_is, match_is, record_is, changed_is, split_is, separated_is, applied_is, counted_is, uncounted_is, of_use, name_use, of_changes, field_is, element_is, link_is}
 use Rattle.rawk_syntax.proofs.Meets.{AllMeet, first_meet, last_meet, all_arrays, Named, Fine, FineExpr, FinePlace, FineExprs, FineLinks, fine_only, fine_moved, all_in_order, call_fits, scalar_fit, scalars_fit}
 
 -- ---- how many arguments a function has, and of which shape

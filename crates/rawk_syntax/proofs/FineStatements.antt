@@ -1,6 +1,6 @@
 -- What the grammar derives is in order, where names stand for what its mentions ask: statements.
 use Rattle.std.proofs.Common.{◌≡◌, ℕ, Bool, true, ◌&&◌, List, [], ◌∷◌, ◌++◌, map, Option, refl, sym, ap, subst, ◌∙◌}
-use Rattle.rawk_lexer.specs.declared.token.Kind.TheVariants as k
+use Rattle.rawk_keywords.specs.declared.token.Kind.TheVariants as k
 use Rattle.rawk_lexer.specs.Lex.{kind, left}
 use Rattle.rawk_parsing.specs.declared.tree.Expr.{Expr}
 use Rattle.rawk_parsing.specs.declared.tree.Name.{Name}
@@ -23,9 +23,9 @@ use Rattle.rawk_names.specs.Mentions.{Mention, AsScalar, AsArray, all, every, se
 use Rattle.rawk_names.specs.Statements.{act_mentions, jump_mentions, maybe_expr, maybe_statement, deleted, stmt_mentions, branch_mentions, head_mentions}
 use Rattle.rawk_names.proofs.SeenLaws.{place_seen-Name, place_seen-Element}
 use Rattle.rawk_names.proofs.StatementLaws.{stmt-Simple, stmt-Jump, stmt-Block, stmt-If, stmt-While, stmt-Do, stmt-For, stmt-ForIn, branch-is, head-is}
-use Rattle.rawk_syntax.specs.Meant.{Sense}
-use Rattle.rawk_syntax.specs.InOrder.{each, in_order, names_array, names_scalar, formatted, deletes, act_in_order, jump_in_order, maybe_in_order, keys_in_order, stmt_in_order, branch_in_order, other_in_order, head_parts}
-use Rattle.rawk_syntax.proofs.Orders.{both}
+use Rattle.rawk_resolution.specs.Meant.{Sense}
+use Rattle.rawk_resolution.specs.InOrder.{each, in_order, names_array, names_scalar, formatted, deletes, act_in_order, jump_in_order, maybe_in_order, keys_in_order, stmt_in_order, branch_in_order, other_in_order, head_parts}
+use Rattle.rawk_resolution.specs.Orders.{both}
 use Rattle.rawk_syntax.proofs.StatementOrders.{name_deletes, element_deletes, empty_is, simple_is, block_is, jump_is, if_is, while_is, do_is, for_is, for_in_is, branch_is}
 use Rattle.rawk_syntax.proofs.Meets.{AllMeet, first_meet, last_meet, all_in_order}
 use Rattle.rawk_syntax.proofs.FineExprs.{fine, IsSome, printed_some}

@@ -34,8 +34,8 @@ use Rattle.rawk_tree.specs.declared.tree.Guard.TheVariants as tree_guard
 use Rattle.rawk_tree.specs.declared.tree.Rule.{Rule}
 use Rattle.rawk_parsing.specs.declared.tree.Name.{Name}
 use Rattle.rawk_tree.specs.declared.tree.Program.{Program}
-use Rattle.rawk_syntax.specs.Meant.{Sense}
-use Rattle.rawk_syntax.specs.Settled.{Settles, AnExpr, SomeExprs, Prints}
+use Rattle.rawk_resolution.specs.Meant.{Sense}
+use Rattle.rawk_resolution.specs.Settled.{Settles, AnExpr, SomeExprs, Prints}
 use Rattle.rawk_syntax.specs.Laid as spec
 use Rattle.rawk_syntax.specs.Laid.{Adds, sited, rule_of, ranges_of, words_of, Deletes, Simply, Exits, Returns, Jumps, Tests, Lays, AStmt, SomeStmts, AnOther, SomeBranches, Does, Guards, Rules, Defines, IsLaidWith}
 

@@ -1,6 +1,3 @@
-pub mod Globals
-pub mod Orders
-pub mod Settlements
 pub mod StatementOrders
 pub mod Layings
 pub mod Meets

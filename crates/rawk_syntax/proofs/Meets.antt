@@ -10,9 +10,9 @@ use Rattle.rawk_parsing.specs.declared.tree.Place.{Place}
 use Rattle.rawk_names.specs.Mentions.{Mention, AsScalar, AsArray, Measured, Passed, Computed, Called, Pattern, Seen, only, all, every, builtin_name, builtin_at, builtin_arguments, call_at, call_arguments, seen, place_seen, link_mentions, mentions}
 use Rattle.rawk_tree.specs.declared.tree.Kind.{Kind}
 use Rattle.rawk_tree.specs.declared.tree.Kind.TheVariants as kind
-use Rattle.rawk_syntax.specs.Meant.{Sense}
-use Rattle.rawk_syntax.specs.InOrder.{Use, place_step, names_array, names_scalar, fits, all_fit, calls, each, use_of, place_use, in_order, link_in_order}
-use Rattle.rawk_syntax.proofs.Orders.{both}
+use Rattle.rawk_resolution.specs.Meant.{Sense}
+use Rattle.rawk_resolution.specs.InOrder.{Use, place_step, names_array, names_scalar, fits, all_fit, calls, each, use_of, place_use, in_order, link_in_order}
+use Rattle.rawk_resolution.specs.Orders.{both}
 
 -- what the parameter is that takes an argument, if there is one
 abbrev pub kind_at : Sense → Option ℕ → ℕ → Option Kind

@@ -22,9 +22,9 @@ use Rattle.rawk_names.specs.Noted.{Word, Noted, with_use, outer_at, meant_at, me
 use Rattle.rawk_names.specs.Named.{Known, IsNamed, inner_at, meaning_of, variable_of, end_of_last}
 use Rattle.rawk_names.specs.Named as known
 use Rattle.rawk_tree.specs.declared.tree.Kind.{Kind}
-use Rattle.rawk_syntax.specs.Meant.{is_there, sense, scalar_at, array_at, variable_scalar, variable_array, kind_of, kinds_at, parameter_kinds}
-use Rattle.rawk_syntax.specs.InOrder.{names_array, names_scalar}
-use Rattle.rawk_syntax.proofs.Globals.{kind_there, kind_past, no_kind}
+use Rattle.rawk_resolution.specs.Meant.{is_there, sense, scalar_at, array_at, variable_scalar, variable_array, kind_of, kinds_at, parameter_kinds}
+use Rattle.rawk_resolution.specs.InOrder.{names_array, names_scalar}
+use Rattle.rawk_resolution.specs.Globals.{kind_there, kind_past, no_kind}
 use Rattle.rawk_syntax.proofs.Meets.{kind_at, Takes, Suits, IsNoArray, Meets, AllMeet}
 use Rattle.rawk_syntax.proofs.Noting.{last_stands, numbered_there, inner_stays, Later, later_on, grows_use, grows_noted, grows_all}
 

@@ -18,9 +18,9 @@ use Rattle.rawk_grammar.specs.declared.tree.Stmt.TheOpen.{Stmt-F, Head-F}
 use Rattle.rawk_grammar.specs.declared.tree.Branch.{Branch, fold_out-Branch}
 use Rattle.rawk_grammar.specs.declared.tree.Head.{Head, out-Head, map-Head, fold_out-Head}
 use Rattle.rawk_grammar.specs.declared.tree.Item.{Item}
-use Rattle.rawk_syntax.specs.InOrder.{names_array, each, in_order, deletable, deletes, act_in_order, jump_in_order, maybe_in_order, keys_in_order, stmt_step, branch_step, head_step, stmt_in_order, branch_in_order, head_in_order, other_in_order, head_parts, item_in_order, items_in_order, functions_behind}
-use Rattle.rawk_syntax.specs.Meant.{Sense}
-use Rattle.rawk_syntax.proofs.Orders.{parts, split, each_mapped}
+use Rattle.rawk_resolution.specs.InOrder.{names_array, each, in_order, deletable, deletes, act_in_order, jump_in_order, maybe_in_order, keys_in_order, stmt_step, branch_step, head_step, stmt_in_order, branch_in_order, head_in_order, other_in_order, head_parts, item_in_order, items_in_order, functions_behind}
+use Rattle.rawk_resolution.specs.Meant.{Sense}
+use Rattle.rawk_resolution.specs.Orders.{parts, split, each_mapped}
 
 -- ---- what a `delete` is of
 

@@ -35,8 +35,8 @@ use Rattle.rawk_tree.specs.declared.tree.Rule.{Rule}
 use Rattle.rawk_tree.specs.declared.tree.Function.{Function}
 use Rattle.rawk_tree.specs.declared.tree.Program.{Program}
 use Rattle.rawk_names.specs.Named.{Known}
-use Rattle.rawk_syntax.specs.Meant.{Sense, sense, global_words, global_kinds}
-use Rattle.rawk_syntax.specs.Settled.{Settles, AnExpr, SomeExprs, Prints}
+use Rattle.rawk_resolution.specs.Meant.{Sense, sense, global_words, global_kinds}
+use Rattle.rawk_resolution.specs.Settled.{Settles, AnExpr, SomeExprs, Prints}
 
 -- behind the others stands one more, of which P holds
 abbrev pub Adds : {A : Type 0} → (A → Type 0) → List A → List A → Type 0

@@ -1,14 +1,11 @@
 //! The program of a text: the parser's tree with its names as numbers, and its sites.
 #![tactic(auto)]
 
-mod arrays;
-mod expressions;
+mod deletion;
 mod items;
-mod kinds;
 pub mod laws;
 mod lines;
 mod parsing;
-mod scope;
 mod statements;
 
 pub use parsing::parse;

@@ -5,20 +5,21 @@ ghost use Rattle.std.specs.Global.{Vec};
 ghost use Rattle.rawk_grammar.specs.declared.tree.Stmt.TheVariants as from;
 ghost use Rattle.rawk_tree.specs.declared.tree.Stmt as settled;
 ghost use Rattle.rawk_tree.specs.declared.tree.Stmt.TheVariants as tree;
-ghost use Rattle.rawk_syntax.specs.InOrder as order;
-ghost use Rattle.rawk_syntax.specs.Meant.{sense_of};
-ghost use Rattle.rawk_syntax.specs.Settled.{Settles, AnExpr};
+ghost use Rattle.rawk_resolution.specs.InOrder as order;
+ghost use Rattle.rawk_resolution.specs.Meant.{sense_of};
+ghost use Rattle.rawk_resolution.specs.Settled.{Settles, AnExpr};
 ghost use Rattle.rawk_syntax.specs.Laid.{sited, Simply, Exits, Returns, Jumps, Tests, Lays, AStmt, SomeStmts, SomeBranches, AnOther};
 
-use crate::arrays::settle_delete;
-use crate::expressions::{settle_expr, settle_formatted, settle_printed};
+use crate::deletion::settle_delete;
 use crate::lines::Sites;
-use crate::scope::{Scope, the_array, the_scalar};
 use rawk_builtin_trees::growth::{boxed, push};
 use rawk_grammar::tree as parsed;
 use rawk_grammar::tree::{Act, Condition, Jump, Simple};
 use rawk_items::Boxed;
 use rawk_parsing::tree::Name;
+use rawk_resolution::{
+    Scope, settle_expr, settle_formatted, settle_printed, the_array, the_scalar,
+};
 use rawk_tree::{Branch, Expr, Stmt};
 use std::alloc::{AllocError, Global};
 

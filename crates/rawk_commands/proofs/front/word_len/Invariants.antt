@@ -1,5 +1,5 @@
 use Rattle.std.proofs.Common.{◌≡◌, ◌+◌, ◌-◌, ◌≤◌, length, drop}
-use Rattle.rawk_lexer.specs.Name.{is_in_name}
+use Rattle.rawk_keywords.specs.Name.{is_in_name}
 use Rattle.std.specs.List.{prefix_len}
 use Rattle.rawk_commands.proofs.front.word_len.Given as goal
 

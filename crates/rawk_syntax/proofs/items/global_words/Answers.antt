@@ -1,7 +1,7 @@
 use Rattle.std.proofs.Common.{◌<◌, length, arith, ◌∙◌}
 use Rattle.rawk_names.specs.Named.{known}
-use Rattle.rawk_syntax.specs.Meant.{global_words}
-use Rattle.rawk_syntax.proofs.Globals.{word_more}
+use Rattle.rawk_resolution.specs.Meant.{global_words}
+use Rattle.rawk_resolution.specs.Globals.{word_more}
 use Rattle.rawk_syntax.proofs.items.global_words.Goals as goal
 
 pub loop-variable-preserved : goal.loop-variable-preserved

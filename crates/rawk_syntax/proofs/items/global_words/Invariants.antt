@@ -1,7 +1,7 @@
 use Rattle.std.proofs.Common.{◌≡◌, ◌++◌, drop, map}
 use Rattle.rawk_names.specs.Named.{known}
-use Rattle.rawk_syntax.specs.Meant.{global_words}
-use Rattle.rawk_syntax.proofs.Globals.{key_of}
+use Rattle.rawk_resolution.specs.Meant.{global_words}
+use Rattle.rawk_resolution.specs.Globals.{key_of}
 use Rattle.rawk_syntax.proofs.items.global_words.Given as goal
 
 abbrev pub invariant-loop-variable : goal.invariant-loop-variable

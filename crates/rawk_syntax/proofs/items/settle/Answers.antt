@@ -2,7 +2,7 @@ use Rattle.std.proofs.Common.{◌+◌, ◌∙◌, length, ap, arith}
 use Rattle.rawk_limits.specs.declared.TheConstants.{OPEN_CONSTRUCTS}
 use Rattle.rawk_names.specs.Named.{known}
 use Rattle.rawk_syntax.specs.Laid as spec
-use Rattle.rawk_syntax.specs.Meant.{sense}
+use Rattle.rawk_resolution.specs.Meant.{sense}
 use Rattle.rawk_syntax.proofs.AllInOrder.{all_in_order}
 use Rattle.rawk_syntax.proofs.StatementOrders.{item_at, items_behind}
 use Rattle.rawk_syntax.proofs.Layings.{item_laid}

@@ -1,7 +1,7 @@
 use Rattle.std.proofs.Common.{◌≡◌, ◌≤◌, length, take, drop, true}
-use Rattle.rawk_syntax.specs.InOrder.{items_in_order}
+use Rattle.rawk_resolution.specs.InOrder.{items_in_order}
 use Rattle.rawk_names.specs.Named.{known}
-use Rattle.rawk_syntax.specs.Meant.{sense}
+use Rattle.rawk_resolution.specs.Meant.{sense}
 use Rattle.rawk_syntax.specs.Laid.{IsLaidWith}
 use Rattle.rawk_syntax.proofs.items.settle.Given as goal
 

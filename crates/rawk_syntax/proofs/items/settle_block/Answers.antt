@@ -1,4 +1,4 @@
-use Rattle.rawk_syntax.specs.Meant.{sense_of}
+use Rattle.rawk_resolution.specs.Meant.{sense_of}
 use Rattle.rawk_syntax.proofs.Layings.{block_made}
 use Rattle.rawk_syntax.proofs.items.settle_block.Goals as goal
 

@@ -1,6 +1,6 @@
 use Rattle.std.proofs.Common.{◌-◌, ◌∙◌, ap}
 use Rattle.rawk_names.specs.Named.{known}
-use Rattle.rawk_syntax.specs.Meant.{parameter_kinds, sense_of}
+use Rattle.rawk_resolution.specs.Meant.{parameter_kinds, sense_of}
 use Rattle.rawk_syntax.proofs.Layings.{defined}
 use Rattle.rawk_syntax.proofs.items.settle_function.Goals as goal
 

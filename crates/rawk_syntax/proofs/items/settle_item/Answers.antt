@@ -1,6 +1,6 @@
 use Rattle.std.proofs.Common.{◌∙◌, ◌+◌, ap, refl}
 use Rattle.rawk_names.specs.Named.{known}
-use Rattle.rawk_syntax.specs.Meant.{sense}
+use Rattle.rawk_resolution.specs.Meant.{sense}
 use Rattle.rawk_syntax.proofs.Layings.{begin_laid, end_laid, always_laid, rule_laid, function_laid}
 use Rattle.rawk_syntax.proofs.items.settle_item.Goals as goal
 

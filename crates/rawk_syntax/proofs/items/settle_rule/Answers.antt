@@ -1,5 +1,5 @@
 use Rattle.std.proofs.Common.{◌∙◌, ap}
-use Rattle.rawk_syntax.specs.Meant.{sense_of}
+use Rattle.rawk_resolution.specs.Meant.{sense_of}
 use Rattle.rawk_syntax.proofs.Layings.{rule_made}
 use Rattle.rawk_syntax.proofs.items.settle_rule.Goals as goal
 

@@ -1,7 +1,7 @@
 use Rattle.std.proofs.Common.{◌∙◌, ap, refl, rules}
 use Rattle.rawk_grammar.specs.declared.tree.Stmt.TheViews.{the_lemmas}
 use Rattle.rawk_syntax.specs.Laid as spec
-use Rattle.rawk_syntax.specs.Meant.{sense_of}
+use Rattle.rawk_resolution.specs.Meant.{sense_of}
 use Rattle.rawk_syntax.proofs.StatementOrders.{simple_part, block_parts, jump_part, if_parts, while_parts, do_parts, for_parts, for_in_parts, branch_parts}
 use Rattle.rawk_syntax.proofs.Layings.{empty_lays, simple_lays, block_lays, boxed_lays, more_lays, jump_lays, if_lays, while_lays, do_lays, for_lays, for_in_lays, absent_lays, other_made, more_branches, branch_body}
 use Rattle.rawk_syntax.proofs.statements.+statements.Goals as goal

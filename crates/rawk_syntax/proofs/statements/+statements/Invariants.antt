@@ -1,7 +1,7 @@
 use Rattle.std.proofs.Common.{◌≡◌, ◌+◌, ◌*◌, max, take}
 use Rattle.rawk_grammar.proofs.tree.Head.TheLaws as head
 use Rattle.rawk_grammar.proofs.tree.Stmt.TheLaws as stmt
-use Rattle.rawk_syntax.specs.Meant.{sense_of}
+use Rattle.rawk_resolution.specs.Meant.{sense_of}
 use Rattle.rawk_syntax.specs.Laid.{Lays, SomeStmts, SomeBranches}
 use Rattle.rawk_syntax.proofs.statements.+statements.Given as goal
 

@@ -1,4 +1,4 @@
-use Rattle.rawk_syntax.specs.Meant.{sense_of}
+use Rattle.rawk_resolution.specs.Meant.{sense_of}
 use Rattle.rawk_syntax.proofs.Layings.{bare_exit, status_exit}
 use Rattle.rawk_syntax.proofs.statements.settle_exit.Goals as goal
 

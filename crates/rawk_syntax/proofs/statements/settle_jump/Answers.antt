@@ -1,5 +1,5 @@
 use Rattle.std.proofs.Common.{◌∙◌}
-use Rattle.rawk_syntax.specs.Meant.{sense_of}
+use Rattle.rawk_resolution.specs.Meant.{sense_of}
 use Rattle.rawk_syntax.proofs.Layings.{breaks, continues, goes_next, exit_jumps, return_jumps}
 use Rattle.rawk_syntax.proofs.statements.settle_jump.Goals as goal
 

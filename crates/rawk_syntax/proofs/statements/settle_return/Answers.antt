@@ -1,4 +1,4 @@
-use Rattle.rawk_syntax.specs.Meant.{sense_of}
+use Rattle.rawk_resolution.specs.Meant.{sense_of}
 use Rattle.rawk_syntax.proofs.Layings.{no_return_value, return_value}
 use Rattle.rawk_syntax.proofs.statements.settle_return.Goals as goal
 

@@ -1,5 +1,5 @@
 use Rattle.std.proofs.Common.{◌∙◌}
-use Rattle.rawk_syntax.specs.Meant.{sense_of}
+use Rattle.rawk_resolution.specs.Meant.{sense_of}
 use Rattle.rawk_syntax.proofs.Layings.{evaluates, prints, printfs, delete_lays}
 use Rattle.rawk_syntax.proofs.statements.settle_simple.Goals as goal
 

@@ -1,4 +1,4 @@
-use Rattle.rawk_syntax.specs.Meant.{sense_of}
+use Rattle.rawk_resolution.specs.Meant.{sense_of}
 use Rattle.rawk_syntax.proofs.Layings.{missing_tests, given_tests}
 use Rattle.rawk_syntax.proofs.statements.settle_test.Goals as goal
 

@@ -1,0 +1,5 @@
+pub mod Meant
+pub mod InOrder
+pub mod Settled
+pub mod Orders
+pub mod Globals

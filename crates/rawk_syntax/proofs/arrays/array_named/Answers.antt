@@ -1,5 +1,0 @@
-use Rattle.std.proofs.Common.{◌≡◌, ◌∙◌, false, true}
-use Rattle.rawk_syntax.proofs.arrays.array_named.Goals as goal
-
-pub unreachable-requires : goal.unreachable-requires
-unreachable-requires c = let no : false ≡ true = c.in-None.ensures.there ∙ c.requires in cc
