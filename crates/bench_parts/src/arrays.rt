@@ -133,7 +133,7 @@ fn step(alloc: Global, arrays: &mut Arrays, verb: &str) -> Result<u64> {
     Ok(arrays.count(0) as u64)
 }
 
-/// Adds 1 to the elements below `count` in turn, so many times, and gives the sum of what they are.
+/// Adds 1 to the elements below `count` in turn, `times` times, and gives the sum of what they are.
 fn bump(alloc: Global, arrays: &mut Arrays, times: u64, count: u64) -> Result<u64, AllocError> {
     let mut key = Vec::new(alloc);
     let mut sum = 0u64;

@@ -23,7 +23,7 @@ use Rattle.rawk.proofs.DialogSoFar.{SoFar, Spoken, answered, begun, told_over, u
 abbrev all_of : Bytes → Input
 all_of bytes = record { bytes = bytes; fails = false }
 
--- what is left of commands in memory, behind so many bytes, is a source of one input
+-- what is left of commands in memory, behind a number of bytes, is a source of one input
 abbrev gives_left : Bytes × ℕ → Input → Type 0
 gives_left left rest = rest ≡ all_of left.0
 

@@ -95,7 +95,8 @@ pub record Took {S : Type 0} (may_give : S → Input → Type 0) (over : S → O
   pub counted : CountsUp (handed source) (handed last) (length read)
   pub failed : report.cause ≡ cause.Faulted ReadFailed → over last ≡ Some Failed
 
--- A program ran on what a source gives, with these first values and at most so many steps, and so the source was left: what was read of it settles what is reported and what the sink took, whatever may still come.
+-- A program ran on what a source gives, with these first values and at most `steps` steps, and so the source was left:
+-- what was read of it settles what is reported and what the sink took, whatever may still come.
 pub record IsRun {S V : Type 0} (may_give : S → Input → Type 0) (over : S → Option End) (handed : S → ℕ) (may_hold : V → Bytes → Type 0) (p : Program) (settings : List FirstValue) (source last : S) (steps : ℕ) (sink now : V) (report : Report) : Type 0 where
   pub read : Bytes
   pub took : Took may_give over handed p settings source steps report last read

@@ -140,7 +140,7 @@ fn session_over<R: Source + Drop, K: Keeper, D: Dialog<C>, C, W: Sink>(
     }
 }
 
-/// Holds a session over a program that is ready to run, and keeps so many steps, or all. Its text is any that the program was made of.
+/// Holds a session over a program that is ready to run, and keeps `history` steps, or all. Its text is any that the program was made of.
 fn session_kept<R: Source + Drop, D: Dialog<C>, C, W: Sink>(
     alloc: Global,
     settings: &Settings,
@@ -183,7 +183,7 @@ fn session_kept<R: Source + Drop, D: Dialog<C>, C, W: Sink>(
 /// failed.
 ///
 /// The report has status 0, but for: a refusal of the text (P1 to P10) or of a first value (S1), where nothing was written; F11, where the sink failed;
-/// F12, where memory was refused before the session stood, or where 2^64 - 1 commands were answered, or one of so many bytes was refused memory; F10, exactly where
+/// F12, where memory was refused before the session stood, or where 2^64 - 1 commands were answered, or one of that many bytes was refused memory; F10, exactly where
 /// a read of the commands failed. Where the session did not stand, no command was read, and of the program's source nothing either, but where memory was
 /// refused on the way to point 0. What else a session meets, it answers: want of memory for the reading of a
 /// command, which has 65,536 bytes or more then, by C11, and passes the command over.

@@ -173,7 +173,7 @@ fn run_prepared<R: Source + Drop, W: Sink>(
     Finished { report, source }
 }
 
-/// Runs a program's text on the input of a source, with these first values and at most so many steps, and writes its
+/// Runs a program's text on the input of a source, with these first values and at most `steps` steps, and writes its
 /// output to a sink: each step's output before the next step (POSIX awk, Overall Program Structure). It hands the source back.
 ///
 /// The report has the program's status, how it ended, the line of a fault or a refusal, and the ending's number.

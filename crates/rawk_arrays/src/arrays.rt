@@ -23,7 +23,7 @@ use rawk_value::Value;
 use std::alloc::{AllocError, Global};
 use std::marker::Model;
 
-/// So many empty slots are never worth removing.
+/// This many empty slots are never worth removing.
 const FEW: usize = 512;
 
 /// The arrays, of which a number index one, beside what they were when the step began.
@@ -84,13 +84,13 @@ pub enum ArraysChange {
     Clear {
         array: usize,
     },
-    /// so many
+    /// this many
     AddEmpty(usize),
-    /// to so many at most
+    /// to this many at most
     Truncate(usize),
 }
 
-/// Of so many slots that were emptied, how many are left so where this one is filled. One that was added last was not emptied.
+/// Of the `emptied` slots, how many are left empty where this one is filled. One that was added last was not emptied.
 #[inline(always)]
 fn left_empty(emptied: usize, cells: &ElementSlots, place: usize) -> usize {
     if place < cells.len().saturating_sub(1) && !is_filled(cells, place) {
@@ -148,7 +148,7 @@ impl Arrays {
         }
     }
 
-    /// A slot, filled or empty; `None` past the last. What stood there at an earlier time is told by the groups that lead back there.
+    /// A slot, filled or empty; `None` past the last. What stood there at an earlier time is given by the groups that lead back there.
     pub fn slot(&self, number: usize) -> Option<&Option<Value>>
         ensures { option_copied result ≡ slice_get self.now.now.slots number }
     {
@@ -345,7 +345,7 @@ impl Arrays {
         Ok(())
     }
 
-    /// Adds so many empty arrays. It fails where memory is refused.
+    /// Adds `count` empty arrays. It fails where memory is refused.
     pub fn add_empty<const SAVES: bool>(&mut self, count: usize) -> Result<(), AllocError>
         ensures did { OnOk result (arrays_of self.new.now ≡ arrays_of self.old.now ++ replicate count no_elements) }
         ensures start { OnTrue SAVES (self.new.start ≡ self.old.start) }
@@ -356,7 +356,7 @@ impl Arrays {
         Ok(())
     }
 
-    /// Keeps the first arrays, so many at most. The others' slots stay as they are until their numbers are used again: it takes no memory.
+    /// Keeps at most the first `count` arrays. The others' slots stay as they are until their numbers are used again: it takes no memory.
     pub fn truncate(&mut self, count: usize)
         ensures did { arrays_of self.new.now ≡ take count (arrays_of self.old.now) }
         ensures start { self.new.start ≡ self.old.start }

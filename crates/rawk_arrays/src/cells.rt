@@ -61,7 +61,7 @@ fn number_of(alloc: Global, index: &mut Keys, array: usize, key: &[u8]) -> Resul
     Ok(number)
 }
 
-// Adds empty slots until there are so many. It fails where memory is refused; those that were added stay.
+// Adds empty slots until there are `count`. It fails where memory is refused; those that were added stay.
 fn cover(cells: &mut ElementSlots, count: usize) -> Result<(), AllocError>
     ensures covered { IsCovered count cells.old cells.new }
     ensures enough { OnOk result (count ≤ length cells.new.now) }

@@ -30,7 +30,7 @@ binary_of fun.Index = Some joiner.Index
 binary_of fun.Substr = Some joiner.Substr
 binary_of _ = None
 
--- whether the tree has a function of so many arguments
+-- whether the tree has a function of this many arguments
 abbrev pub has_builtin : Function → ℕ → Bool
 has_builtin fun.Length zero = true
 has_builtin fun.Length (suc zero) = true

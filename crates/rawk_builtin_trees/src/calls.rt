@@ -185,7 +185,7 @@ fn apply_some(
     }
 }
 
-/// A function of so many arguments.
+/// A function of this many arguments.
 fn apply_counted(
     alloc: Global,
     function: Function,

@@ -31,7 +31,7 @@ fn places_before_sum(length: usize, from: i64, count: i64) -> usize
     }
 }
 
-/// The range, by numbers from 0, of the bytes at the places from `from` on, counted from 1; with a count, at so many places
+/// The range, by numbers from 0, of the bytes at the places from `from` on, counted from 1; with a count, at that many places
 /// (POSIX awk, String Functions). Of these the text may lack some, at both ends: `from` may be 0 or less. It takes no memory.
 pub fn substr_range(text: &[u8], from: i64, count: Option<i64>) -> Range<usize>
     ensures order { result.start ≤ result.end }

@@ -14,7 +14,7 @@ use Rattle.rawk_cells.specs.declared.cells.Grown.{Grown}
 abbrev pub Globals : Type 0
 Globals = List Value
 
--- the first bytes of a text, so many at most; another value stays
+-- at most the first n bytes of a text; another value stays
 abbrev pub shortened : ℕ → Value → Value
 shortened n Uninitialized = Uninitialized
 shortened n (Number x) = Number x
@@ -28,7 +28,7 @@ own_length (Number x) = 0
 own_length (String text) = length text
 own_length (Input text) = 0
 
--- the values with the first bytes alone of the text at a place, so many at most
+-- the values with at most the first `count` bytes of the text at a place
 abbrev pub cut_at : ℕ → ℕ → List Value → List Value
 cut_at place count xs = slice_set xs place (shortened count (slice_index_or xs place Uninitialized))
 
@@ -51,13 +51,13 @@ HasGrown (Some g) slots = GrewAlone g slots
 abbrev pub longer_at : ℕ → Bytes → List Value → List Value
 longer_at place more xs = slice_set xs place (String (text_of (slice_index_or xs place Uninitialized) ++ more))
 
--- a text grew, which had so many bytes; where there was none, nothing has changed
+-- a text grew, which had `count` bytes; where there was none, nothing has changed
 abbrev pub Grew : ℕ → Bytes → List Value → Journaled (List Value) → Option ℕ → Type 0
 Grew place more xs slots None = (slots.start ≡ xs) × (slots.now ≡ xs)
 Grew place more xs slots (Some count) = (slots.start ≡ longer_at place more xs) × (slots.now ≡ longer_at place more xs) × (own_length (slice_index_or xs place Uninitialized) ≡ count)
     × (slice_index_or xs place Uninitialized ≡ String (text_of (slice_index_or xs place Uninitialized)))
 
--- the text at the place has so many bytes, and these behind them
+-- the text at the place has `a.count` bytes, and these behind them
 pub record IsAppended (a : Appended) (xs : List Value) : Type 0 where
   pub within : a.place < length xs
   pub front : Bytes

@@ -56,7 +56,7 @@ impl Model for Cells {
     ghost invariant = { λ c. HasGrown c.grown c.slots };
 }
 
-/// The first bytes of a text, so many at most; another value stays. It takes no memory.
+/// At most the first `count` bytes of a text; another value stays. It takes no memory.
 fn shortened(value: Value, count: usize) -> Value
     ensures { result ≡ shortened count value }
 {
@@ -128,7 +128,7 @@ fn keep_shorter(alloc: Global, slots: &mut Slots<Value>, grown: Grown) -> Result
     }
 }
 
-/// Leaves the first bytes of a text, so many at most. It takes no memory.
+/// Leaves at most the first `count` bytes of a text. It takes no memory.
 fn cut(slots: &mut Slots<Value>, place: usize, count: usize)
     requires within { place < length slots.old.now }
     requires rest { slots.old.start ≡ slots.old.now }

@@ -174,7 +174,7 @@ abbrev pub or_bad_argument : Option Command → Result (Option Command) C
 or_bad_argument None = Err BadArgument
 or_bad_argument (Some asked) = Ok (Some asked)
 
--- the reading of a word and an argument: a word that is no command is told before its argument is looked at
+-- the reading of a word and an argument: a word that is no command is reported before its argument is looked at
 abbrev pub asked_by : Option Verb → Bytes → Result (Option Command) C
 asked_by None argument = Err UnknownCommand
 asked_by (Some word) argument = or_bad_argument (command_of word argument)

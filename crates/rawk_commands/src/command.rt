@@ -82,7 +82,7 @@ pub enum Command {
     Quit,
 }
 
-/// Why a command is not carried out, or, of `AnswerLost`, why its answer is not told. Each has a number and a text.
+/// Why a command is not carried out, or, of `AnswerLost`, why its answer is not given. Each has a number and a text.
 #[derive(Clone, Copy, PartialEq, Eq)]
 pub enum C {
     /// C1: a word that is no command.

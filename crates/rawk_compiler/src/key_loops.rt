@@ -43,7 +43,7 @@ pub(crate) fn begin_keys(
     Ok(start)
 }
 
-// What stands around the body of a loop over keys that begins at this place. An error: so many loops are past every memory.
+// What stands around the body of a loop over keys that begins at this place. An error: more loops than any memory holds.
 pub(crate) fn keys_body_of(start: usize, around: Around) -> Result<Around, AllocError>
     requires { start + 3 < 2 ^ 63 }
     ensures { IfOk result (λ body. body ≡ keys_around start around) }

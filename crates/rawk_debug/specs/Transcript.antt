@@ -19,7 +19,7 @@ use Rattle.rawk_debug.specs.Moves.{Stand}
 use Rattle.rawk_debug.specs.Commands.{Executes}
 use Rattle.rawk_debug.specs.Answers.{text_of}
 
--- the line that stands for an answer whose text is refused memory: the answer is lost where the command was carried out, and where want of memory stopped it that is told
+-- the line that stands for an answer whose text is refused memory: the answer is lost where the command was carried out, and where want of memory stopped it that is reported
 abbrev pub lost : Answer → C
 lost (Halted from) = OutOfMemory
 lost other = AnswerLost
@@ -39,7 +39,7 @@ abbrev pub request : Turn → Result (Option Command) C
 request (Heard line) = reading line
 request (Passed line) = Err OutOfMemory
 
--- a command is executed, or refused, and the outcome told
+-- a command is executed, or refused, and the outcome reported
 abbrev pub Obeys : Input → Command → Stand → Bytes → Stand → Type 0
 Obeys input command old text new = (outcome : Result Answer C) × (came : Observed) × Executes input command old outcome came new × Says input new came outcome text
 

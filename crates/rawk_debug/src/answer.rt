@@ -39,7 +39,7 @@ pub enum Answer {
     BreakDeleted(u64),
     /// The watch of this number was removed.
     WatchDeleted(u64),
-    /// The activations are told.
+    /// The activations are reported.
     Traced,
     /// The session is to end.
     Left,

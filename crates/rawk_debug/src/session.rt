@@ -51,7 +51,7 @@ fn has_entry(breaks: bool, number: u64, stops: &[Entry]) -> bool
     stops.iter().any(|entry| is_entry(breaks, number, entry))
 }
 
-/// What is told of a breakpoint, or a watch, that was removed.
+/// What is reported of a breakpoint, or a watch, that was removed.
 fn deleted(breaks: bool, number: u64) -> Answer
     ensures { result ≡ deleted breaks number }
 {

@@ -224,7 +224,7 @@ module _ (code : List Instruction) (s : List ℕ) where
         ];
   }
 
-  -- so many matches of the part, and then N
+  -- k matches of the part, and then N
   abbrev SomeNeed : (ℕ → Type 0) → (ℕ → ℕ → Type 0) → (ℕ → Type 0) → ℕ → Type 0
   SomeNeed Few R N i = (k : ℕ) × (middle : ℕ) × Few k × Times R k i middle × N middle
 

@@ -43,7 +43,7 @@ abbrev pub digits_from : ℕ → List ℕ → ℕ × List ℕ
 digits_from v [] = (v, [])
 digits_from v (b ∷ s) = if is_digit b then digits_from (v * 10 + (b - 48)) s else (v, b ∷ s)
 
--- the same with at most so many octal digits
+-- the same with at most k octal digits
 abbrev pub octal_from : ℕ → ℕ → List ℕ → ℕ × List ℕ
 octal_from zero v s = (v, s)
 octal_from (suc k) v [] = (v, [])

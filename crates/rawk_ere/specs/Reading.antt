@@ -72,7 +72,7 @@ abbrev pub run : List Frame → Frame → List Token → Option Tree
 run outer f [] = ended outer f
 run outer f (t ∷ ts) = elim (step outer f t) [ None ↦ None | Some s ↦ run s.0 s.1 ts ]
 
--- whether the tokens are well formed, with so many groups open, where the last piece may be repeated or not
+-- whether the tokens are well formed, with `depth` groups open, where the last piece may be repeated or not
 abbrev pub is_formed : List Token → ℕ → Bool → Bool
 is_formed [] depth last = nat_eq depth 0
 is_formed (token.OneOf set ∷ ts) depth last = is_formed ts depth true

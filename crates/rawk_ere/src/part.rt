@@ -242,7 +242,7 @@ impl Part {
         })
     }
 
-    /// The part so many times. `TooLarge`: it is nested too deep.
+    /// The part, as often as the count says. `TooLarge`: it is nested too deep.
     pub fn repeat(self, alloc: Global, count: Count) -> Result<Part, EreError>
         ensures is { IfOk result (λ p. p ≡ Repeat self count) }
         ensures refused { IfErr result (λ x. (x ≡ EreError.Memory) ⊎ ((x ≡ EreError.TooLarge) × (200 < nesting_of (Repeat self count)))) }

@@ -17,7 +17,7 @@ use std::alloc::{AllocError, Global};
 /// How many bytes a search reads in vain before one pass over the text tells whether there is a way at all.
 const FEW: usize = 16;
 
-/// For so many bytes that are passed over, one more may be read in vain.
+/// For this many bytes that are passed over, one more may be read in vain.
 const PASSED: usize = 4;
 
 /// Walks from a place to the end of the text.
@@ -107,7 +107,7 @@ fn first_place(table: &Table, code: &Code, text: &[u8], from: usize) -> usize
     skip(table, code, text, from)
 }
 
-/// Looks for a way from place to place, until it has read so many bytes in vain, and a share of those that it passed over.
+/// Looks for a way from place to place, until it has read `most` bytes in vain, and a share of those that it passed over.
 #[inline(always)]
 fn restart(table: &Table, code: &Code, text: &[u8], from: usize, most: usize) -> Progress
     requires within { from ≤ length text.now }
@@ -362,7 +362,7 @@ fn open_by_walks(
     }
 }
 
-/// The same from place to place by the table, until it has read so many bytes in vain.
+/// The same from place to place by the table, until it has read `most` bytes in vain.
 fn open_by_table(table: &Table, code: &Code, text: &[u8], from: usize, most: usize) -> Opening
     requires from { from ≤ length text.now }
     requires table { IsTable code.now table.now }

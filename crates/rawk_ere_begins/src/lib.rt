@@ -1,4 +1,4 @@
-//! Where a match may begin, told from the bytes of a text, many places at once.
+//! Where a match may begin, found from the bytes of a text, many places at once.
 #![tactic(auto)]
 
 pub mod filter;

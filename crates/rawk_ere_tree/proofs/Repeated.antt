@@ -1,4 +1,4 @@
--- A part is written so many times.
+-- A part is written a number of times.
 use Rattle.std.proofs.Common.{◌≡◌, ℕ, ◌+◌, ◌-◌, List, ◌++◌, sym, ap, ◌∙◌, arith, append_assoc, suc, ◌<◌}
 use Rattle.rawk_ere_tree.specs.declared.code.Instruction.{Instruction}
 use Rattle.rawk_ere_tree.specs.Code.{maybe_code, times_code, maybes_code}

@@ -76,7 +76,7 @@ ends_kept s more closed (Either a b) i j (inr h) = inr (ends_kept s more closed 
 ends_kept s more closed (Group a) i j h = ends_kept s more closed a i j h
 ends_kept s more closed (Repeat a count) i j h = (h.0, h.1, times_kept (Ends false s a) (Ends closed (s ++ more) a) (ends_kept s more closed a) h.0 i j h.2)
 
--- so many are matches of the text that may go on, or one of them wants to know what follows
+-- k are matches of the text that may go on, or one of them wants to know what follows
 abbrev TimesOr : (ℕ → ℕ → Type 0) → (ℕ → Type 0) → ℕ → ℕ → ℕ → Type 0
 TimesOr R N k i j = Times R k i j ⊎ ((m : ℕ) × (middle : ℕ) × (m < k) × Times R m i middle × N middle)
 

@@ -18,7 +18,7 @@ pub data Tree : Type 0 where
   Either : Tree → Tree → Tree
   -- the part in parentheses
   Group : Tree → Tree
-  -- the part, so many times
+  -- the part, as often as the count says
   Repeat : Tree → Count → Tree
 
 -- the size that a repetition gives a part of this size

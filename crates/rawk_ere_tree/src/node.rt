@@ -34,6 +34,6 @@ pub enum Node {
     Either(Vec<Node>),
     /// A part in parentheses.
     Group(Box<Node>),
-    /// A part, so many times.
+    /// A part, as often as the count says.
     Repeat(Box<Node>, Count),
 }

@@ -77,7 +77,7 @@ impl<F: Fn(Global, &mut Cursor<'_>, usize, Wanted) -> Result<Boxed<Expr>, ParseE
 ///
 /// It refuses a text by the token at which it stops: `Syntax`, `BadToken`, `Unterminated` and `LeftOut` by the grammar, `BadNumber`
 /// for a constant that is not whole or does not fit 64 bits, `TooDeep` at the first token inside a construct too many. `OutOfMemory`
-/// is the refusal of a growth. After a refusal the place of the tokens is not told.
+/// is the refusal of a growth. After a refusal the place of the tokens is not known.
 /// Each token is looked at a bounded number of times, and no call goes deeper than the constructs that are open.
 pub fn expression(
     alloc: Global,

@@ -272,7 +272,7 @@ abbrev pub prefixed : Bytes → Result Bytes Fault → Result Bytes Fault
 prefixed text (Ok more) = Ok (text ++ more)
 prefixed text (Err fault) = Err fault
 
--- the items of a format from left to right, at most so many
+-- at most `turns` items of a format, from left to right
 abbrev pub items_text : ℕ → Bytes → List Value → Result Bytes Fault
 items_text zero text values = Ok []
 items_text (suc turns) [] values = Ok []

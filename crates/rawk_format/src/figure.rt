@@ -211,7 +211,7 @@ pub fn push_bytes(out: &mut Vec<u8>, bytes: &[u8]) -> Result<(), AllocError>
     }
 }
 
-/// Adds the byte so many times.
+/// Adds the byte `count` times.
 #[inline(always)]
 pub fn push_fill(out: &mut Vec<u8>, count: usize, byte: u8) -> Result<(), AllocError>
     ensures added { OnOk result (out.new.items ≡ out.old.items ++ replicate count byte) }
@@ -268,7 +268,7 @@ fn push_body(out: &mut Vec<u8>, figure: Figure, digits: &[u8]) -> Result<(), All
     Ok(())
 }
 
-// How long the body is, with so many digits of the figure, at most the greatest of 64 bits.
+// How long the body is, with `digits` digits of the figure, at most the greatest of 64 bits.
 #[inline]
 fn body_len(figure: Figure, digits: usize) -> usize
     requires { digits ≡ length (digits_of figure.base figure.size) }

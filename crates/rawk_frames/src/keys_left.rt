@@ -91,7 +91,7 @@ impl KeysLeft {
         advance_of::<SAVES>(&self.lists, &mut self.visited)
     }
 
-    /// Ends the innermost loops, so many.
+    /// Ends the `count` innermost loops.
     pub fn end(&mut self, count: usize)
         ensures did { keys_of self.new.now ≡ drop count (keys_of self.old.now) }
         ensures start { self.new.start ≡ self.old.start }

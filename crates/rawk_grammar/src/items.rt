@@ -218,7 +218,7 @@ fn whole(alloc: Global, tokens: &mut Cursor<'_>, depth: usize) -> Result<Items<I
 ///
 /// It refuses a text by the token at which it stops: `Syntax`, `BadToken`, `Unterminated` and `LeftOut` by the grammar, `BadNumber`
 /// for a constant that is not whole or does not fit 64 bits, `Misplaced` for a jump that may not stand there, `TooDeep` at the first
-/// token inside a construct too many. `OutOfMemory` is the refusal of a growth. After a refusal the place of the tokens is not told.
+/// token inside a construct too many. `OutOfMemory` is the refusal of a growth. After a refusal the place of the tokens is not known.
 /// A token is looked at no more often than constructs may be open, and no call goes deeper than the constructs that are open.
 pub fn program(
     alloc: Global,

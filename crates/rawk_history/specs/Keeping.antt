@@ -12,7 +12,7 @@ pub record IsFront {T : Type 0} (xs ys : List T) : Type 0 where
   pub rest : List T
   pub is : ys ≡ xs ++ rest
 
--- of so many steps, how many are kept
+-- of n steps, how many are kept
 abbrev pub room : Option ℕ → ℕ → ℕ
 room None n = n
 room (Some h) n = min n h

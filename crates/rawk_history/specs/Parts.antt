@@ -19,7 +19,7 @@ pub record KeepingLast : Type 0 where
   pub forth : Option Forth
   pub history : ℕ
 
--- of all steps that lie in parts so many are kept, no more than the history, and so many at least are not
+-- of all steps that lie in parts `count` are kept, no more than the history, and at least `gone` are not
 pub record IsRing (newest : List Kept) (older : List Keeping) (count gone history : ℕ) : Type 0 where
   pub filled : AreFilled older
   pub within : count + gone ≤ length (newest ++ kept_in older)

@@ -17,18 +17,18 @@ use std::mem;
 
 /// Keeps the newest steps.
 ///
-/// They lie in parts of so many steps each, the newest part first, and what no longer counts goes a part at a time. So a step takes no more than where all
+/// They lie in parts of a limited number of steps each, the newest part first, and what no longer counts goes a part at a time. So a step takes no more than where all
 /// are kept, and no memory is taken before there are steps.
 #[derive(Drop)]
 pub struct Ring {
     newest: Full,
     // Each has a step.
     older: VecDeque<Full>,
-    // So many of the steps are kept,
+    // How many of the steps are kept,
     count: usize,
-    // and so many before them, or more, are not.
+    // and how many before them, at least, are not.
     gone: usize,
-    // So many are kept at most.
+    // How many are kept at most.
     history: usize,
     // A part with more steps takes no other.
     room: usize,
@@ -95,7 +95,7 @@ fn keep_in(
     Ok(())
 }
 
-/// Drops the oldest part, if all its steps are among so many that are not kept, and gives how many of these are left.
+/// Drops the oldest part, if all its steps are among `gone` that are not kept, and gives how many of these are left.
 fn let_go(parts: &mut VecDeque<Full>, gone: usize) -> usize
     ensures front { IsFront (kept_in parts.new.items) (kept_in parts.old.items) }
     ensures left { length (kept_in parts.new.items) + gone ≡ length (kept_in parts.old.items) + result }
@@ -125,7 +125,7 @@ fn come_forward(newest: &mut Full, older: &mut VecDeque<Full>)
     }
 }
 
-/// How many old values the newest steps of these parts hold, so many or all. It takes no memory, looks at each of these steps, and stays at the greatest
+/// How many old values the newest steps of these parts hold, `count` of them or all. It takes no memory, looks at each of these steps, and stays at the greatest
 /// number of 128 bits.
 fn saved_in_newest(parts: &VecDeque<Full>, count: usize) -> u128
     ensures { Counts (saved_by_all (take count (kept_in parts.now.items))) result }

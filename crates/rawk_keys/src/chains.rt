@@ -97,7 +97,7 @@ impl Chains {
         drop_link(&mut self.links, &mut self.heads);
     }
 
-    /// Makes at least so many chains, so that they stay short. It fails where memory is refused; nothing is seen of it.
+    /// Makes at least `count` chains, so that they stay short. It fails where memory is refused; nothing is seen of it.
     pub fn spread(&mut self, alloc: Global, count: usize) -> Result<(), AllocError>
         ensures { self.new ≡ self.old }
     {
@@ -219,7 +219,7 @@ fn push_label(
     push_link(links, heads, label)
 }
 
-/// Puts the links into at least so many chains.
+/// Puts the links into at least `count` chains.
 fn spread_links(
     alloc: Global,
     links: &mut Vec<Link>,
@@ -237,7 +237,7 @@ fn spread_links(
     Ok(())
 }
 
-/// So many heads of empty chains, or more: a power of 2.
+/// `count` heads of empty chains, or more: a power of 2.
 fn blank_heads(alloc: Global, count: usize) -> Result<Vec<u32>, AllocError>
     ensures some { IfOk result (λ heads. 0 < length heads.items) }
     ensures blank { IfOk result (λ heads. heads.items ≡ replicate (length heads.items) 0) }

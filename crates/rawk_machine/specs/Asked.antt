@@ -11,7 +11,7 @@ use Rattle.rawk_code.specs.Trace.{FirstValue}
 use Rattle.rawk_travel.specs.Asking.{AskedFrom, asked_behind}
 use Rattle.rawk_machine.specs.Standing.{Standing, given_of}
 
--- nothing was read, or the code's run asked for all that was read, behind so many points at most
+-- nothing was read, or the code's run asked for all that was read, behind at most `points` points
 abbrev pub HasAsked : Listing → List FirstValue → Given → ℕ → Bytes → Type 0
 HasAsked code settings given points read = (read ≡ []) ⊎ AskedFrom code given points (first code settings) read
 
@@ -19,7 +19,7 @@ HasAsked code settings given points read = (read ≡ []) ⊎ AskedFrom code give
 abbrev pub AskedBy : {S : Type 0} → Standing S → Input → ℕ → Bytes → Type 0
 AskedBy machine input points read = HasAsked machine.code machine.settings (given_of machine input) points read
 
--- nothing was read, or the run of a code that does what the program does asked for all that was read, behind so many points at most
+-- nothing was read, or the run of a code that does what the program does asked for all that was read, behind at most `points` points
 abbrev pub IsAskedFor : Program → List FirstValue → Given → ℕ → Bytes → Type 0
 IsAskedFor p settings given points read = (read ≡ []) ⊎ ((code : Listing) × CodeOf p code × AskedFrom code given points (first code settings) read)
 

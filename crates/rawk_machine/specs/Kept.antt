@@ -78,7 +78,7 @@ LastFits last.Nothing l = Unit {0}
 LastFits last.On l = Unit {0}
 LastFits (last.Back forth) l = ArraysFit forth.others l × AllArraysFit (arrays_in l forth.others) forth.sets
 
--- at the point of this number; so many bytes of the input are kept
+-- at the point of this number; `size` bytes of the input are kept
 pub record IsPlaced (l : Layout) (point size : ℕ) : Type 0 where
   pub goes : l.registers.ending ≡ None
   pub here : l.registers.here ≡ point
@@ -97,7 +97,7 @@ abbrev pub AllOf : ℕ → List SetAt → Type 0
 AllOf point [] = Unit {0}
 AllOf point (e ∷ es) = (e.point ≡ point) × AllOf point es
 
--- the last so many sets are of this point, and those before are of earlier ones
+-- the last `count` sets are of this point, and those before are of earlier ones
 pub record EndsWith (point count : ℕ) (sets : List SetAt) : Type 0 where
   pub earlier : List SetAt
   pub own : List SetAt

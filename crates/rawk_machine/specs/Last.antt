@@ -4,7 +4,7 @@ use Rattle.rawk_history.specs.Steps.{Forth}
 use Rattle.rawk_machine.specs.declared.last_move.LastMove.{LastMove}
 use Rattle.rawk_machine.specs.declared.last_move.LastMove.TheVariants as move
 
--- none from which what was seen before can be told, a step on, or a step back, with what leads forward again
+-- none from which what was seen before can be known, a step on, or a step back, with what leads forward again
 pub data Last : Type 0 where
   Nothing : Last
   On : Last

@@ -20,7 +20,7 @@ pub data Mention : Type 0 where
   Passed : Name → Name → ℕ → Mention
   -- an argument of such a call that is no name alone
   Computed : Name → ℕ → Mention
-  -- a call with so many arguments
+  -- a call with this many arguments
   Called : Name → ℕ → Mention
   -- a regular expression, with its place
   Pattern : ℕ → List ℕ → Mention

@@ -1,4 +1,4 @@
--- What is told of the names of a program.
+-- What is reported of the names of a program.
 use Rattle.std.specs.Prelude.{◌≡◌, ◌≢◌, ◌<◌, ◌↔◌, ◌⊎◌, ◌==◌, ℕ, ◌-◌, Bool, true, false, ◌&&◌, if◌then◌else◌, nat_lt, List, [], ◌∷◌, drop, length, slice_get, slice_index_or, Option, Some, None}
 use Rattle.rawk_ere_tree.specs.Tree.{Tree, IsWithinLimits}
 use Rattle.rawk_ere.specs.declared.error.EreError.TheVariants as ere
@@ -89,7 +89,7 @@ abbrev pub IsFirstMisuse : List Usage → ℕ → Type 0
 IsFirstMisuse uses left =
     (k : ℕ) × (u : Usage) × (slice_get uses k ≡ Some u) × (u.left ≡ left) × IsMisuse uses u.what × ((j : ℕ) (t : Usage) → j < k → slice_get uses j ≡ Some t → IsMisuse uses t.what → ⊥)
 
--- what can be told: a bad pattern, or, where there is none, the first misuse; memory may also be refused
+-- what can be reported: a bad pattern, or, where there is none, the first misuse; memory may also be refused
 abbrev pub IsRefused : Noted → NameError → Type 0
 IsRefused noted error.OutOfMemory = Unit {0}
 IsRefused noted (error.BadEre left) = IsBadPlace noted.patterns noted.uses left

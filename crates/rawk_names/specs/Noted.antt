@@ -79,7 +79,7 @@ abbrev pub takes_at : List Signature → Option ℕ → ℕ → Bool
 takes_at signatures None count = false
 takes_at signatures (Some f) count = takes_of (slice_get signatures f) count
 
--- whether the name is a function that takes so many arguments
+-- whether the name is a function that takes `count` arguments
 unfoldable pub takes : Word → ℕ → Noted → Bool
 takes word count n = takes_at n.signatures (place_of (array_key 0 word) n.functions) count
 

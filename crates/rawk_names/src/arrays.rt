@@ -22,7 +22,7 @@ fn larger(a: usize, b: usize) -> usize
     if a < b { b } else { a }
 }
 
-/// More than each variable of a use. A number beyond what memory can hold is told as want of memory.
+/// More than each variable of a use. A number beyond what memory can hold is reported as want of memory.
 fn end_of(what: What) -> Result<usize, AllocError>
     ensures { IfOk result (IsBelow what) }
 {
@@ -113,7 +113,7 @@ struct Marks {
     pending: Vec<usize>,
 }
 
-/// No marks, for so many variables.
+/// No marks, for `count` variables.
 fn no_marks(alloc: Global, count: usize) -> Result<Marks, AllocError>
     ensures flags { IfOk result (λ m. m.flags.items ≡ replicate count false) }
     ensures pending { IfOk result (λ m. m.pending.items ≡ []) }

@@ -1,4 +1,4 @@
-// Laws of what is told of names, for every program: the contracts say them, and the bodies do nothing.
+// Laws of what is reported of names, for every program: the contracts say them, and the bodies do nothing.
 
 ghost use Rattle.rawk_names.specs.Named.{IsNamedOrRefused, IsRefusedOnce};
 

@@ -46,7 +46,7 @@ fn parameter_in(signatures: &[Signature], function: Option<usize>, argument: usi
     }
 }
 
-/// Whether a function has at least so many parameters.
+/// Whether a function has at least `count` parameters.
 fn takes_in(signatures: &[Signature], function: Option<usize>, count: usize) -> bool
     ensures { result ≡ spec.takes_at signatures.now function count }
 {
@@ -139,7 +139,7 @@ impl Register {
         }
     }
 
-    /// A call with so many arguments.
+    /// A call with `count` arguments.
     #[tactic(auto, unfolding(crate::specs::Noted::called, crate::specs::Noted::takes))]
     pub fn called(&mut self, function: &Name, count: usize) -> Result<(), AllocError>
         ensures { OnOk result (shown self.new ≡ spec.called function.now count (shown self.old)) }

@@ -11,7 +11,7 @@ use rawk_store::Operands;
 use rawk_value::{Bytes, Fault};
 use std::alloc::{AllocError, Global};
 
-/// What the format below so many operands makes of them, or its fault. They are read where they stand. It fails where memory is refused.
+/// What the format below `count` operands makes of them, or its fault. They are read where they stand. It fails where memory is refused.
 pub fn format_operands(
     alloc: Global,
     operands: &Operands,

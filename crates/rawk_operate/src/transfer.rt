@@ -10,7 +10,7 @@ use rawk_value::Fault;
 pub enum Transfer {
     /// to the next instruction
     Next,
-    /// past so many instructions behind the next
+    /// past this many instructions behind the next
     Skip(usize),
     /// to a place
     To(usize),
@@ -18,15 +18,15 @@ pub enum Transfer {
     Over(Ending),
     /// to a point with this site, which is still to be entered
     Point(Option<usize>),
-    /// to a record that is still to be read; past so many instructions where there is none
+    /// to a record that is still to be read; past this many instructions where there is none
     Read(usize),
-    /// to a record whose text is still to be read; past so many instructions where there is none
+    /// to a record whose text is still to be read; past this many instructions where there is none
     ReadText(usize),
     /// to the END actions, or in them to the end
     Quit,
     /// to the reading of the next record, where a main rule runs
     NextRecord,
-    /// to the entry of a function, with so many operands that are still to be taken
+    /// to the entry of a function, with this many operands that are still to be taken
     Call(usize, usize),
     /// out of the innermost activation, which is still to be removed
     Return,

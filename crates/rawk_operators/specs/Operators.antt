@@ -83,7 +83,7 @@ one_makes unary.ToLower v = Ok (String (map lower (text_of v)))
 one_makes unary.ToUpper v = Ok (String (map upper (text_of v)))
 one_makes unary.Int v = next_ok (int_of v) (λ x. Ok (Number x))
 
--- the part of a text from a place on, so many bytes
+-- the part of a text from a place on, n bytes
 abbrev pub part_of : Value → Value → Value → Result Value Fault
 part_of v m n = next_ok (number_of m) (λ x. next_ok (number_of n) (λ y. Ok (String (substring (text_of v) x (Some y)))))
 

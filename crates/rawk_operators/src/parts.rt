@@ -23,7 +23,7 @@ pub fn place(left: Borrowed<'_>, right: Borrowed<'_>) -> i64
     )
 }
 
-/// A copy of the part of its text from a place on; with a count, so many bytes. It fails where memory is refused.
+/// A copy of the part of its text from a place on; with a count, that many bytes. It fails where memory is refused.
 #[inline(always)]
 pub fn part(
     alloc: Global,
@@ -38,7 +38,7 @@ pub fn part(
     Ok(Value::String(Bytes::from_slice(alloc, part)?))
 }
 
-/// The part of a text from a place on, so many bytes, or the fault of a number. It fails where memory is refused.
+/// The part of a text from a place on, `count` bytes, or the fault of a number. It fails where memory is refused.
 #[inline(always)]
 pub fn make_part(
     alloc: Global,

@@ -64,7 +64,7 @@ pub struct Match {
     pub length: i64,
 }
 
-/// A match, by its place and its length. An error: a text of so many bytes is past every memory.
+/// A match, by its place and its length. An error: a text longer than any memory holds.
 fn told(text: &[u8], found: Option<Span>) -> Result<Match, AllocError>
     requires { IfSome found (IsWithin 0 text.now) }
     ensures { IfOk result (λ m. m ≡ told found) }

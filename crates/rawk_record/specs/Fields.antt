@@ -43,7 +43,7 @@ nearer (Some a) (Some b) = if comes_first a b then Some b else Some a
 abbrev pub next_separator : Tree → Bool → Bytes → ℕ → Option Span
 next_separator e newline s p = nearer (first_nonempty true s e p) (newline_from newline s p)
 
--- what stands between the separators from a place on, in so many turns at most
+-- what stands between the separators from a place on, in at most `turns` turns
 abbrev pub between : (ℕ → Option Span) → Bytes → ℕ → ℕ → List Bytes
 between next s zero p = []
 between next s (suc turns) p =

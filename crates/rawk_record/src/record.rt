@@ -18,7 +18,7 @@ use rawk_value::Value;
 use std::alloc::{AllocError, Global};
 use std::marker::Model;
 
-/// A text of so many bytes, or more, is always cut, so that its fields can be counted.
+/// A text of this many bytes, or more, is always cut, so that its fields can be counted.
 const LONG: usize = 1 << 62;
 
 /// A text that is not cut comes in the place of a record, whose buffer is used again where it is one too. It fails where memory is refused, and then it may be any record.

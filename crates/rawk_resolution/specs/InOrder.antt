@@ -245,7 +245,7 @@ abbrev pub pattern_in_order : Sense → Pattern → Bool
 pattern_in_order means (guard.When left e) = in_order means e
 pattern_in_order means (guard.Range left e f) = in_order means e && in_order means f
 
--- an item behind so many functions; inside a function the scope is one more than its number
+-- an item behind `functions` functions; inside a function the scope is one more than its number
 abbrev pub item_in_order : (ℕ → Sense) → ℕ → Item → Bool
 item_in_order means functions (part.Begin ss) = each (stmt_in_order (means 0)) ss
 item_in_order means functions (part.End ss) = each (stmt_in_order (means 0)) ss
@@ -257,7 +257,7 @@ abbrev pub functions_behind : Item → ℕ → ℕ
 functions_behind (part.Function left n ns ss) functions = suc functions
 functions_behind _ functions = functions
 
--- several items, behind so many functions
+-- several items, behind `functions` functions
 abbrev pub items_in_order : (ℕ → Sense) → ℕ → List Item → Bool
 items_in_order means functions [] = true
 items_in_order means functions (item ∷ items) = item_in_order means functions item && items_in_order means (functions_behind item functions) items

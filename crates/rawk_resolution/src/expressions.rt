@@ -119,7 +119,7 @@ fn settle_right(
     }
 }
 
-/// A call of a built-in function that takes so many arguments.
+/// A call of a built-in function that takes this many arguments.
 fn apply_builtin(
     alloc: Global,
     function: Function,

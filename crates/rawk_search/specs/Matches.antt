@@ -21,7 +21,7 @@ abbrev pub ends_of_times : (ℕ → List ℕ) → ℕ → ℕ → List ℕ
 ends_of_times part zero i = i ∷ []
 ends_of_times part (suc k) i = flat_map (ends_of_times part k) (part i)
 
--- the same for k and the numbers after it, so many numbers in all
+-- the same for k and the numbers after it, `numbers` numbers in all
 abbrev pub ends_of_counts : (ℕ → List ℕ) → ℕ → ℕ → ℕ → List ℕ
 ends_of_counts part k zero i = []
 ends_of_counts part k (suc numbers) i = ends_of_times part k i ++ ends_of_counts part (k + 1) numbers i
@@ -97,7 +97,7 @@ abbrev pub or_span : Option Span → Option Span → Option Span
 or_span None other = other
 or_span (Some m) other = Some m
 
--- the first span that `at` gives, of so many places from i on
+-- the first span that `at` gives, of `places` places from i on
 abbrev pub first_span : (ℕ → Option Span) → ℕ → ℕ → Option Span
 first_span at i zero = None
 first_span at i (suc places) = or_span (at i) (first_span at (i + 1) places)
@@ -114,7 +114,7 @@ first_match s e p = first_span (λ i. span_to i (greatest (ends true s e i))) p 
 unfoldable pub first_nonempty : Bool → Bytes → Tree → ℕ → Option Span
 first_nonempty closed s e p = first_span (λ i. span_past i (greatest (ends closed s e i))) p (places_from p s)
 
--- one of so many places from i on passes the test
+-- one of `places` places from i on passes the test
 abbrev pub any_place : (ℕ → Bool) → ℕ → ℕ → Bool
 any_place test i zero = false
 any_place test i (suc places) = test i || any_place test (i + 1) places

@@ -19,7 +19,7 @@ span_after after i (Some j) = if nat_eq i j && ended_at after i then None else S
 unfoldable pub next_cut : Bytes → Tree → ℕ → Option ℕ → Option Span
 next_cut s e p after = first_span (λ i. span_after after i (greatest (ends true s e i))) p (places_from p s)
 
--- all of them from p on, at most so many: after one that is not empty it goes on at its end, after an empty one a place further
+-- all of them from p on, at most `more`: after one that is not empty it goes on at its end, after an empty one a place further
 abbrev pub cuts_from : Bytes → Tree → ℕ → ℕ → Option ℕ → List Span
 cuts_from s e zero p after = []
 cuts_from s e (suc more) p after = elim (next_cut s e p after) as (λ _. List Span) [

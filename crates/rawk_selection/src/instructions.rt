@@ -66,7 +66,7 @@ pub fn items_of<T: Copy + Drop>(alloc: Global, from: &[T]) -> Result<Items<T>, A
     Ok(items)
 }
 
-/// A call of a function with so many values and with these arrays.
+/// A call of a function with `count` values and with these arrays.
 pub fn put_call(
     alloc: Global,
     code: &mut Vec<Instr>,
@@ -80,7 +80,7 @@ pub fn put_call(
     put(code, Instr::Call(function, count, arrays))
 }
 
-/// The text that a format makes of so many arguments.
+/// The text that a format makes of `count` arguments.
 pub fn put_sprintf(code: &mut Vec<Instr>, count: usize) -> Result<(), AllocError>
     ensures { OnOk result (code.new.items ≡ code.old.items ++ Instr.Do (Op.Sprintf count) ∷ []) }
 {
@@ -152,7 +152,7 @@ pub fn put_open(code: &mut Vec<Instr>) -> Result<(), AllocError>
     put(code, Instr::GoOn(0))
 }
 
-/// The jump forward at a place passes so many instructions.
+/// The jump forward at a place passes `count` instructions.
 pub fn patch(code: &mut Vec<Instr>, place: usize, count: usize)
     requires { place < length code.now.items }
     ensures items { code.new.items ≡ led code.old.items place count }
@@ -161,7 +161,7 @@ pub fn patch(code: &mut Vec<Instr>, place: usize, count: usize)
     lead(&mut code[place], count);
 }
 
-/// A jump forward passes so many instructions.
+/// A jump forward passes `count` instructions.
 fn lead(jump: &mut Instr, count: usize)
     ensures { jump.new ≡ over count jump.old }
 {
@@ -215,7 +215,7 @@ pub fn end_tests(code: &mut Vec<Instr>, leaps: &[usize], led: bool) -> Result<us
     }
 }
 
-/// A jump over so many, past which the jumps at these places lead.
+/// A jump over `count` instructions, past which the jumps at these places lead.
 fn pass_tests(code: &mut Vec<Instr>, leaps: &[usize], count: usize) -> Result<(), AllocError>
     requires { (i n : ℕ) → slice_get leaps.now i ≡ Some n → n < length code.now.items }
     ensures items { OnOk result (code.new.items ≡ passed_tests count leaps.now code.old.items) }

@@ -34,7 +34,7 @@ pub fn go_back<K: Keeper>(store: &mut Store, keeper: &mut K, here: &mut Vec<Grou
     keeper.put_back(store, here);
 }
 
-/// Drops the newest sets, so many.
+/// Drops the newest `count` sets.
 pub fn drop_newest(sets: &mut Vec<SetAt>, count: usize)
     ensures { sets.new.items ≡ take (length sets.old.items - count) sets.old.items }
 {

@@ -20,7 +20,7 @@ pub enum ValueRef<'a> {
     Text(&'a [u8], &'a [u8]),
 }
 
-/// The first bytes of a text, so many at most; another value as it is.
+/// At most the first `count` bytes of a text; another value as it is.
 fn shorter(value: &Value, count: usize) -> ValueRef<'_>
     ensures { lent result ≡ shortened count value.now }
 {

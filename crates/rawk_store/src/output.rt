@@ -122,7 +122,7 @@ impl Output {
         self.bytes.truncate(self.began);
     }
 
-    /// Takes back what came after so many bytes. It takes no memory and always succeeds.
+    /// Takes back what came after `count` bytes. It takes no memory and always succeeds.
     pub fn undo(&mut self, count: usize)
         requires { count ≤ length self.old.now }
         ensures { self.new ≡ at_rest (take count self.old.now) }

@@ -129,7 +129,7 @@ abbrev pub IsNumbered : List ArrayKey → ℕ → Item → Type 0
 IsNumbered fs functions (item.Function left f ps body) = place_of (array_key 0 f.word) fs ≡ Some functions
 IsNumbered fs functions _ = Unit {0}
 
--- each function of the items, which stand behind so many functions, has its number
+-- each function of the items, which stand behind `functions` functions, has its number
 abbrev pub AreNumbered : List ArrayKey → ℕ → List Item → Type 0
 AreNumbered fs functions [] = Unit {0}
 AreNumbered fs functions (i ∷ is) = IsNumbered fs functions i × AreNumbered fs (functions_behind i functions) is

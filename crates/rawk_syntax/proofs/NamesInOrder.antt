@@ -227,7 +227,7 @@ computed_meets f i n m names h l =
         by_mark true e = absurd (unused m names h (what.Value p) stands ((h.arrays p).0 e))
         by_mark false e = tt
 
--- a function takes so many arguments
+-- a function takes `count` arguments
 takes_so_many : (names : Known) (scope : ℕ) (f : Option ℕ) (count : ℕ) → takes_at names.signatures f count ≡ true → Takes (sense names scope) f count
 takes_so_many names scope None count h = cc
 takes_so_many names scope (Some f) count h = go (slice_get names.signatures f) refl h

@@ -145,7 +145,7 @@ rule_of site test action = record { site = site; guard = tree_guard.When test; a
 abbrev pub range_of : ℕ → ℕ → Expr → Expr → Stmt → Rule
 range_of site flag first last action = record { site = site; guard = tree_guard.Between flag first last; action = action }
 
--- A rule with a pattern behind so many ranges. Its first site is that of its test.
+-- A rule with a pattern behind `ranges` ranges. Its first site is that of its test.
 pub data Rules (text : List ℕ) (means : Sense) (ranges : ℕ) : Pattern → Action → Rule → List ℕ → List ℕ → Type 0 where
   when : {e : parsed.Expr} {s : Expr} {x : Action} {t : Stmt} {lines n : List ℕ} (left : ℕ)
       → Settles means (AnExpr e s) → Does text means x t (sited text left lines) n → Rules text means ranges (guard.When left e) x (rule_of (length lines) s t) lines n

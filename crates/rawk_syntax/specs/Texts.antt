@@ -57,7 +57,7 @@ IsRead text items (Err refusal) = refusal.kind ≡ kinds.OutOfMemory
 
 -- ---- refusals
 
--- what is told of names: a bad regular expression, or a misuse
+-- what is reported of names: a bad regular expression, or a misuse
 abbrev pub told_of : NameError → ParseError
 told_of misused.OutOfMemory = refused.OutOfMemory
 told_of (misused.BadEre left) = refused.Here kinds.BadEre left

@@ -77,7 +77,7 @@ fn settle_guard(
     }
 }
 
-/// A rule with a pattern, behind so many ranges, which is added to the rules.
+/// A rule with a pattern, behind `ranges` ranges, which is added to the rules.
 fn settle_rule(
     alloc: Global,
     sites: &mut Sites<'_>,

@@ -62,7 +62,7 @@ fn told(text: &[u8], refused: ParseError) -> Refusal
     }
 }
 
-/// What is told of names.
+/// What is reported of names.
 fn told_of(refused: NameError) -> ParseError
     ensures { result ≡ spec.told_of refused }
 {

@@ -74,7 +74,7 @@ module _ {C : Type 0} (may_give : C → Input → Type 0) (handed : C → ℕ) (
     many = λ e. subst (λ k. IsEndless f.all 0 ⊎ (2 ^ 64 - 1 ≤ k)) same (f.many e);
   }
 
--- reads of a long line of which the bytes are not kept: all of them, with so many reads behind those that were kept first
+-- reads of a long line of which the bytes are not kept: all of them, with `count` reads behind those that were kept first
 pub record Passing {C : Type 0} (may_give : C → Input → Type 0) (handed : C → ℕ) (old : C) (held : Bytes) (new : C) (count : ℕ) : Type 0 where
   pub all : Bytes
   pub reads : ReadsMore may_give handed old held new all

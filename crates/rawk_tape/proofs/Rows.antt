@@ -6,7 +6,7 @@ use Rattle.rawk_value.specs.declared.fault.Fault.{Fault}
 use Rattle.rawk_value.specs.declared.fault.Fault.TheVariants.{ReadFailed}
 use Rattle.rawk_tape.specs.Records.{Found, found, next_record}
 
--- the next record of a whole input after so many of its bytes
+-- the next record of a whole input after this many of its bytes
 abbrev next : Bytes → ℕ → Bytes → Result (Option Found) Fault
 next bytes = next_record (record { bytes = bytes; fails = false })
 

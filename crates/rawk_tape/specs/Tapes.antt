@@ -45,7 +45,7 @@ pub record ReadsAhead {S : Type 0} (may_give : S → Input → Type 0) (over : S
 abbrev pub consumed_by : {S : Type 0} → TapeState S → ℕ → ℕ
 consumed_by tape count = if nat_le count (length tape.bytes) then count else tape.consumed
 
--- with so many of its bytes consumed the tape is the earlier one, but for bytes read ahead
+-- with `count` of its bytes consumed the tape is the earlier one, but for bytes read ahead
 pub record LeadsBack {S : Type 0} (may_give : S → Input → Type 0) (over : S → Option Ending) (handed : S → ℕ) (now : TapeState S) (count : ℕ) (earlier : TapeState S) : Type 0 where
   pub fits : count ≤ length now.bytes
   pub ahead : ReadsAhead may_give over handed earlier (record now { consumed = count })

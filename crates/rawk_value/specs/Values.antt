@@ -179,7 +179,7 @@ holds comparison.NotEqual o = is_ne o
 holds comparison.Greater o = is_gt o
 holds comparison.GreaterEqual o = is_ge o
 
--- a number times itself, so many times: the power 0 is 1
+-- a number times itself, n times: the power 0 is 1
 abbrev pub power : ℤ → ℕ → ℤ
 power x zero = pos 1
 power x (suc n) = x *ℤ power x n

@@ -68,7 +68,7 @@ impl Bytes {
         self.text.append(alloc, more)
     }
 
-    /// Keeps the first bytes, so many at most. It takes no memory.
+    /// Keeps at most the first `count` bytes. It takes no memory.
     #[inline]
     pub fn truncate(&mut self, count: usize)
         ensures { self.new ≡ take count self.old }

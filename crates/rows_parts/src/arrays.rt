@@ -1,5 +1,5 @@
-//! `arrays` and changes: for each array its elements in brackets, in byte order. A change is `add N` for so many arrays more, `keep N` for
-//! no more than so many, `set ARRAY KEY VALUE`, `touch ARRAY KEY`, `delete ARRAY KEY` or `clear ARRAY`, each a step of its own, which `there and back`
+//! `arrays` and changes: for each array its elements in brackets, in byte order. A change is `add N` for N arrays more, `keep N` for
+//! no more than N, `set ARRAY KEY VALUE`, `touch ARRAY KEY`, `delete ARRAY KEY` or `clear ARRAY`, each a step of its own, which `there and back`
 //! before it takes back; or `put ARRAY KEY VALUE`, which sets an element by its place.
 //!
 //! `packed` and a number of elements that are made and deleted before a last one: its place, and its place once the array is packed.

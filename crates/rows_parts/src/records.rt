@@ -1,6 +1,6 @@
 //! Records: `records`, the record separator, the input, and how the source behaves.
 //!
-//! `pieces N`: a read gives at most so many bytes. `fails N`: the source fails behind so many bytes. `records N`: no more records
+//! `pieces N`: a read gives at most N bytes. `fails N`: the source fails behind N bytes. `records N`: no more records
 //! than that are asked for. The answer is the records in brackets, what came behind them (`end`, or a fault), and how many bytes
 //! the source handed out.
 

@@ -1,7 +1,7 @@
 //! Machines: `@kept`, a program and its input; for each point on the way to the ending and back again the point's number and how
 //! many old values are kept there.
 //!
-//! Further parts are a first value, `@let NAME=TEXT`, a limit of steps, `@steps N`, and `@source fails N`: the source fails behind so many bytes.
+//! Further parts are a first value, `@let NAME=TEXT`, a limit of steps, `@steps N`, and `@source fails N`: the source fails behind N bytes.
 
 use crate::back::compare;
 use rawk_code::{Code, Settings};
@@ -15,7 +15,7 @@ use std::alloc::{AllocError, Global};
 /// How many points a program may reach here.
 pub const STEPS: u64 = 1_000;
 
-/// What is told of a machine that goes there and back.
+/// What is reported of a machine that goes there and back.
 #[derive(Clone, Copy, Debug, PartialEq, Eq)]
 pub enum Told {
     OldValues,
@@ -99,7 +99,7 @@ fn answer(
     Vec::from_slice(alloc, text.as_str().trim_start().as_bytes())
 }
 
-/// What is told of a machine with this code.
+/// What is reported of a machine with this code.
 fn there_and_back(
     alloc: Global,
     code: Code,

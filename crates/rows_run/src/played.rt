@@ -1,8 +1,8 @@
 //! Runs and sessions.
 //!
 //! The parts are the words of a command line, but: one that begins with `<` is the input; one that begins with `>` are the
-//! commands of a session (`--debug` is put before the words). `@let NAME=TEXT` is a first value; `@pieces N`: a read gives at most so
-//! many bytes; `@source fails N`, `@sink fails N`: the source or the sink fails behind so many bytes; `@sink fails everywhere`: the
+//! commands of a session (`--debug` is put before the words). `@let NAME=TEXT` is a first value; `@pieces N`: a read gives at most N
+//! bytes; `@source fails N`, `@sink fails N`: the source or the sink fails behind N bytes; `@sink fails everywhere`: the
 //! case is asked with a sink that fails behind each count of bytes below those that it writes.
 //!
 //! A session is held twice: with commands that are read, in pieces as the input is, and with the same in memory. Where these differ, both answers are given.
@@ -188,7 +188,7 @@ fn play(
     played
 }
 
-/// A source of these bytes, in pieces of one size where there is one, that fails behind so many bytes, where it does.
+/// A source of these bytes, in pieces of one size where there is one, that fails behind `fails` bytes, where it does.
 fn source_of(
     alloc: Global,
     bytes: &[u8],
@@ -219,7 +219,7 @@ fn played_of(
     })
 }
 
-/// The cuts of so many bytes in pieces of one size, where there is one.
+/// The cuts of `size` bytes in pieces of one size, where there is one.
 fn cuts_of(alloc: Global, size: usize, piece: Option<usize>) -> Result<Vec<usize>, AllocError> {
     let mut cuts = Vec::new(alloc);
     if let Some(piece) = piece {
