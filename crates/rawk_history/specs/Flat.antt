@@ -22,7 +22,7 @@ abbrev pub items_of : Option (Vec Group) → List Group
 items_of None = []
 items_of (Some groups) = groups.items
 
--- how many old values of globals stand before those of these steps, the newest first, of so many in all
+-- how many old values of globals stand before those of these steps, the newest first, of `live` in all
 abbrev pub began_by : List Mark → ℕ → ℕ
 began_by [] live = live
 began_by (m ∷ ms) live = began_by ms m.globals
@@ -74,7 +74,7 @@ AreMarked (m ∷ ms) globals others records sets =
     × AreDistinctFrom m.globals globals
     × AreMarked ms (take m.globals globals) (rest_if m.has_others others) (rest_if m.has_record records) (rest_if m.has_sets sets)
 
--- the same of lists whose newest are the last; of the globals so many are of steps that are kept
+-- the same of lists whose newest are the last; `live` of the globals are of steps that are kept
 pub record IsFull (marks : List Mark) (globals : List (Saved Value)) (live : ℕ) (others : List Others) (records : List Shown) (sets : List (Vec Group)) : Type 0 where
   pub within : live ≤ length globals
   pub marked : AreMarked (reverse marks) (take live globals) (reverse others) (reverse records) (reverse sets)

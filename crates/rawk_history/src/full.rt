@@ -119,8 +119,8 @@ impl Full {
         self.marks.len()
     }
 
-    /// How many old values of globals, elements and records the newest steps hold, so many or all. It takes no memory, looks at each of these steps, and stays
-    /// at the greatest number of 128 bits.
+    /// How many old values of globals, elements and records the newest `count` steps hold, or all where there are fewer. It takes no memory, looks at each of these
+    /// steps, and stays at the greatest number of 128 bits.
     pub(crate) fn saved_in_newest(&self, count: usize) -> u128
         ensures { Counts (saved_by_all (take count self.now.kept)) result }
     {
@@ -134,7 +134,7 @@ impl Full {
     }
 }
 
-/// The last items, so many or all.
+/// The last `count` items, or all where there are fewer.
 fn newest_of<T>(list: &[T], count: usize) -> &[T]
     ensures { reverse result.now ≡ take count (reverse list.now) }
 {

@@ -30,7 +30,7 @@ abbrev pub escape : List ℕ → Option ℕ × ℕ
 escape [] = (Some 92, 0)
 escape (b ∷ z) = number_or_name b (octal b (slice_index z 0) (slice_index z 1))
 
--- What a text stands for behind an escape of which so many bytes are left.
+-- What a text stands for, behind the n bytes that are left of an escape.
 abbrev pub unescaped_from : ℕ → List ℕ → List ℕ
 unescaped_from left [] = []
 unescaped_from (suc left) (b ∷ z) = unescaped_from left z

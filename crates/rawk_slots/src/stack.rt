@@ -97,7 +97,7 @@ impl<T: Drop> Stack<T> {
         None
     }
 
-    /// The newest values, so many at most, the oldest of them first.
+    /// At most the newest `count` values, the oldest of them first.
     pub fn newest_values(&self, count: usize) -> &[T]
         ensures { result.now ≡ reverse (take count (live_values self.now.now)) }
     {
