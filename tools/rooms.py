@@ -1,5 +1,6 @@
 """Folders in which a crate is proved apart from the repository: `rt` keeps others out of each crate that it reads, so side by side each needs a room of its own."""
 import os
+import re
 import shutil
 
 ROOMS = ".build"
@@ -30,6 +31,17 @@ def below(names, wanted):
     for name in wanted:
         visit(name)
     return order
+
+
+def foreign_proofs():
+    """The files that cite a lemma of another crate's proofs/, each with what it cites. The laws of a declared type, which the prover writes, stand there alone."""
+    for name in sorted(os.listdir("crates")):
+        for at, _, files in (it for part in PARTS for it in os.walk(f"crates/{name}/{part}")):
+            for file in files:
+                with open(f"{at}/{file}", encoding="utf-8") as text:
+                    for crate, path in re.findall(r"Rattle\.(rawk_\w+)\.proofs\.([\w.]+)", text.read()):
+                        if crate != name and not path.rstrip(".").endswith("TheLaws"):
+                            yield f"{at}/{file}: {crate}.proofs.{path}"
 
 
 def room_of(name, names):

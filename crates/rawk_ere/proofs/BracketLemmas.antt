@@ -8,7 +8,7 @@ use Rattle.rawk_ere.specs.declared.bracket.BracketPlace.TheVariants.{First, Afte
 use Rattle.rawk_ere.specs.declared.bracket.Item.{Item}
 use Rattle.rawk_ere_tree.specs.ByteSets.{HasAlso, IsInRanges, IsSetOf, IsIn}
 use Rattle.rawk_ere.specs.Pattern.{begins, item_at, ranges_in, closes, Items, closed, more, IsBracket, IsBracketed}
-use Rattle.rawk_ere.proofs.ByteSetLemmas.{also_none, also_both, set_with, set_where}
+use Rattle.rawk_ere.specs.ByteSetLemmas.{also_none, also_both, set_with, set_where}
 
 in_both : (b : ℕ) (xs ys : List (ℕ × ℕ)) → (IsInRanges b xs ⊎ IsInRanges b ys) → IsInRanges b (xs ++ ys)
 in_both b [] ys h = elim h [ inl x ↦ absurd x | inr y ↦ y ]

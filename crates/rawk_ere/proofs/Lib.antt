@@ -1,11 +1,7 @@
 pub mod PartLemmas
-pub mod ReadingLemmas
-pub mod ByteSetLemmas
 pub mod PatternLemmas
 pub mod BracketLemmas
 pub mod IntervalLemmas
-pub mod ScanLemmas
-pub mod PatternOfLemmas
 pub mod Paths
 pub mod NeedPaths
 pub mod OpenLemmas

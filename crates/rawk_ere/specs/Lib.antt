@@ -10,3 +10,7 @@ pub use Rattle.rawk_ere_tree.specs.Cuts
 pub use Rattle.rawk_ere_tree.specs.Open
 pub use Rattle.rawk_ere_tree.specs.Code
 pub use Rattle.rawk_ere_automaton.specs.Search
+pub mod ReadingLemmas
+pub mod ByteSetLemmas
+pub mod ScanLemmas
+pub mod PatternOfLemmas

@@ -13,7 +13,7 @@ use Rattle.rawk_ere_automaton.specs.Search.{EndsFrom, Widens, BeginsNone, MaySta
 use Rattle.rawk_ere_begins.specs.Filters.{IsPassedOver}
 use Rattle.rawk_ere_automaton.specs.declared.table.Table.{Table}
 use Rattle.rawk_ere_automaton.specs.Table.{members, Begins, LeadsBy, EndsLast, AreFilled, AreStarts, IsTable}
-use Rattle.rawk_ere_tree.proofs.SetLemmas.{Contains-none}
+use Rattle.rawk_ere_tree.specs.SetLemmas.{Contains-none}
 use Rattle.rawk_ere_automaton.proofs.WalkLemmas.{hops_where, closes_where, path_of_hops, path_more, path_last, path_join, path_up, path_passes, wants_none, step_up, reached_first, reached_more, none_before, noted_is, farthest_stop, farthest_end}
 
 not_true : IsTrue false → ⊥

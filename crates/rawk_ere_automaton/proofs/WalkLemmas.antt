@@ -13,7 +13,7 @@ use Rattle.rawk_ere_tree.specs.Code.{Hops, Takes, Step, Path}
 use Rattle.rawk_ere_tree.specs.StateSets.{Adds}
 use Rattle.rawk_ere_automaton.specs.Sets.{HopsFrom, HopsBy, TakesFrom, Closes, AdvancesBy, AreReached, IsFarthestBefore, IsFarthest, AsksAt, AsksIn, WantsFrom, HasReached}
 use Rattle.rawk_ere_automaton.specs.Search.{EndsFrom, MayBy}
-use Rattle.rawk_ere_tree.proofs.SetLemmas.{Contains-none}
+use Rattle.rawk_ere_tree.specs.SetLemmas.{Contains-none}
 
 pub get_or_of : (s : List ℕ) (k b : ℕ) → slice_get s k ≡ Some b → get_or s k 0 ≡ b
 get_or_of s k b h = get_or_from_slice_get s k b 0 h

@@ -2,4 +2,3 @@ pub mod Repeated
 pub mod CodeLemmas
 pub mod KeptLemmas
 pub mod Walks
-pub mod SetLemmas

@@ -10,3 +10,4 @@ pub mod Longer
 pub mod Code
 pub mod Kept
 pub mod StateSets
+pub mod SetLemmas

@@ -6,3 +6,8 @@ pub mod Items
 pub mod Arrays
 pub mod Marking
 pub mod Named
+pub mod Tables
+pub mod SeenLaws
+pub mod Walks
+pub mod StatementLaws
+pub mod Refusals

@@ -12,7 +12,7 @@ use rawk_parsing::tree::{Expr, Function, Link, Name, Place};
 use std::alloc::{AllocError, Global};
 
 /// The name that a place is, if it is one alone.
-#[tactic(auto, using(crate::proofs::Walks::naming))]
+#[tactic(auto, using(crate::specs::Walks::naming))]
 pub fn place_name(place: &Place) -> Option<&Name>
     ensures { option_copied result ≡ (place_seen place.now).name }
 {
@@ -24,7 +24,7 @@ pub fn place_name(place: &Place) -> Option<&Name>
 }
 
 /// The name that an expression is, if it is one alone.
-#[tactic(auto, using(crate::proofs::Walks::naming))]
+#[tactic(auto, using(crate::specs::Walks::naming))]
 fn name_of(e: &Expr) -> Option<&Name>
     ensures { option_copied result ≡ (seen e.now).name }
 {
@@ -35,7 +35,7 @@ fn name_of(e: &Expr) -> Option<&Name>
 }
 
 #[cycle(walk)]
-#[tactic(auto, using(crate::proofs::Walks::walking))]
+#[tactic(auto, using(crate::specs::Walks::walking))]
 pub fn note_place(alloc: Global, register: &mut Register, place: &Place) -> Result<(), AllocError>
     ensures { OnOk result (shown register.new ≡ noted_all (place_mentions place.now) (shown register.old)) }
 {
@@ -164,7 +164,7 @@ fn note_call(
 
 /// An expression, from left to right.
 #[cycle(walk)]
-#[tactic(auto, using(crate::proofs::Walks::walking))]
+#[tactic(auto, using(crate::specs::Walks::walking))]
 pub fn note_expr(alloc: Global, register: &mut Register, e: &Expr) -> Result<(), AllocError>
     ensures { OnOk result (shown register.new ≡ noted_all (mentions e.now) (shown register.old)) }
 {

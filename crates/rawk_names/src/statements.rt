@@ -62,7 +62,7 @@ fn note_jump(alloc: Global, register: &mut Register, jump: &Jump) -> Result<(), 
 }
 
 #[cycle(bodies)]
-#[tactic(auto, using(crate::proofs::StatementLaws::bodies))]
+#[tactic(auto, using(crate::specs::StatementLaws::bodies))]
 fn note_maybe_statement(
     alloc: Global,
     register: &mut Register,
@@ -77,7 +77,7 @@ fn note_maybe_statement(
 }
 
 #[cycle(bodies)]
-#[tactic(auto, using(crate::proofs::StatementLaws::bodies))]
+#[tactic(auto, using(crate::specs::StatementLaws::bodies))]
 fn note_branch(alloc: Global, register: &mut Register, branch: &Branch) -> Result<(), AllocError>
     ensures { OnOk result (shown register.new ≡ noted_all (branch_mentions branch.now) (shown register.old)) }
 {
@@ -100,7 +100,7 @@ fn note_branches(
 }
 
 #[cycle(bodies)]
-#[tactic(auto, using(crate::proofs::StatementLaws::bodies))]
+#[tactic(auto, using(crate::specs::StatementLaws::bodies))]
 fn note_head(alloc: Global, register: &mut Register, head: &Head) -> Result<(), AllocError>
     ensures { OnOk result (shown register.new ≡ noted_all (head_mentions head.now) (shown register.old)) }
 {
@@ -111,7 +111,7 @@ fn note_head(alloc: Global, register: &mut Register, head: &Head) -> Result<(), 
 
 /// A statement.
 #[cycle(bodies)]
-#[tactic(auto, using(crate::proofs::StatementLaws::bodies))]
+#[tactic(auto, using(crate::specs::StatementLaws::bodies))]
 fn note_statement(alloc: Global, register: &mut Register, s: &Stmt) -> Result<(), AllocError>
     ensures { OnOk result (shown register.new ≡ noted_all (stmt_mentions s.now) (shown register.old)) }
 {
@@ -160,7 +160,7 @@ pub fn note_statements(
 }
 
 /// A pattern.
-#[tactic(auto, using(crate::proofs::StatementLaws::bodies))]
+#[tactic(auto, using(crate::specs::StatementLaws::bodies))]
 pub fn note_pattern(
     alloc: Global,
     register: &mut Register,

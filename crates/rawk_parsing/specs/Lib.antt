@@ -4,3 +4,4 @@ pub mod Parser
 pub mod Tables
 pub mod Tokens
 pub mod Steps
+pub mod Turns

@@ -8,7 +8,7 @@ use Rattle.rawk_ere.specs.declared.error.EreError.TheVariants as error
 use Rattle.rawk_ere.specs.PatternOf.{IsPatternOf, IsRefused}
 use Rattle.rawk_search.specs.Expressions.{tokens, read, limited, ere_of}
 use Rattle.rawk_search.proofs.TokenLemmas.{tokens_all, are_tokens}
-use Rattle.rawk_ere.proofs.ReadingLemmas.{read_all, derived_all}
+use Rattle.rawk_ere.specs.ReadingLemmas.{read_all, derived_all}
 
 -- the tree, within the limits or not
 abbrev tree_of : List ℕ → Option Tree

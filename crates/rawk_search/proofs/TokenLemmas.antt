@@ -13,7 +13,7 @@ use Rattle.rawk_ere.specs.declared.byte_kind.ByteKind.TheVariants as kind
 use Rattle.rawk_ere.specs.Pattern.{begins, escape, item_at, closes, Items, closed, more, IsBracket, Braced, Itself, Wrong, Interval, braced, kind_of, IsOneOf, IsBracketed, IsBraced, IsFirstToken, AreTokens}
 use Rattle.rawk_search.specs.Expressions.{set_of, one_of, in_ranges, with_item, items, bracketed, bracket, escaped, brace, first_token, with_token, tokens}
 use Rattle.rawk_search.specs.Repeats.{or_left, or_right}
-use Rattle.rawk_ere.proofs.ByteSetLemmas.{set_same}
+use Rattle.rawk_ere.specs.ByteSetLemmas.{set_same}
 use Rattle.rawk_search.proofs.SetLemmas.{set_is}
 use Rattle.rawk_search.proofs.ShortLemmas.{Under, after_token, item_under, items_on, first_under}
 

@@ -25,7 +25,7 @@ use Rattle.rawk_words.specs.declared.operator.Extent.{Extent}
 use Rattle.rawk_words.specs.declared.operator.Extent.TheVariants as extent
 use Rattle.rawk_builtin_trees.specs.Calls.{has_builtin}
 use Rattle.rawk_names.specs.Mentions.{AsScalar, AsArray, Measured, Called, Pattern, Seen, all, every, builtin_name, builtin_at, builtin_arguments, call_arguments, seen, place_seen, link_mentions, mentions, place_mentions}
-use Rattle.rawk_names.proofs.SeenLaws.{seen-Number, seen-Text, seen-Ere, seen-Group, seen-Before, seen-After, seen-Power, seen-Signed, seen-Chain, seen-In, seen-ListIn, seen-Logic, seen-Choice, seen-Assign, seen-Builtin, seen-Call, seen-Getline, seen-GetlineTo, seen-Of, place_seen-Name, place_seen-Element, place_seen-Field, link_mentions-is, name-Of, place_name-Name}
+use Rattle.rawk_names.specs.SeenLaws.{seen-Number, seen-Text, seen-Ere, seen-Group, seen-Before, seen-After, seen-Power, seen-Signed, seen-Chain, seen-In, seen-ListIn, seen-Logic, seen-Choice, seen-Assign, seen-Builtin, seen-Call, seen-Getline, seen-GetlineTo, seen-Of, place_seen-Name, place_seen-Element, place_seen-Field, link_mentions-is, name-Of, place_name-Name}
 use Rattle.rawk_resolution.specs.Meant.{Sense}
 use Rattle.rawk_resolution.specs.Settled.{extent_of}
 use Rattle.rawk_resolution.specs.InOrder.{Use, place_step, names_array, names_scalar, calls, each, use_of, place_use, in_order, place_in_order, link_in_order, changes}

@@ -21,8 +21,8 @@ use Rattle.rawk_grammar.specs.Grammar.{Acts, Jumps, Encloses, Simply, Tests, Hea
 use Rattle.rawk_grammar.specs.Grammar as rule
 use Rattle.rawk_names.specs.Mentions.{Mention, AsScalar, AsArray, all, every, seen, place_seen, mentions}
 use Rattle.rawk_names.specs.Statements.{act_mentions, jump_mentions, maybe_expr, maybe_statement, deleted, stmt_mentions, branch_mentions, head_mentions}
-use Rattle.rawk_names.proofs.SeenLaws.{place_seen-Name, place_seen-Element}
-use Rattle.rawk_names.proofs.StatementLaws.{stmt-Simple, stmt-Jump, stmt-Block, stmt-If, stmt-While, stmt-Do, stmt-For, stmt-ForIn, branch-is, head-is}
+use Rattle.rawk_names.specs.SeenLaws.{place_seen-Name, place_seen-Element}
+use Rattle.rawk_names.specs.StatementLaws.{stmt-Simple, stmt-Jump, stmt-Block, stmt-If, stmt-While, stmt-Do, stmt-For, stmt-ForIn, branch-is, head-is}
 use Rattle.rawk_resolution.specs.Meant.{Sense}
 use Rattle.rawk_resolution.specs.InOrder.{each, in_order, names_array, names_scalar, formatted, deletes, act_in_order, jump_in_order, maybe_in_order, keys_in_order, stmt_in_order, branch_in_order, other_in_order, head_parts}
 use Rattle.rawk_resolution.specs.Orders.{both}

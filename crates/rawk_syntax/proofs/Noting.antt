@@ -22,7 +22,7 @@ use Rattle.rawk_names.specs.Mentions.{Mention, AsScalar, AsArray, Measured, Pass
 use Rattle.rawk_names.specs.Noted.{Word, Noted, with_use, global, outer_at, meant_at, meant, use_of, named, parameter, takes, manner_of, computed_at, computed, called, pattern, noted, noted_all}
 use Rattle.rawk_names.specs.Statements.{action_mentions, pattern_mentions, given_mentions}
 use Rattle.rawk_names.specs.Items.{checked_at, parameter_checked, parameters_checked, within, scope_of, inside, item_noted, all_noted}
-use Rattle.rawk_names.proofs.Tables.{kept, added}
+use Rattle.rawk_names.specs.Tables.{kept, added}
 
 -- ---- lists that grow
 

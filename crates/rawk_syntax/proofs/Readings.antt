@@ -12,7 +12,7 @@ use Rattle.rawk_grammar.specs.Texts as grammar
 use Rattle.rawk_names.specs.declared.names.NameError.{NameError}
 use Rattle.rawk_names.specs.Items as naming
 use Rattle.rawk_names.specs.Named.{Known, IsNamed, IsRefused}
-use Rattle.rawk_names.proofs.Refusals.{refused_once, named_or_refused}
+use Rattle.rawk_names.specs.Refusals.{refused_once, named_or_refused}
 use Rattle.rawk_tree.specs.declared.tree.Program.{Program}
 use Rattle.rawk_syntax.specs.Laid.{IsLaid}
 use Rattle.rawk_syntax.specs.Texts.{IsText, IsSettled, IsReading, IsOrderly, IsSettledAs, IsFlaw, IsFlawIn, IsFlawOf, IsMisnamed, IsRefusal, Tells, told, told_of}

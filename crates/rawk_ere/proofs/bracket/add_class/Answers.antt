@@ -1,7 +1,7 @@
 use Rattle.std.proofs.Common.{[], ◌∷◌, sym, subst}
 use Rattle.rawk_ere_tree.specs.ByteSets.{HasAlso, IsInRanges}
 use Rattle.rawk_ere.specs.Pattern.{ranges_of}
-use Rattle.rawk_ere.proofs.ByteSetLemmas.{also_range, also_ranges}
+use Rattle.rawk_ere.specs.ByteSetLemmas.{also_range, also_ranges}
 use Rattle.rawk_ere.proofs.bracket.add_class.Goals as goal
 
 pub returns-in-Alnum : goal.returns-in-Alnum

@@ -1,4 +1,4 @@
-use Rattle.rawk_ere.proofs.ByteSetLemmas.{byte_added}
+use Rattle.rawk_ere.specs.ByteSetLemmas.{byte_added}
 use Rattle.rawk_ere.proofs.byte_set.add.Goals as goal
 
 pub returns : goal.returns

@@ -1,6 +1,6 @@
 use Rattle.std.proofs.Common.{◌≡◌, ◌+◌, ◌<◌, ◌≤◌, inl, inr, arith}
 use Rattle.std.proofs.lemmas.Bool.{cases_eq}
-use Rattle.rawk_ere.proofs.ByteSetLemmas.{also_none, also_both, also_where}
+use Rattle.rawk_ere.specs.ByteSetLemmas.{also_none, also_both, also_where}
 use Rattle.rawk_ere.proofs.byte_set.add_range.Goals as goal
 
 pub loop-byte-init : goal.loop-byte-init

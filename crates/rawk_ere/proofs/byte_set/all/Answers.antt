@@ -1,5 +1,5 @@
 use Rattle.std.proofs.Common.{◌≤◌, ◌⊎◌, inr, arith}
-use Rattle.rawk_ere.proofs.ByteSetLemmas.{set_with, set_where}
+use Rattle.rawk_ere.specs.ByteSetLemmas.{set_with, set_where}
 use Rattle.rawk_ere.proofs.byte_set.all.Goals as goal
 
 pub returns : goal.returns

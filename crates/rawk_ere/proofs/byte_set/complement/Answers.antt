@@ -1,7 +1,7 @@
 use Rattle.std.proofs.Common.{◌≡◌, ◌+◌, ◌<◌, ◌⊎◌, inl, inr, arith, sym, subst, ◌∙◌, true≢false}
 use Rattle.std.proofs.lemmas.Bool.{cases_eq}
 use Rattle.rawk_ere_tree.specs.ByteSets.{IsIn, IsSetOf}
-use Rattle.rawk_ere.proofs.ByteSetLemmas.{set_with, set_where}
+use Rattle.rawk_ere.specs.ByteSetLemmas.{set_with, set_where}
 use Rattle.rawk_ere.proofs.byte_set.complement.Goals as goal
 use Rattle.rawk_ere.proofs.byte_set.complement.Goals.{then-not-is_in, else-not-is_in}
 

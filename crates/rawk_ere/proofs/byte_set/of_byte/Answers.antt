@@ -1,5 +1,5 @@
 use Rattle.std.proofs.Common.{◌≡◌, ◌⊎◌, inl, inr}
-use Rattle.rawk_ere.proofs.ByteSetLemmas.{set_with, set_where}
+use Rattle.rawk_ere.specs.ByteSetLemmas.{set_with, set_where}
 use Rattle.rawk_ere.proofs.byte_set.of_byte.Goals as goal
 
 pub returns : goal.returns

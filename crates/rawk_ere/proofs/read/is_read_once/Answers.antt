@@ -1,4 +1,4 @@
-use Rattle.rawk_ere.proofs.PatternOfLemmas.{read_once}
+use Rattle.rawk_ere.specs.PatternOfLemmas.{read_once}
 use Rattle.rawk_ere.proofs.read.is_read_once.Goals as goal
 
 pub returns : goal.returns

@@ -1,7 +1,7 @@
 use Rattle.std.proofs.Common.{◌≡◌, ◌∙◌, [], sym, subst, rules, Some, false, true}
 use Rattle.rawk_ere.specs.Reading.{run, fresh, is_formed, IsTreeRefused}
 use Rattle.rawk_ere.specs.PatternOf.{IsPatternOf, IsRefused}
-use Rattle.rawk_ere.proofs.PatternOfLemmas.{unformed, no_tree, is_read, too_large}
+use Rattle.rawk_ere.specs.PatternOfLemmas.{unformed, no_tree, is_read, too_large}
 use Rattle.rawk_ere.proofs.read.read.Goals as goal
 
 pub returns-then-not-is_well_formed-clause-refused : goal.returns-then-not-is_well_formed-clause-refused

@@ -2,7 +2,7 @@ use Rattle.std.proofs.Common.{◌+◌, [], drop, reverse, get_or, rules}
 use Rattle.std.proofs.lemmas.List.{drop_more}
 use Rattle.rawk_ere.specs.declared.token.Token.TheVariants.{OneOf}
 use Rattle.rawk_ere.specs.Reading.{run, fresh, IsTreeRefused}
-use Rattle.rawk_ere.proofs.ReadingLemmas.{refused_from}
+use Rattle.rawk_ere.specs.ReadingLemmas.{refused_from}
 use Rattle.rawk_ere.proofs.read.read_tokens.Goals as goal
 
 pub returns-in_err-inner-clause-refused : goal.returns-in_err-inner-clause-refused

@@ -1,7 +1,7 @@
 use Rattle.std.proofs.Common.{◌+◌, ◌≤◌, drop, get_or, length}
 use Rattle.std.proofs.Math.ListN.{drop_of_length-le}
 use Rattle.std.proofs.lemmas.List.{drop_more}
-use Rattle.rawk_ere.proofs.ScanLemmas.{scan_more, scan_end, scan_none}
+use Rattle.rawk_ere.specs.ScanLemmas.{scan_more, scan_end, scan_none}
 use Rattle.rawk_ere.proofs.scan.scan.Goals as goal
 
 pub returns-in-None-clause-refused : goal.returns-in-None-clause-refused

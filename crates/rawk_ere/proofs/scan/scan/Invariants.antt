@@ -1,5 +1,5 @@
 use Rattle.std.proofs.Common.{◌≤◌, ◌-◌, drop, length}
-use Rattle.rawk_ere.proofs.ScanLemmas.{Scanning}
+use Rattle.rawk_ere.specs.ScanLemmas.{Scanning}
 use Rattle.rawk_ere.proofs.scan.scan.Given as goal
 
 abbrev pub invariant-loop-at : goal.invariant-loop-at

@@ -1,5 +1,5 @@
 use Rattle.std.proofs.Common.{rules}
-use Rattle.rawk_ere_tree.proofs.SetLemmas.{adds_where}
+use Rattle.rawk_ere_tree.specs.SetLemmas.{adds_where}
 use Rattle.rawk_ere_automaton.proofs.walk.add_first.Goals as goal
 
 pub returns-then-begins-clause-adds : goal.returns-then-begins-clause-adds

@@ -3,7 +3,7 @@ use Rattle.rawk_ere_tree.specs.declared.code.Instruction.{Instruction}
 use Rattle.std.specs.Prelude.{IsTrue}
 use Rattle.rawk_ere_tree.specs.Code.{Hops}
 use Rattle.rawk_ere_tree.specs.StateSets.{Adds}
-use Rattle.rawk_ere_tree.proofs.SetLemmas.{adds_both, adds_where}
+use Rattle.rawk_ere_tree.specs.SetLemmas.{adds_both, adds_where}
 use Rattle.rawk_ere_automaton.proofs.walk.hop.Goals as goal
 
 pub returns-then-first-clause-adds : goal.returns-then-first-clause-adds

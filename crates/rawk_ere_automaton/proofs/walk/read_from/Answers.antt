@@ -1,5 +1,5 @@
 use Rattle.std.proofs.Common.{rules}
-use Rattle.rawk_ere_tree.proofs.SetLemmas.{adds_where}
+use Rattle.rawk_ere_tree.specs.SetLemmas.{adds_where}
 use Rattle.rawk_ere_automaton.proofs.walk.read_from.Goals as goal
 
 pub returns-then-reads_from-clause-adds : goal.returns-then-reads_from-clause-adds

@@ -1,7 +1,7 @@
 use Rattle.std.proofs.Common.{arith}
 use Rattle.std.proofs.lemmas.Grind.{common_steps}
 use Rattle.rawk_expression.specs.Expression.{arrays, arrays_from}
-use Rattle.rawk_parsing.proofs.Turns.{one_more, no_more}
+use Rattle.rawk_parsing.specs.Turns.{one_more, no_more}
 use Rattle.rawk_expression.proofs.operands.arrays.Goals as goal
 
 pub loop-turn-init : goal.loop-turn-init

@@ -2,8 +2,8 @@ use Rattle.std.proofs.Common.{◌≡◌, List, map, subst, sym}
 use Rattle.rawk_parsing.specs.declared.tree.Expr.{Expr}
 use Rattle.rawk_names.specs.Mentions.{all, every, seen, mentions, link_mentions, builtin_at, call_at}
 use Rattle.rawk_names.specs.Noted.{noted_all, shown}
-use Rattle.rawk_names.proofs.SeenLaws.{link_mentions-is}
-use Rattle.rawk_names.proofs.Walks.{one_more, all-push, every-push, builtin-more, call-more}
+use Rattle.rawk_names.specs.SeenLaws.{link_mentions-is}
+use Rattle.rawk_names.specs.Walks.{one_more, all-push, every-push, builtin-more, call-more}
 use Rattle.rawk_names.proofs.expressions.+walk.Goals as goal
 
 pub note_list-loop-e-preserved : goal.note_list-loop-e-preserved

@@ -1,5 +1,5 @@
 use Rattle.std.proofs.Common.{sym}
-use Rattle.rawk_names.proofs.SeenLaws.{nameless}
+use Rattle.rawk_names.specs.SeenLaws.{nameless}
 use Rattle.rawk_names.proofs.expressions.name_of.Goals as goal
 
 pub returns-in_default : goal.returns-in_default

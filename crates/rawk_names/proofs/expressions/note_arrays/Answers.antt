@@ -1,5 +1,5 @@
 use Rattle.rawk_names.specs.Noted.{shown}
-use Rattle.rawk_names.proofs.Walks.{arrays-more}
+use Rattle.rawk_names.specs.Walks.{arrays-more}
 use Rattle.rawk_names.proofs.expressions.note_arrays.Goals as goal
 
 pub loop-array-preserved : goal.loop-array-preserved

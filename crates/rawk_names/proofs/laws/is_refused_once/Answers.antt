@@ -1,4 +1,4 @@
-use Rattle.rawk_names.proofs.Refusals.{refused_once}
+use Rattle.rawk_names.specs.Refusals.{refused_once}
 use Rattle.rawk_names.proofs.laws.is_refused_once.Goals as goal
 
 pub returns : goal.returns

@@ -4,7 +4,7 @@ use Rattle.rawk_grammar.specs.declared.tree.Branch.{Branch}
 use Rattle.rawk_names.specs.Mentions.{every}
 use Rattle.rawk_names.specs.Noted.{noted_all, shown}
 use Rattle.rawk_names.specs.Statements.{branch_mentions, stmt_mentions}
-use Rattle.rawk_names.proofs.Walks.{one_more, every-push}
+use Rattle.rawk_names.specs.Walks.{one_more, every-push}
 use Rattle.rawk_names.proofs.statements.+bodies.Goals as goal
 
 pub note_branches-loop-branch-preserved : goal.note_branches-loop-branch-preserved

@@ -1,5 +1,5 @@
 use Rattle.rawk_keys.specs.ArrayKey.{array_key}
-use Rattle.rawk_names.proofs.Tables.{found, found_within}
+use Rattle.rawk_names.specs.Tables.{found, found_within}
 use Rattle.rawk_names.proofs.table.find_in.Goals as goal
 
 pub returns-clause-value : goal.returns-clause-value

@@ -1,7 +1,7 @@
 use Rattle.std.proofs.Common.{rules, arith}
 use Rattle.std.proofs.lemmas.Grind.{common_steps}
 use Rattle.rawk_parsing.specs.Parser.{newlines, newlines_from}
-use Rattle.rawk_parsing.proofs.Turns.{one_more, no_more}
+use Rattle.rawk_parsing.specs.Turns.{one_more, no_more}
 use Rattle.rawk_parsing.proofs.tokens.skip_newlines.Goals as goal
 
 pub loop-turn-init : goal.loop-turn-init

@@ -1,7 +1,7 @@
 use Rattle.std.specs.Prelude.{slice_set}
 use Rattle.std.proofs.Common.{◌≡◌, ℕ, List, ◌<◌, true, false, length, arith, sym, subst, ◌∙◌, length-set}
 use Rattle.std.proofs.lemmas.List.{get_or_read}
-use Rattle.rawk_ere_tree.proofs.SetLemmas.{has_room, marks_more, adds_one, adds_past, adds_marked}
+use Rattle.rawk_ere_tree.specs.SetLemmas.{has_room, marks_more, adds_one, adds_past, adds_marked}
 use Rattle.rawk_ere_tree.specs.StateSets.{AreMarks, Adds}
 use Rattle.rawk_ere_tree.proofs.set.StateSet.add.Goals as goal
 use Rattle.rawk_ere_tree.proofs.set.StateSet.add.Goals.{then-state-len-via-then-state-len, then-state-len-via-else-state-len+then-index}

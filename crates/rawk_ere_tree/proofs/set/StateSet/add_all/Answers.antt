@@ -1,5 +1,5 @@
 use Rattle.std.proofs.Common.{arith, ◌∙◌}
-use Rattle.rawk_ere_tree.proofs.SetLemmas.{adds_next, adds_all}
+use Rattle.rawk_ere_tree.specs.SetLemmas.{adds_next, adds_all}
 use Rattle.rawk_ere_tree.proofs.set.StateSet.add_all.Goals as goal
 
 pub loop-index-preserved : goal.loop-index-preserved

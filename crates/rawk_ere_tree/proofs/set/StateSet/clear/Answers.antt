@@ -1,7 +1,7 @@
 use Rattle.std.proofs.Common.{◌≡◌, ◌<◌, ℕ, false, true, length, get_or, sym, subst, arith}
 use Rattle.std.specs.Prelude.{Contains}
 use Rattle.rawk_ere_tree.specs.StateSets.{AreMarks}
-use Rattle.rawk_ere_tree.proofs.SetLemmas.{member_within, no_marks}
+use Rattle.rawk_ere_tree.specs.SetLemmas.{member_within, no_marks}
 use Rattle.rawk_ere_tree.proofs.set.StateSet.clear.Goals as goal
 
 pub unmark-requires : goal.unmark-requires

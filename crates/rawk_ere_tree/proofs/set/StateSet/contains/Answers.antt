@@ -1,6 +1,6 @@
 use Rattle.std.proofs.Common.{arith, rules, ℕ, List, length, ◌≤◌, sym, subst}
 use Rattle.std.specs.Prelude.{Contains}
-use Rattle.rawk_ere_tree.proofs.SetLemmas.{not_past}
+use Rattle.rawk_ere_tree.specs.SetLemmas.{not_past}
 use Rattle.rawk_ere_tree.proofs.set.StateSet.contains.Goals as goal
 
 pub returns-else-state-len : goal.returns-else-state-len

@@ -2,7 +2,7 @@ use Rattle.std.proofs.Common.{ℕ, List, sym, ap, subst}
 use Rattle.std.specs.Prelude.{Contains}
 use Rattle.std.specs.Cmp.{booleans_Decides}
 use Rattle.std.proofs.lemmas.Slice.Eq.{slice_eq-Decides}
-use Rattle.rawk_ere_tree.proofs.SetLemmas.{same_members}
+use Rattle.rawk_ere_tree.specs.SetLemmas.{same_members}
 use Rattle.rawk_ere_tree.proofs.set.StateSet.is_same.Goals as goal
 
 pub returns : goal.returns

@@ -1,7 +1,7 @@
 use Rattle.std.proofs.Common.{◌≡◌, ◌-◌, arith}
 use Rattle.std.proofs.lemmas.Grind.{common_steps}
 use Rattle.rawk_expression.specs.Expression.{further, further_from, joined, begun, junction, expression}
-use Rattle.rawk_parsing.proofs.Turns.{one_more, no_more, deeper}
+use Rattle.rawk_parsing.specs.Turns.{one_more, no_more, deeper}
 use Rattle.rawk_expression.proofs.grammar.Grammar.+junctions.Goals as goal
 
 pub junction-returns-in_err-first : goal.junction-returns-in_err-first

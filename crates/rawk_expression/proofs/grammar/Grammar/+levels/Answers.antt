@@ -1,7 +1,7 @@
 use Rattle.std.proofs.Common.{◌≡◌, ◌-◌, None, arith}
 use Rattle.std.proofs.lemmas.Grind.{common_steps}
 use Rattle.rawk_expression.specs.Expression.{links, links_from, level, expression, link}
-use Rattle.rawk_parsing.proofs.Turns.{one_more, no_more, deeper}
+use Rattle.rawk_parsing.specs.Turns.{one_more, no_more, deeper}
 use Rattle.rawk_expression.proofs.grammar.Grammar.+levels.Goals as goal
 
 pub level-returns-in_err-first : goal.level-returns-in_err-first

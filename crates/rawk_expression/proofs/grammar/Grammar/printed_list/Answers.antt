@@ -1,7 +1,7 @@
 use Rattle.std.proofs.Common.{true, arith}
 use Rattle.std.proofs.lemmas.Grind.{common_steps}
 use Rattle.rawk_expression.specs.Expression.{list, list_from, whole, expression}
-use Rattle.rawk_parsing.proofs.Turns.{one_more, no_more}
+use Rattle.rawk_parsing.specs.Turns.{one_more, no_more}
 use Rattle.rawk_expression.proofs.grammar.Grammar.printed_list.Goals as goal
 
 pub loop-turn-init : goal.loop-turn-init

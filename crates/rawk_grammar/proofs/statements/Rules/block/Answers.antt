@@ -1,7 +1,7 @@
 use Rattle.std.proofs.Common.{arith}
 use Rattle.std.proofs.lemmas.Grind.{common_steps}
 use Rattle.rawk_grammar.specs.Statement.{block, block_from, statement}
-use Rattle.rawk_parsing.proofs.Turns.{one_more, no_more}
+use Rattle.rawk_parsing.specs.Turns.{one_more, no_more}
 use Rattle.rawk_grammar.proofs.statements.Rules.block.Goals as goal
 
 pub loop-turn-init : goal.loop-turn-init

@@ -2,7 +2,7 @@ use Rattle.std.proofs.Common.{sym, ap, ◌∙◌, arith}
 use Rattle.std.proofs.lemmas.Grind.{common_steps}
 use Rattle.rawk_grammar.specs.Statement.{chain, chain_from, statement}
 use Rattle.rawk_grammar.specs.Dangling.{branch_dangles}
-use Rattle.rawk_parsing.proofs.Turns.{one_more, no_more}
+use Rattle.rawk_parsing.specs.Turns.{one_more, no_more}
 use Rattle.rawk_grammar.proofs.NoElse.{none_found}
 use Rattle.rawk_grammar.proofs.statements.Rules.chain.Goals as goal
 

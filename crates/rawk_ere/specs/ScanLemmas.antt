@@ -9,7 +9,7 @@ use Rattle.rawk_ere.specs.declared.bracket.BracketPlace.{BracketPlace}
 use Rattle.rawk_ere.specs.declared.bracket.Item.{Item}
 use Rattle.rawk_ere_tree.specs.ByteSets.{IsSetOf, IsInRanges}
 use Rattle.rawk_ere.specs.Pattern.{Items, closed, more, ranges_in, IsBracket, Braced, Itself, Wrong, Interval, braced, kind_of, IsOneOf, IsBracketed, IsBraced, IsFirstToken, IsToken, AreTokens}
-use Rattle.rawk_ere.proofs.ByteSetLemmas.{set_same}
+use Rattle.rawk_ere.specs.ByteSetLemmas.{set_same}
 
 same_set : (P : ℕ → Type 0) (t u : Token) → IsOneOf P t → IsOneOf P u → t ≡ u
 same_set P (token.OneOf a) (token.OneOf b) x y = ap token.OneOf (set_same P a b x y)

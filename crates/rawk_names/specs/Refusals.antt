@@ -4,7 +4,7 @@ use Rattle.std.proofs.lemmas.Option.{slice_get_within}
 use Rattle.std.proofs.lemmas.Bool.{ltb-true, ltb-false}
 use Rattle.std.specs.Prelude.{nat_lt}
 use Rattle.rawk_ere_tree.specs.Tree.{IsWithinLimits}
-use Rattle.rawk_ere.proofs.PatternOfLemmas.{read_once}
+use Rattle.rawk_ere.specs.PatternOfLemmas.{read_once}
 use Rattle.rawk_keys.specs.ArrayKey.{ArrayKey}
 use Rattle.rawk_names.specs.declared.names.NameError.{NameError}
 use Rattle.rawk_names.specs.declared.names.NameError.TheVariants as error

@@ -12,7 +12,7 @@ use Rattle.rawk_grammar.specs.declared.tree.Branch.{Branch}
 use Rattle.rawk_grammar.specs.declared.tree.Head.{Head}
 use Rattle.rawk_names.specs.Mentions.{Mention, AsScalar, AsArray, every, mentions}
 use Rattle.rawk_names.specs.Statements.{act_mentions, jump_mentions, action_mentions, maybe_expr, maybe_statement, stmt_step, branch_step, head_step, stmt_mentions, branch_mentions, head_mentions}
-use Rattle.rawk_names.proofs.Walks.{noted_all-append}
+use Rattle.rawk_names.specs.Walks.{noted_all-append}
 
 pub stmt-Empty : stmt_mentions stmt.Empty ≡ []
 unfolding stmt_mentions branch_mentions head_mentions

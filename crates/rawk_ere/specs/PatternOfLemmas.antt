@@ -7,8 +7,8 @@ use Rattle.rawk_ere_tree.specs.Tree.{Tree, size_of}
 use Rattle.rawk_ere.specs.Pattern.{AreTokens, IsScanRefused}
 use Rattle.rawk_ere.specs.Reading.{run, fresh, is_formed, IsTreeRefused}
 use Rattle.rawk_ere.specs.PatternOf.{IsPatternOf, IsRefused}
-use Rattle.rawk_ere.proofs.ScanLemmas.{tokens_same}
-use Rattle.rawk_ere.proofs.ReadingLemmas.{read_all, derived_all, tree_of_formed, none_of_unformed}
+use Rattle.rawk_ere.specs.ScanLemmas.{tokens_same}
+use Rattle.rawk_ere.specs.ReadingLemmas.{read_all, derived_all, tree_of_formed, none_of_unformed}
 
 -- the tokens that were found are those of each reading
 pub run_of : (pattern : List ℕ) (ts : List Token) (e : Tree) → AreTokens pattern ts → IsPatternOf pattern e → run [] fresh ts ≡ Some e

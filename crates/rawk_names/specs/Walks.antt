@@ -9,7 +9,7 @@ use Rattle.rawk_parsing.specs.declared.tree.Expr.{Expr}
 use Rattle.rawk_names.specs.declared.usage.Manner.TheVariants.{Array}
 use Rattle.rawk_names.specs.Mentions.{Mention, AsArray, all, every, builtin_arguments, builtin_at, call_arguments, call_at, seen, mentions}
 use Rattle.rawk_names.specs.Noted.{Noted, named, noted, noted_all}
-use Rattle.rawk_names.proofs.SeenLaws.{mentions-Number, mentions-Text, mentions-Ere, mentions-Of, mentions-Group, mentions-Before, mentions-After, mentions-Power, mentions-Signed, mentions-Chain, mentions-In, mentions-ListIn, mentions-Logic, mentions-Choice, mentions-Assign, mentions-Builtin, mentions-Call, mentions-Getline, mentions-GetlineTo, place_mentions-Name, place_mentions-Element, place_mentions-Field, place_name-Name, place_name-Element, place_name-Field, name-Of}
+use Rattle.rawk_names.specs.SeenLaws.{mentions-Number, mentions-Text, mentions-Ere, mentions-Of, mentions-Group, mentions-Before, mentions-After, mentions-Power, mentions-Signed, mentions-Chain, mentions-In, mentions-ListIn, mentions-Logic, mentions-Choice, mentions-Assign, mentions-Builtin, mentions-Call, mentions-Getline, mentions-GetlineTo, place_mentions-Name, place_mentions-Element, place_mentions-Field, place_name-Name, place_name-Element, place_name-Field, name-Of}
 
 pub noted_all-append : (ms ns : List Mention) (n : Noted) → noted_all (ms ++ ns) n ≡ noted_all ns (noted_all ms n)
 noted_all-append [] ns n = refl
