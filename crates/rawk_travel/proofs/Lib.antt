@@ -6,3 +6,4 @@ pub mod Travels
 pub mod Turns
 pub mod Calls
 pub mod Oks
+pub mod Leadings
