@@ -10,7 +10,7 @@ ghost use Rattle.rawk_operands.specs.Moving.{moving};
 ghost use Rattle.rawk_operate.specs.Done.{Done};
 
 use crate::assign::{drop_place, target_by};
-use crate::transfer::{Transfer, faulted};
+use crate::transfer::{Transfer, over};
 use rawk_code::{Destination, Instr};
 use rawk_operands::borrowed::popped_borrowed;
 use rawk_operands::place::put_in;
@@ -64,7 +64,7 @@ pub fn assign_key<const SAVES: bool>(
     drop_place(store, to);
     let refused = put_in::<SAVES>(alloc, store, &place, Value::String(key))?;
     match refused {
-        Some(fault) => Ok(faulted(fault)),
+        Some(fault) => Ok(over(fault)),
         None => {
             store.keys.advance::<SAVES>()?;
             Ok(Transfer::Next)

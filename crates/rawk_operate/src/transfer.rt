@@ -1,6 +1,7 @@
 //! Where an instruction leads.
 
 ghost use Rattle.std.specs.Prelude.{◌≡◌};
+ghost use Rattle.rawk_operate.specs.Done.{led_by};
 
 use rawk_store::registers::Ending;
 use rawk_value::Fault;
@@ -32,8 +33,37 @@ pub enum Transfer {
     Return,
 }
 
+/// What came of an operation.
+#[derive(Clone, Copy)]
+pub enum Outcome {
+    /// it leads to the next instruction
+    Next,
+    /// its fault ends the run
+    Faulted(Fault),
+}
+
+/// Where an operation leads.
+#[inline(always)]
+pub fn led_by(outcome: Outcome) -> Transfer
+    ensures { result ≡ led_by outcome }
+{
+    match outcome {
+        Outcome::Next => Transfer::Next,
+        Outcome::Faulted(fault) => over(fault),
+    }
+}
+
+/// A fault of an operation ends the run.
+#[inline(always)]
+pub fn faulted(fault: Fault) -> Outcome
+    ensures { led_by result ≡ Transfer.Over (Ending.Faulted fault) }
+{
+    Outcome::Faulted(fault)
+}
+
 /// A fault ends the run.
-pub fn faulted(fault: Fault) -> Transfer
+#[inline(always)]
+pub fn over(fault: Fault) -> Transfer
     ensures { result ≡ Transfer.Over (Ending.Faulted fault) }
 {
     Transfer::Over(Ending::Faulted(fault))

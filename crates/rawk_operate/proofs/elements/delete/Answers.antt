@@ -2,10 +2,11 @@ use Rattle.std.proofs.Common.{ap}
 use Rattle.rawk_arrays.specs.Laid.{arrays_of}
 use Rattle.rawk_operands.specs.Moving.{moving, moving_of}
 use Rattle.rawk_operate.proofs.Subscripts.{delete_faults, element_deleted}
+use Rattle.rawk_operate.specs.Done.{led_by}
 use Rattle.rawk_operate.proofs.elements.delete.Goals as goal
 
 pub returns-in-Err-clause-did : goal.returns-in-Err-clause-did
-returns-in-Err-clause-did g c = delete_faults c.args.array c.args.from.now (moving c.args.store.now) c.in_ok-subscript.subscript c.in-Err.fault c.faulted.result c.in_ok-subscript.ensures c.in-Err.is c.faulted.ensures
+returns-in-Err-clause-did g c = delete_faults c.args.array c.args.from.now (moving c.args.store.now) c.in_ok-subscript.subscript c.in-Err.fault (led_by c.faulted.result) c.in_ok-subscript.ensures c.in-Err.is c.faulted.ensures
 
 pub returns-in_ok-delete_element-in-Ok-clause-did : goal.returns-in_ok-delete_element-in-Ok-clause-did
 returns-in_ok-delete_element-in-Ok-clause-did g c =

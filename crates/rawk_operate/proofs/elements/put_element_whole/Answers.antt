@@ -3,13 +3,13 @@ use Rattle.rawk_operators.specs.Borrowed.{borrowed_value}
 use Rattle.rawk_code.specs.declared.code.Op.TheVariants as does
 use Rattle.rawk_code.specs.declared.code.Instr.TheVariants as instr
 use Rattle.rawk_operate.specs.declared.transfer.Transfer.TheVariants as transfer
-use Rattle.rawk_operate.specs.Done.{Done}
+use Rattle.rawk_operate.specs.Done.{led_by, Done}
 use Rattle.rawk_operands.specs.Moving.{Moving, moving}
 use Rattle.rawk_operate.proofs.Subscripts.{element_faults, element_put, subscript_in}
 use Rattle.rawk_operate.proofs.elements.put_element_whole.Goals as goal
 
 pub returns-in-Err-clause-did : goal.returns-in-Err-clause-did
-returns-in-Err-clause-did g c = element_faults c.args.array c.args.from.now (moving c.args.store.now) c.in_ok-subscript.subscript c.in-Err.fault c.faulted.result c.in_ok-subscript.ensures c.in-Err.is c.faulted.ensures
+returns-in-Err-clause-did g c = element_faults c.args.array c.args.from.now (moving c.args.store.now) c.in_ok-subscript.subscript c.in-Err.fault (led_by c.faulted.result) c.in_ok-subscript.ensures c.in-Err.is c.faulted.ensures
 
 pub returns-in_ok-put-in-Ok-clause-did : goal.returns-in_ok-put-in-Ok-clause-did
 returns-in_ok-put-in-Ok-clause-did g c =

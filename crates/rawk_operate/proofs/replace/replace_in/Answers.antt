@@ -4,6 +4,7 @@ use Rattle.rawk_code.specs.declared.code.Op.TheVariants as does
 use Rattle.rawk_operands.specs.Moving.{HasPut, Moving, moving}
 use Rattle.rawk_operate.proofs.Faults.{put_faults, put_pushes}
 use Rattle.rawk_operate.proofs.Replaces.{left_below, left_parts, left_read, place_in, replace_assigns, replace_misses, replace_refused, replaced_known}
+use Rattle.rawk_operate.specs.Done.{led_by}
 use Rattle.rawk_operate.proofs.replace.replace_in.Goals as goal
 
 pub returns-in-Err-clause-did : goal.returns-in-Err-clause-did
@@ -12,7 +13,7 @@ returns-in-Err-clause-did g c =
     let mid = moving c.drop_place.new.store in
     let at = c.in_ok-place.ensures m.operands c.popped_borrowed.ensures in
     let is = replaced_known c.args.extent c.args.from.now c.args.to m mid c.in_ok-place.place c.in_ok-made.made (Err c.in-Err.fault) at c.drop_place.ensures.did c.in_ok-made.ensures c.in-Err.is in
-    replace_refused c.args.extent c.args.from.now c.args.to m mid c.in-Err.fault c.faulted.result c.drop_place.ensures.did is c.faulted.ensures
+    replace_refused c.args.extent c.args.from.now c.args.to m mid c.in-Err.fault (led_by c.faulted.result) c.drop_place.ensures.did is c.faulted.ensures
 
 pub returns-in-Ok-None-clause-did : goal.returns-in-Ok-None-clause-did
 returns-in-Ok-None-clause-did g c =
@@ -37,7 +38,7 @@ returns-in-Some-clause-did g c =
     let at = c.in_ok-place.ensures m.operands c.popped_borrowed.ensures in
     let is = replaced_known c.args.extent from x m mid c.in_ok-place.place c.in_ok-made.made (Ok (Some r)) at c.drop_place.ensures.did c.in_ok-made.ensures (c.in-Ok-Some.is ∙ ap Ok c.in-Ok-Some.field-0-is) in
     let left = left_parts from x m mid bare c.drop_place.ensures.did c.drop_replacement-in-Ok-Some.ensures.did in
-    put_faults (does.Replace c.args.extent from x) (place_in x m) c.in_ok-place.place (String r.text) (String r.text) (Number (pos r.count) ∷ left_below from x m) (left_below from x m) m (moving c.put_in.new.store) c.in_ok-refused-in-Ok-Some.refused c.in-Some.fault c.faulted-in-Some.result
+    put_faults (does.Replace c.args.extent from x) (place_in x m) c.in_ok-place.place (String r.text) (String r.text) (Number (pos r.count) ∷ left_below from x m) (left_below from x m) m (moving c.put_in.new.store) c.in_ok-refused-in-Ok-Some.refused c.in-Some.fault (led_by c.faulted-in-Some.result)
     (replace_assigns c.args.extent from x m r is) at refl (subst (λ (y : Moving). HasPut c.in_ok-place.place (String r.text) c.in_ok-refused-in-Ok-Some.refused y (moving c.put_in.new.store)) left c.in_ok-refused-in-Ok-Some.ensures.did) c.in-Some.is c.faulted-in-Some.ensures
 
 pub returns-clause-did : goal.returns-clause-did

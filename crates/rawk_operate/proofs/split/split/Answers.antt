@@ -13,13 +13,14 @@ use Rattle.rawk_arrays.specs.Laid.{arrays_of}
 use Rattle.rawk_store.specs.State.{array_in, fill_elements}
 use Rattle.rawk_operands.specs.Moving.{left_in, moving}
 use Rattle.rawk_operate.proofs.Splits.{parts_in, split_faults, split_makes}
+use Rattle.rawk_operate.specs.Done.{led_by}
 use Rattle.rawk_operate.proofs.split.split.Goals as goal
 
 pub returns-in-Err-clause-did : goal.returns-in-Err-clause-did
 returns-in-Err-clause-did g c =
     let from = c.args.from.now in
     let m = moving c.args.store.now in
-    split_faults c.args.how c.args.array from m c.in-Err.fault c.faulted.result (subst (λ (r : Result Fields Fault). Separates (text_of (left_in from m)) (parts_in c.args.how from m) r) c.in-Err.is c.in_ok-made.ensures) c.faulted.ensures
+    split_faults c.args.how c.args.array from m c.in-Err.fault (led_by c.faulted.result) (subst (λ (r : Result Fields Fault). Separates (text_of (left_in from m)) (parts_in c.args.how from m) r) c.in-Err.is c.in_ok-made.ensures) c.faulted.ensures
 
 pub returns-in_ok-put-in-Ok-clause-did : goal.returns-in_ok-put-in-Ok-clause-did
 returns-in_ok-put-in-Ok-clause-did g c =
