@@ -238,7 +238,7 @@ impl<M: Stepper> Session<M> {
     }
 
     /// `step`, `next`, `finish`, `continue`, and each of them backward.
-    fn travel(&mut self, alloc: Global, way: Way, goal: Goal) -> Result<Answer, C>
+    fn go(&mut self, alloc: Global, way: Way, goal: Goal) -> Result<Answer, C>
         ensures executes { (input : Input) → M.may_be self.new.machine input
             → Executes input (Command.Move way goal) (stand M.position self.old) result (M.before self.new.machine) (stand M.position self.new) }
         ensures ready { IfOk result (λ answer. IsReady (M.fresh self.new.machine) answer) }
@@ -302,7 +302,7 @@ impl<M: Stepper> Session<M> {
             Command::Watch(place) => self.watch(place),
             Command::Delete(number) => self.delete(true, number),
             Command::Unwatch(number) => self.delete(false, number),
-            Command::Move(way, goal) => self.travel(alloc, way, goal),
+            Command::Move(way, goal) => self.go(alloc, way, goal),
             Command::Run => Ok(self.run(alloc)),
             Command::Print(place) => self.print(place),
             Command::Set(place, constant) => self.set(alloc, place, constant),

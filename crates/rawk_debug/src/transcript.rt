@@ -62,7 +62,7 @@ fn lost(answer: &Answer) -> C
 }
 
 /// The reply of an answer: the output that it shows and its text behind that, or where that is refused memory the line that stands for it.
-fn told<M: Stepper>(alloc: Global, session: &Session<M>, answer: Answer) -> Reply
+fn reply_to<M: Stepper>(alloc: Global, session: &Session<M>, answer: Answer) -> Reply
     requires { IsReady (M.fresh session.now.machine) answer }
     ensures says { (input : Input) → M.may_be session.now.machine input
         → Says input (stand M.position session.now) (M.before session.now.machine) (Ok answer) (reply_text (M.held session.now.machine).state.output result) }
@@ -93,7 +93,7 @@ fn obey<M: Stepper>(alloc: Global, session: &mut Session<M>, command: Command) -
     ensures draws { Draws M.Device.over M.Device.handed (M.work session.old.machine) (M.work session.new.machine) }
 {
     match session.execute(alloc, command) {
-        Ok(answer) => told(alloc, session, answer),
+        Ok(answer) => reply_to(alloc, session, answer),
         Err(reason) => Reply::Line(reason),
     }
 }

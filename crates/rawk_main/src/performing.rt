@@ -71,13 +71,13 @@ fn seed<R: Files>(rt: &R) -> u64 {
 
 /// Tells a refusal, or shows the help, and answers the status.
 fn refused<R: Print + Eprint>(rt: &R, refusal: S) -> u8 {
-    let status = told(rt, &refusal);
+    let status = show_refusal(rt, &refusal);
     drop(refusal);
     status
 }
 
 /// The same of a refusal that stays.
-fn told<R: Print + Eprint>(rt: &R, refusal: &S) -> u8 {
+fn show_refusal<R: Print + Eprint>(rt: &R, refusal: &S) -> u8 {
     match refusal {
         S::Help(text) => match rt.print(text.as_str()) {
             Ok(()) => 0,

@@ -32,7 +32,7 @@ pub fn site_at(ending: Ending, site: Option<usize>) -> Option<usize>
 
 /// Enters the point number `count`, or ends the run there at the limit of steps; or ends it where instructions led to the end.
 #[inline]
-fn settle(store: &mut Store, to: Next, count: u64, limit: u64)
+fn enter_point(store: &mut Store, to: Next, count: u64, limit: u64)
     requires { HasRoom to store.old.registers.now.place }
     ensures did { moving store.new ≡ with_registers (settled to count limit store.old.registers.now) (moving store.old) }
     ensures start { start_of store.new ≡ start_of store.old }
@@ -90,7 +90,7 @@ pub fn step<R: Source + Drop>(
     store.known();
     match travel::<R, true>(alloc, expressions, code, store, tape, executed) {
         Ok(to) => {
-            settle(store, to, count, limit);
+            enter_point(store, to, count, limit);
             Ok(())
         }
         Err(refused) => {
@@ -126,7 +126,7 @@ pub fn pace<R: Source + Drop>(
 {
     match travel::<R, false>(alloc, expressions, code, store, tape, executed) {
         Ok(to) => {
-            settle(store, to, count, limit);
+            enter_point(store, to, count, limit);
             Ok(())
         }
         Err(refused) => Err(refused),

@@ -15,7 +15,7 @@ use Rattle.rawk_names.specs.Named.{Known, IsNamed, IsRefused}
 use Rattle.rawk_names.specs.Refusals.{refused_once, named_or_refused}
 use Rattle.rawk_tree.specs.declared.tree.Program.{Program}
 use Rattle.rawk_syntax.specs.Laid.{IsLaid}
-use Rattle.rawk_syntax.specs.Texts.{IsText, IsSettled, IsReading, IsOrderly, IsSettledAs, IsFlaw, IsFlawIn, IsFlawOf, IsMisnamed, IsRefusal, Tells, told, told_of}
+use Rattle.rawk_syntax.specs.Texts.{IsText, IsSettled, IsReading, IsOrderly, IsSettledAs, IsFlaw, IsFlawIn, IsFlawOf, IsMisnamed, IsRefusal, Tells, refusal_of, parse_error_of}
 
 -- ---- names in order
 
@@ -27,8 +27,8 @@ named_found text items n p h laid = record { names = n; named = h; laid = laid }
 
 -- ---- names that are refused
 
-pub misnamed_exact : (items : List Item) (why : NameError) (e : ParseError) → IsRefused (naming.program items) why → e ≡ told_of why → e ≢ OutOfMemory → IsMisnamed items e
-misnamed_exact items why e h is ne = record { why = why; some = λ out. ne (is ∙ ap told_of out); misnamed = h; is = is }
+pub misnamed_exact : (items : List Item) (why : NameError) (e : ParseError) → IsRefused (naming.program items) why → e ≡ parse_error_of why → e ≢ OutOfMemory → IsMisnamed items e
+misnamed_exact items why e h is ne = record { why = why; some = λ out. ne (is ∙ ap parse_error_of out); misnamed = h; is = is }
 
 -- ---- items that were read
 
@@ -75,7 +75,7 @@ refused_orderly text start its r e y same only is back g =
 -- ---- a text has one refusal at most
 
 misnamed_once : (items : List Item) (e f : ParseError) → IsMisnamed items e → IsMisnamed items f → e ≡ f
-misnamed_once items e f a b = a.is ∙ ap told_of (refused_once (naming.program items) a.why b.why a.some b.some a.misnamed b.misnamed) ∙ sym b.is
+misnamed_once items e f a b = a.is ∙ ap parse_error_of (refused_once (naming.program items) a.why b.why a.some b.some a.misnamed b.misnamed) ∙ sym b.is
 
 flaw_once : (o : Outcome (List Item)) (e f : ParseError) → IsFlawOf o e → IsFlawOf o f → e ≡ f
 flaw_once (Ok r) e f a b = misnamed_once r.0 e f a b
@@ -88,7 +88,7 @@ one_flaw text e f (inr a) (inl b) = absurd (omega (arith, a.0, b.0))
 one_flaw text e f (inr a) (inr b) = flaw_once (program (OPEN_CONSTRUCTS + 1) text) e f a.1 b.1
 
 pub one_refusal : (text : List ℕ) (a b : Refusal) → IsRefusal text a → IsRefusal text b → a ≡ b
-one_refusal text a b h g = h.2 ∙ ap (told text) (one_flaw text h.0 g.0 h.1 g.1) ∙ sym g.2
+one_refusal text a b h g = h.2 ∙ ap (refusal_of text) (one_flaw text h.0 g.0 h.1 g.1) ∙ sym g.2
 
 -- ---- answers
 
@@ -96,11 +96,11 @@ pub short_unrefused : (text : List ℕ) → length text ≤ PROGRAM_BYTES → ((
 short_unrefused text short none e (inl long) = omega (arith, short, long.0)
 short_unrefused text short none e (inr flaw) = none e flaw.1
 
-pub short_refused : (text : List ℕ) (e : ParseError) (refusal : Refusal) → length text ≤ PROGRAM_BYTES → IsFlawIn text e → refusal ≡ told text e → IsRefusal text refusal
+pub short_refused : (text : List ℕ) (e : ParseError) (refusal : Refusal) → length text ≤ PROGRAM_BYTES → IsFlawIn text e → refusal ≡ refusal_of text e → IsRefusal text refusal
 short_refused text e refusal short flaw is = (e, inr (short, flaw), is)
 
-pub long_refused : (text : List ℕ) (e : ParseError) (refusal : Refusal) → PROGRAM_BYTES < length text → e ≡ Here kinds.TooDeep (length text - PROGRAM_BYTES) → refusal ≡ told text e → IsRefusal text refusal
+pub long_refused : (text : List ℕ) (e : ParseError) (refusal : Refusal) → PROGRAM_BYTES < length text → e ≡ Here kinds.TooDeep (length text - PROGRAM_BYTES) → refusal ≡ refusal_of text e → IsRefusal text refusal
 long_refused text e refusal long flaw is = (e, inl (long, flaw), is)
 
-pub told_memory : (text : List ℕ) (e : ParseError) (refusal : Refusal) → refusal ≡ told text e → e ≡ OutOfMemory → refusal.kind ≡ kinds.OutOfMemory
-told_memory text e refusal is out = ap (λ r. r.kind) (is ∙ ap (told text) out)
+pub refusal_memory : (text : List ℕ) (e : ParseError) (refusal : Refusal) → refusal ≡ refusal_of text e → e ≡ OutOfMemory → refusal.kind ≡ kinds.OutOfMemory
+refusal_memory text e refusal is out = ap (λ r. r.kind) (is ∙ ap (refusal_of text) out)

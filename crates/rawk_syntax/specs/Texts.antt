@@ -58,17 +58,17 @@ IsRead text items (Err refusal) = refusal.kind ≡ kinds.OutOfMemory
 -- ---- refusals
 
 -- what is reported of names: a bad regular expression, or a misuse
-abbrev pub told_of : NameError → ParseError
-told_of misused.OutOfMemory = refused.OutOfMemory
-told_of (misused.BadEre left) = refused.Here kinds.BadEre left
-told_of (misused.Misused left) = refused.Here kinds.NameMisused left
+abbrev pub parse_error_of : NameError → ParseError
+parse_error_of misused.OutOfMemory = refused.OutOfMemory
+parse_error_of (misused.BadEre left) = refused.Here kinds.BadEre left
+parse_error_of (misused.Misused left) = refused.Here kinds.NameMisused left
 
 -- the names of the items are refused so
 pub record IsMisnamed (items : List Item) (e : ParseError) : Type 0 where
   pub why : NameError
   pub some : why ≢ misused.OutOfMemory
   pub misnamed : IsRefused (naming.program items) why
-  pub is : e ≡ told_of why
+  pub is : e ≡ parse_error_of why
 
 -- what the parser as a function gives is refused so: by itself, or by the names of its items
 abbrev pub IsFlawOf : Outcome (List Item) → ParseError → Type 0
@@ -87,13 +87,13 @@ abbrev pub IsFlaw : List ℕ → ParseError → Type 0
 IsFlaw text e = IsTooLong text e ⊎ ((length text ≤ PROGRAM_BYTES) × IsFlawIn text e)
 
 -- a refusal with its line; want of memory has none
-abbrev pub told : List ℕ → ParseError → Refusal
-told text refused.OutOfMemory = record { kind = kinds.OutOfMemory; line = 0 }
-told text (refused.Here kind left) = record { kind = kind; line = line_of text left }
+abbrev pub refusal_of : List ℕ → ParseError → Refusal
+refusal_of text refused.OutOfMemory = record { kind = kinds.OutOfMemory; line = 0 }
+refusal_of text (refused.Here kind left) = record { kind = kind; line = line_of text left }
 
 -- the text is refused, with this kind and line
 abbrev pub IsRefusal : List ℕ → Refusal → Type 0
-IsRefusal text refusal = (e : ParseError) × IsFlaw text e × (refusal ≡ told text e)
+IsRefusal text refusal = (e : ParseError) × IsFlaw text e × (refusal ≡ refusal_of text e)
 
 -- an answer tells a flaw, if there is one: memory may also be refused
 abbrev pub Tells : {A : Type 0} → (ParseError → Type 0) → Result A ParseError → Type 0

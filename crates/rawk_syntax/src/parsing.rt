@@ -35,20 +35,20 @@ pub fn parse(alloc: Global, text: &[u8]) -> Result<Program, Refusal>
     ensures derived { (items : List part.Item) → length text.now ≤ limits.PROGRAM_BYTES → IsOrderly text.now items → IsRead text.now items result }
 {
     if text.len() > PROGRAM_BYTES {
-        return Err(told(
+        return Err(refusal_of(
             text,
             ParseError::Here(RefusalKind::TooDeep, text.len() - PROGRAM_BYTES),
         ));
     }
     match read(alloc, text) {
         Ok(program) => Ok(program),
-        Err(refused) => Err(told(text, refused)),
+        Err(refused) => Err(refusal_of(text, refused)),
     }
 }
 
 /// The line of a refusal is counted only now.
-fn told(text: &[u8], refused: ParseError) -> Refusal
-    ensures { result ≡ spec.told text.now refused }
+fn refusal_of(text: &[u8], refused: ParseError) -> Refusal
+    ensures { result ≡ spec.refusal_of text.now refused }
 {
     match refused {
         ParseError::OutOfMemory => Refusal {
@@ -63,8 +63,8 @@ fn told(text: &[u8], refused: ParseError) -> Refusal
 }
 
 /// What is reported of names.
-fn told_of(refused: NameError) -> ParseError
-    ensures { result ≡ spec.told_of refused }
+fn parse_error_of(refused: NameError) -> ParseError
+    ensures { result ≡ spec.parse_error_of refused }
 {
     match refused {
         NameError::OutOfMemory => ParseError::OutOfMemory,
@@ -98,7 +98,7 @@ fn settle_items(alloc: Global, text: &[u8], items: &[Item]) -> Result<Program, P
 {
     match resolve(alloc, items) {
         Ok(names) => settle_named(alloc, text, names, items),
-        Err(refused) => Err(told_of(refused)),
+        Err(refused) => Err(parse_error_of(refused)),
     }
 }
 

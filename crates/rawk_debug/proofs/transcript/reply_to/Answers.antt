@@ -4,7 +4,7 @@ use Rattle.rawk_debug.specs.Sessions.{stand}
 use Rattle.rawk_answers.specs.Positions.{Snapshot}
 use Rattle.rawk_debug.specs.Answers.{shown_of, text_of}
 use Rattle.rawk_debug.proofs.Shown.{whole_answer}
-use Rattle.rawk_debug.proofs.transcript.told.Goals as goal
+use Rattle.rawk_debug.proofs.transcript.reply_to.Goals as goal
 
 pub returns-in-Ok-clause-says : goal.returns-in-Ok-clause-says
 returns-in-Ok-clause-says g c = λ input may.
