@@ -3,5 +3,6 @@
 
 pub mod act;
 pub mod at_once;
+mod numbers;
 mod popped;
 pub mod variables;
