@@ -2,7 +2,7 @@
 use Rattle.std.proofs.Common.{◌≡◌, ◌≤◌, ◌<◌, ◌+◌, ◌-◌, ℕ, zero, suc, Bool, true, false, List, None, Some, Result, Ok, Err, length, ◌++◌, take, drop, arith, refl, sym, ◌∙◌, ap, if◌then◌else◌}
 use Rattle.std.proofs.lemmas.List.{length-drop, length-take-le, take-append-le, drop-take}
 use Rattle.std.proofs.lemmas.List.Edits.{take-paste}
-use Rattle.std.proofs.Math.Seq.{take-append-add, take-append_seam, paste}
+use Rattle.std.proofs.Math.Seq.{take-append-add, paste}
 use Rattle.rawk_tape.specs.declared.source.DeviceFault.{DeviceFault}
 use Rattle.rawk_tape.specs.declared.source.Ending.TheVariants.{Ended, Failed}
 use Rattle.rawk_tape.specs.Inputs.{size_taken, ending_of}
@@ -22,14 +22,6 @@ moved_to_front xs size end low high =
     let m : end - size ≤ length (drop size xs) = omega (arith, length-drop size xs) in
     let zero_in : 0 ≤ length xs = omega arith in
     ap (λ k. take k (paste xs 0 (drop size xs) (end - size))) (sym z) ∙ (take-paste xs 0 (drop size xs) (end - size) zero_in m ∙ (sym (drop-take size (end - size) xs) ∙ ap (λ k. drop size (take k xs)) e))
-
--- a part copied to the front, before which there was room for it
-pub copied_to_front : (xs ys front rest : List ℕ) (start end : ℕ) → start ≤ end → end - start ≤ start → length front ≡ start → length ys ≡ length (take (end - start) front) → ys ≡ take (end - start) (drop start xs)
-    → take (end - start) (ys ++ rest) ≡ drop start (take end xs)
-copied_to_front xs ys front rest start end low apart size same is =
-    let e : start + (end - start) ≡ end = omega arith in
-    let n : length (take (end - start) front) ≡ end - start = length-take-le (end - start) front (omega (arith, size)) in
-    ap (λ k. take k (ys ++ rest)) (sym (same ∙ n)) ∙ take-append_seam ys rest ∙ is ∙ sym (drop-take start (end - start) xs) ∙ ap (λ k. drop start (take k xs)) e
 
 -- a read that did not end took some bytes
 pub some_taken : (read : Result ℕ DeviceFault) → ending_of read ≡ None → 0 < size_taken read

@@ -68,19 +68,6 @@ pub(crate) fn read_behind<R: Source>(
     source.read(&mut items[end..end + size])
 }
 
-/// Copies the bytes from `start` up to `end` to the front, where there is room for them before `start`.
-fn copy_to_front(items: &mut [u8], start: usize, end: usize)
-    requires low { start ≤ end }
-    requires high { end ≤ length items.old }
-    requires apart { end - start ≤ start }
-    ensures kept { take (end - start) items.new ≡ drop start (take end items.old) }
-    ensures len { length items.new ≡ length items.old }
-{
-    let size = end - start;
-    let (front, back) = items.split_at_mut(start);
-    front[..size].copy_from_slice(&back[..size]);
-}
-
 /// Moves the bytes from `start` up to `end` to the front.
 pub(crate) fn move_to_front(items: &mut Vec<u8>, start: usize, end: usize)
     requires low { start ≤ end }
@@ -88,9 +75,5 @@ pub(crate) fn move_to_front(items: &mut Vec<u8>, start: usize, end: usize)
     ensures kept { take (end - start) items.new.items ≡ drop start (take end items.old.items) }
     ensures len { length items.new.items ≡ length items.old.items }
 {
-    if end - start <= start {
-        copy_to_front(items.as_mut_slice(), start, end);
-    } else {
-        items.copy_within(start..end, 0);
-    }
+    items.copy_within(start..end, 0);
 }
