@@ -403,6 +403,43 @@ goes_on lines (Some Ended) status site point is = absurd (cc is)
 goes_on lines (Some (Faulted fault)) status site point is = absurd (cc is)
 goes_on lines (Some (Limited at)) status site point is = absurd (cc is)
 
+-- a run at a point, of which the sink has taken all output and has not failed; the step before led it there
+pub record Paused {S V : Type 0} (may_give : S → Input → Type 0) (drawn : S → ℕ) (may_hold : V → Bytes → Type 0) (failed : V → ℕ) (start : Standing S) (sink : V) (before machine : Standing S) (now : V) : Type 0 where
+  pub settled : Settled may_give drawn may_hold start sink machine now
+  pub going : machine.ending ≡ None
+  pub point : machine.point ≡ before.point
+  pub steps : machine.steps ≡ before.steps
+  pub failures : CountsUp (failed sink) (failed now) 0
+
+-- its output was handed on, and it is not at its ending
+pub paused_on : {S V : Type 0} (may_give : S → Input → Type 0) (drawn : S → ℕ) (may_hold : V → Bytes → Type 0) (failed : V → ℕ) (start : Standing S) (sink : V) (m n : Standing S) (now now2 : V) (lines : List ℕ)
+    → SoFar may_give drawn may_hold start sink m now → CountsUp (failed sink) (failed now) 0 → HandsOn may_give may_hold m now n now2 → n.tape.source ≡ m.tape.source → CountsUp (failed now) (failed now2) 0
+    → None ≡ step_report lines (step_of n.ending n.state.status) n.site n.point → Paused may_give drawn may_hold failed start sink m n now2
+paused_on may_give drawn may_hold failed start sink m n now now2 lines so none on source more goes = record {
+  settled = settled may_give drawn may_hold start sink m n now now2 so on source;
+  going = goes_on lines n.ending n.state.status n.site n.point goes;
+  point = on.point;
+  steps = on.same.steps;
+  failures = counted (failed sink) (failed now) (failed now2) 0 0 none more refl;
+}
+
+-- there is none
+pub paused_still : {S V : Type 0} (may_give : S → Input → Type 0) (drawn : S → ℕ) (may_hold : V → Bytes → Type 0) (failed : V → ℕ) (start : Standing S) (sink : V) (m : Standing S) (now : V)
+    → SoFar may_give drawn may_hold start sink m now → CountsUp (failed sink) (failed now) 0 → m.state.output ≡ [] → m.ending ≡ None → Paused may_give drawn may_hold failed start sink m m now
+paused_still may_give drawn may_hold failed start sink m now so none silent going = record {
+  settled = settled may_give drawn may_hold start sink m m now now so (hands_nothing may_give may_hold m now silent) refl;
+  going = going;
+  point = refl;
+  steps = refl;
+  failures = none;
+}
+
+-- the same of what is equal to them
+pub paused_is : {S V : Type 0} (may_give : S → Input → Type 0) (drawn : S → ℕ) (may_hold : V → Bytes → Type 0) (failed : V → ℕ) (start : Standing S) (sink : V) (m n r : Standing S) (now s : V)
+    → r ≡ n → s ≡ now → Paused may_give drawn may_hold failed start sink m n now → Paused may_give drawn may_hold failed start sink m r s
+paused_is may_give drawn may_hold failed start sink m n r now s one two p =
+    subst (λ x. Paused may_give drawn may_hold failed start sink m x s) (sym one) (subst (λ x. Paused may_give drawn may_hold failed start sink m n x) (sym two) p)
+
 -- nothing is written before point 0
 first_by : (t : Trace) (found : Option Point) → slice_get t.run.points 0 ≡ found → ((a : Point) → slice_get t.run.points 0 ≡ Some a → a.state.output ≡ []) → (t.run.points ≡ [] → out t ≡ []) → output_or t found ≡ []
 first_by t None is some none = none (no_points t.run.points is)

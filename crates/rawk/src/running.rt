@@ -22,6 +22,8 @@ use rawk_value::Fault;
 use std::alloc::Global;
 
 /// The report of a run that is at its ending; nothing at a point.
+#[cold]
+#[inline(never)]
 fn reported<R: Source + Drop>(program: &Program, runner: &Runner<R>) -> Option<Report>
     ensures report { result ≡ step_report program.now.lines.items (step_of runner.now.ending runner.now.state.status) runner.now.site runner.now.point }
     ensures failures { IfSome result (λ report. write_failures report.cause ≡ 0) }
@@ -42,6 +44,8 @@ fn reported<R: Source + Drop>(program: &Program, runner: &Runner<R>) -> Option<R
 }
 
 /// The report of a run that was refused memory behind a point with this site.
+#[cold]
+#[inline(never)]
 fn refused(program: &Program, point: u64, site: Option<usize>) -> Report
     ensures { result ≡ refused_behind program.now point site }
 {
@@ -77,8 +81,9 @@ fn give_on<R: Source + Drop, W: Sink>(
 }
 
 /// Hands on the output that a run did not give yet, and lets go what it needs no more of its input, where there may be any of these. Where the sink fails,
-/// the run stands at its point.
-#[inline]
+/// the run stands at its point. A call of its own, out of the way of steps that need none of this.
+#[cold]
+#[inline(never)]
 fn hand_on<R: Source + Drop, W: Sink>(
     alloc: Global,
     runner: &mut Runner<R>,
@@ -114,20 +119,22 @@ fn run_on<R: Source + Drop, W: Sink>(
 {
     laws::output();
     let mut buffer = Vec::new(alloc);
+    let mut eventful = true;
     'steps: loop {
-        match hand_on(alloc, runner, &mut buffer, sink) {
-            Ok(()) => {}
-            Err(_) => return stopped(Cause::Faulted(Fault::WriteFailed), runner.point()),
+        if eventful || runner.is_over() || runner.has_output() {
+            match hand_on(alloc, runner, &mut buffer, sink) {
+                Ok(()) => {}
+                Err(_) => return stopped(Cause::Faulted(Fault::WriteFailed), runner.point()),
+            }
+            match reported(program, runner) {
+                Some(report) => return report,
+                None => {}
+            }
         }
-        match reported(program, runner) {
-            Some(report) => return report,
-            None => {}
-        }
-        let point = runner.point();
-        let site = runner.site();
-        match runner.advance(alloc) {
+        eventful = false;
+        match runner.advance(alloc, &mut eventful) {
             Ok(_) => {}
-            Err(_) => return refused(program, point, site),
+            Err(_) => return refused(program, runner.point(), runner.site()),
         }
     }
 }

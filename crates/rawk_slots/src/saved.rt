@@ -40,11 +40,21 @@ pub(crate) fn is_saved<T>(marks: &[usize], saved: &[Saved<T>], place: usize) -> 
 }
 
 /// Drops each old value, one by one: a step saves few.
-#[inline]
-pub(crate) fn drop_all<T: Drop>(saved: &mut Vec<Saved<T>>)
+#[inline(never)]
+fn drop_each<T: Drop>(saved: &mut Vec<Saved<T>>)
     ensures { saved.new.items ≡ [] }
 {
     while let Some(entry) = saved.pop() {
         drop(entry);
+    }
+}
+
+/// Drops all old values, by a call where there are any.
+#[inline(always)]
+pub(crate) fn drop_all<T: Drop>(saved: &mut Vec<Saved<T>>)
+    ensures { saved.new.items ≡ [] }
+{
+    if !saved.is_empty() {
+        drop_each(saved);
     }
 }

@@ -30,6 +30,16 @@ pub fn site_at(ending: Ending, site: Option<usize>) -> Option<usize>
     }
 }
 
+/// Ends the run at the limit of steps, before the point with a site.
+#[cold]
+#[inline(never)]
+fn end_at_limit(store: &mut Store, site: Option<usize>)
+    ensures did { moving store.new ≡ with_registers (record store.old.registers.now { ending = Some (Ending.Limited site) }) (moving store.old) }
+    ensures start { start_of store.new ≡ start_of store.old }
+{
+    store.registers.now.ending = Some(Ending::Limited(site));
+}
+
 /// Enters the point number `count`, or ends the run there at the limit of steps; or ends it where instructions led to the end.
 #[inline]
 fn enter_point(store: &mut Store, to: Next, count: u64, limit: u64)
@@ -44,7 +54,7 @@ fn enter_point(store: &mut Store, to: Next, count: u64, limit: u64)
         }
         Next::Arrive(site) => {
             if count == limit {
-                store.registers.now.ending = Some(Ending::Limited(site));
+                end_at_limit(store, site);
             } else {
                 store.registers.now.site = site;
                 store.registers.now.here = count;
@@ -87,8 +97,9 @@ pub fn step<R: Source + Drop>(
     ensures risen { executed.old + 1 < 2 ^ 128 → executed.old < executed.new }
 {
     let consumed = tape.consumed();
+    let mut eventful = false;
     store.known();
-    match travel::<R, true>(alloc, expressions, code, store, tape, executed) {
+    match travel::<R, true>(alloc, expressions, code, store, tape, executed, &mut eventful) {
         Ok(to) => {
             enter_point(store, to, count, limit);
             Ok(())
@@ -101,7 +112,8 @@ pub fn step<R: Source + Drop>(
     }
 }
 
-/// The same of a run that keeps nothing: no old value is saved, and where memory is refused the parts are of no more use.
+/// The same of a run that keeps nothing, up to the point number `point + more`: no old value is saved, and where memory is refused the parts are of no more use. Where there may be input or
+/// memory to let go behind it, `eventful` becomes true.
 #[inline(always)]
 pub fn pace<R: Source + Drop>(
     alloc: Global,
@@ -110,23 +122,26 @@ pub fn pace<R: Source + Drop>(
     store: &mut Store,
     tape: &mut Tape<R>,
     executed: &mut Count,
-    count: u64,
-    limit: u64,
+    eventful: &mut bool,
+    point: &u64,
+    more: u64,
+    limit: &u64,
 ) -> Result<(), AllocError>
+    requires number { point.now + more < 2 ^ 64 }
     requires running { store.old.registers.now.ending ≡ None }
     requires consumed { tape.old.consumed ≡ store.old.registers.now.consumed }
     ensures may { (kept : Input) → MayBe R.may_give tape.new kept → MayBe R.may_give tape.old kept }
-    ensures did { OnOk result (Arrives R.may_give code.now tape.new count limit (moving store.old) (moving store.new)) }
-    ensures settled { OnOk result (IsSettled count limit store.new.registers.now) }
+    ensures did { OnOk result (Arrives R.may_give code.now tape.new (point.now + more) limit.now (moving store.old) (moving store.new)) }
+    ensures settled { OnOk result (IsSettled (point.now + more) limit.now store.new.registers.now) }
     ensures consumed { OnOk result (tape.new.consumed ≡ store.new.registers.now.consumed) }
     ensures asks { Asks R.may_give code.now tape.old.bytes tape.new (moving store.old) }
     ensures draws { Draws R.over R.handed tape.old tape.new }
     ensures quiet { OnOk result (ends_quietly store.new.registers.now.ending) }
     ensures failed { OnOk result (EndsByRead store.new.registers.now.ending (R.over tape.new.source ≡ Some End.Failed)) }
 {
-    match travel::<R, false>(alloc, expressions, code, store, tape, executed) {
+    match travel::<R, false>(alloc, expressions, code, store, tape, executed, eventful) {
         Ok(to) => {
-            enter_point(store, to, count, limit);
+            enter_point(store, to, *point + more, *limit);
             Ok(())
         }
         Err(refused) => Err(refused),

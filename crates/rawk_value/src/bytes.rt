@@ -1,6 +1,6 @@
 //! Texts.
 
-ghost use Rattle.std.specs.Prelude.{◌≡◌, ◌++◌, IfOk, OnErr, OnOk, take};
+ghost use Rattle.std.specs.Prelude.{◌≡◌, ◌++◌, IfOk, IfSome, OnErr, OnOk, take};
 
 use rawk_text::Text;
 use std::alloc::{AllocError, Global};
@@ -57,6 +57,28 @@ impl Bytes {
         Ok(Bytes {
             text: self.text.copy()?,
         })
+    }
+
+    /// A copy of few bytes, which stand in place; `None` of others. It takes no memory.
+    #[inline(always)]
+    pub fn short_copy(&self) -> Option<Self>
+        ensures { IfSome result (λ b. b ≡ self.now) }
+    {
+        match self.text.short_copy() {
+            Some(text) => Some(Bytes { text }),
+            None => None,
+        }
+    }
+
+    /// A copy of bytes that stand in a buffer, which it shares; `None` of few bytes, and where the count of owners is full. It takes no memory.
+    #[inline(always)]
+    pub fn shared_copy(&self) -> Option<Self>
+        ensures { IfSome result (λ b. b ≡ self.now) }
+    {
+        match self.text.shared_copy() {
+            Some(text) => Some(Bytes { text }),
+            None => None,
+        }
     }
 
     /// Adds bytes, in place where nobody shares them. It fails where memory is refused, and the bytes are then as they were.

@@ -1,5 +1,5 @@
 use Rattle.std.proofs.Common.{length}
-use Rattle.rawk_slots.proofs.saved.drop_all.Given as goal
+use Rattle.rawk_slots.proofs.saved.drop_each.Given as goal
 
 abbrev pub invariant-loop-entry : goal.invariant-loop-entry
 invariant-loop-entry g l = Unit {0}
