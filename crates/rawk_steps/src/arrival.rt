@@ -99,7 +99,15 @@ pub fn step<R: Source + Drop>(
     let consumed = tape.consumed();
     let mut eventful = false;
     store.known();
-    match travel::<R, true>(alloc, expressions, code, store, tape, executed, &mut eventful) {
+    match travel::<R, true>(
+        alloc,
+        expressions,
+        code,
+        store,
+        tape,
+        executed,
+        &mut eventful,
+    ) {
         Ok(to) => {
             enter_point(store, to, count, limit);
             Ok(())
