@@ -199,6 +199,32 @@ hands_on {S} may_give may_hold old given new sink now size buffer written rest o
   wrote = λ held holds. subst (λ (o : Bytes). may_hold now (held ++ o)) (bytes ∙ output) (wrote held holds);
 }
 
+-- a machine gives its output, which is written
+pub hands_given : {S V : Type 0} (may_give : S → Input → Type 0) (may_hold : V → Bytes → Type 0) (old given : Standing S) (sink now : V) (buffer written : Bytes)
+    → given ≡ record old { state = record old.state { output = [] } } → buffer ≡ old.state.output → written ≡ buffer
+    → ((gone : Bytes) (input : Input) → MayCome may_give given gone input ↔ MayCome may_give old gone input)
+    → ((input : Input) (gone handed : Bytes) → IsAt old input gone handed → IsAt given input gone (handed ++ buffer))
+    → ((held : Bytes) → may_hold sink held → may_hold now (held ++ written))
+    → HandsOn may_give may_hold old sink given now
+hands_given {S} may_give may_hold old given sink now buffer written rest output bytes may stands wrote = record {
+  same = record {
+    code = ap (λ (x : Standing S). x.code) rest;
+    settings = ap (λ (x : Standing S). x.settings) rest;
+    sets = ap (λ (x : Standing S). x.sets) rest;
+    steps = ap (λ (x : Standing S). x.steps) rest;
+  };
+  point = ap (λ (x : Standing S). x.point) rest;
+  unset = ap (λ (x : Standing S). x.unset) rest;
+  none = ap (λ (x : Standing S). x.state.output) rest;
+  dropped = [];
+  bytes = ap (λ (x : Standing S). x.tape.bytes) rest;
+  back = λ gone input come. (may gone input).0 (subst (λ (b : Bytes). MayCome may_give given b input) (append-nil gone) come);
+  forth = λ gone input come. subst (λ (b : Bytes). MayCome may_give given b input) (sym (append-nil gone)) ((may gone input).1 come);
+  stands = λ input gone handed at.
+      subst (λ (b : Bytes). IsAt given input b (handed ++ old.state.output)) (sym (append-nil gone)) (subst (λ (o : Bytes). IsAt given input gone (handed ++ o)) output (stands input gone handed at));
+  wrote = λ held holds. subst (λ (o : Bytes). may_hold now (held ++ o)) (bytes ∙ output) (wrote held holds);
+}
+
 -- nothing is given, where there is no output
 pub hands_nothing : {S V : Type 0} (may_give : S → Input → Type 0) (may_hold : V → Bytes → Type 0) (machine : Standing S) (sink : V) → machine.state.output ≡ [] → HandsOn may_give may_hold machine sink machine sink
 hands_nothing may_give may_hold machine sink none =

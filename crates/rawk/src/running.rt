@@ -57,13 +57,14 @@ fn refused(program: &Program, point: u64, site: Option<usize>) -> Report
     }
 }
 
-/// Hands on the output that a run did not give yet, and lets go what it needs no more of its input. Where the sink fails, the run stands
+/// Hands on the output that a run did not give yet, and, where the step left any, lets go what it needs no more of its input. Where the sink fails, the run stands
 /// at its point.
 fn give_on<R: Source + Drop, W: Sink>(
     alloc: Global,
     runner: &mut Runner<R>,
     buffer: &mut Vec<u8>,
     sink: &mut W,
+    eventful: bool,
 ) -> Result<(), DeviceFault>
     ensures ok { OnOk result (HandsOn R.may_give W.may_hold runner.old sink.old runner.new sink.new) }
     ensures err { OnErr result (IsCut W.may_hold runner.old.state.output sink.old sink.new) }
@@ -75,6 +76,9 @@ fn give_on<R: Source + Drop, W: Sink>(
     match write_all(sink, buffer.as_slice()) {
         Ok(()) => {}
         Err(fault) => return Err(fault),
+    }
+    if !eventful {
+        return Ok(());
     }
     runner.drop_consumed(alloc);
     Ok(())
@@ -89,6 +93,7 @@ fn hand_on<R: Source + Drop, W: Sink>(
     runner: &mut Runner<R>,
     buffer: &mut Vec<u8>,
     sink: &mut W,
+    eventful: bool,
 ) -> Result<(), DeviceFault>
     ensures ok { OnOk result (HandsOn R.may_give W.may_hold runner.old sink.old runner.new sink.new) }
     ensures err { OnErr result (IsCut W.may_hold runner.old.state.output sink.old sink.new) }
@@ -99,7 +104,7 @@ fn hand_on<R: Source + Drop, W: Sink>(
     if !runner.has_news() {
         return Ok(());
     }
-    give_on(alloc, runner, buffer, sink)
+    give_on(alloc, runner, buffer, sink, eventful)
 }
 
 /// Goes on with a run to its end, and writes the output of each step before the next one.
@@ -122,7 +127,7 @@ fn run_on<R: Source + Drop, W: Sink>(
     let mut eventful = true;
     'steps: loop {
         if eventful || runner.is_over() || runner.has_output() {
-            match hand_on(alloc, runner, &mut buffer, sink) {
+            match hand_on(alloc, runner, &mut buffer, sink, eventful) {
                 Ok(()) => {}
                 Err(_) => return stopped(Cause::Faulted(Fault::WriteFailed), runner.point()),
             }
