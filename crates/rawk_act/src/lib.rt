@@ -3,6 +3,5 @@
 
 pub mod act;
 pub mod at_once;
-mod numbers;
 mod popped;
-pub mod variables;
+mod variables;

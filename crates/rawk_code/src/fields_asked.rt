@@ -38,8 +38,12 @@ fn destination_asks(destination: Destination) -> bool {
 
 fn op_asks(op: &Op) -> bool {
     match op {
-        Op::FieldAt | Op::FieldNumber => true,
+        Op::FieldAt(_) | Op::FieldNumber => true,
         Op::Push(simple) | Op::Append(_, simple) => simple_asks(simple),
+        Op::Compute(formula) => formula.asks_for_fields(),
+        Op::PartOf(simple, place, count) => {
+            simple_asks(simple) || place.get().asks_for_fields() || count.get().asks_for_fields()
+        }
         Op::ElementAt(_, from)
         | Op::Has(_, from)
         | Op::Delete(_, from)

@@ -31,15 +31,16 @@ use Rattle.rawk_code.specs.declared.code.Destination.{Destination}
 use Rattle.rawk_code.specs.declared.code.Destination.TheVariants as destination
 use Rattle.rawk_code.specs.declared.code.Entry.{Entry}
 use Rattle.rawk_code.specs.declared.code.Instr.{Instr}
+use Rattle.rawk_code.specs.declared.code.Op.{Op}
 use Rattle.rawk_code.specs.declared.code.Op.TheVariants as does
 use Rattle.rawk_code.specs.declared.code.Instr.TheVariants as instr
 use Rattle.rawk_code.specs.Trace.{reads}
-use Rattle.rawk_selection.specs.Operands.{constant_field, simple_field, destination_of, operand_of, sought_operand, constant_operand}
+use Rattle.rawk_selection.specs.Operands.{constant_field, simple_field, simple_of, term_of, computing_op, part_op, destination_of, operand_of, sought_operand, constant_operand}
 use Rattle.rawk_selection.specs.Conditions.{Fork, agrees, leap_on, deciding, logic_of, is_neutral, against}
 use Rattle.rawk_selection.specs.Added.{appending, added, added_to}
 use Rattle.rawk_selection.specs.Readings.{part_dropped, missing_code, getline_to_code}
 use Rattle.rawk_selection.specs.Jumps.{over}
-use Rattle.rawk_compiler.specs.Code.{unless_constant, separator_operand, right_operand, unless_ready, pushed, joined, key_code, key_operand, forks_code, joined_fork, deciders, forks_by, fork_by, forks, link_fork, link_forks, fork_of, choice_code, decide_code, expr_code, expr_codes, effect_code, place_code, parts_code, link_code, link_codes, front_of, simples_behind, Piece, nowhere, always, in_turn, when_code, Arm, then_to, branch_to, if_code, step_around, body_around, loop_code, keys_around, keys_code, scalar_destination, jump_code, test_code, condition_code, condition_leap, stmt_code, stmt_codes, arms_of, or_else, closing_code, opened_code, guard_code, rule_code, records_code, main_code, begin_code, record_at_of, end_at_of, functions_at_of, function_code, functions_code, entries_of, program_code, HasAt}
+use Rattle.rawk_compiler.specs.Code.{unless_constant, separator_operand, right_operand, unless_ready, unless_one, pushed, joined, key_code, key_operand, forks_code, joined_fork, deciders, forks_by, fork_by, forks, link_fork, link_forks, fork_of, choice_code, decide_code, expr_code, expr_codes, effect_code, place_code, parts_code, link_code, link_codes, front_of, simples_behind, Piece, nowhere, always, in_turn, when_code, Arm, then_to, branch_to, if_code, step_around, body_around, loop_code, keys_around, keys_code, scalar_destination, jump_code, test_code, condition_code, condition_leap, stmt_code, stmt_codes, arms_of, or_else, closing_code, opened_code, guard_code, rule_code, records_code, main_code, begin_code, record_at_of, end_at_of, functions_at_of, function_code, functions_code, entries_of, program_code, HasAt}
 use Rattle.rawk_code.specs.Valid.{rank_of, rank, IsEntry, Descends, IsValid}
 use Rattle.rawk_compiler.proofs.Follows.{has_front, has_back, has_all}
 use Rattle.rawk_compiler.proofs.Statements.{branches_length}
@@ -96,6 +97,10 @@ module _ (code : List Instr) where
   unless_fine operand.Popped c f = f
   unless_fine (operand.Given from) c f = fine_none
   unless_fine (operand.Computed t) c f = fine_none
+
+  one_fine : (o : Option Op) (c : List Instr) → Fine c → Fine (unless_one o c)
+  one_fine None c f = f
+  one_fine (Some o) c f = fine_last [] (instr.Do o) (λ pc. tt) fine_none
 
   pushed_fine : (o : Option Simple) (c : List Instr) → Fine c → Fine (pushed o c)
   pushed_fine None c f = f
@@ -201,8 +206,8 @@ module _ (code : List Instr) where
     expr_fine (expr.Number n) = fine_last [] (instr.Do (does.Push _)) (λ pc. tt) fine_none
     expr_fine (expr.Text text) = fine_last [] (instr.Do (does.Push _)) (λ pc. tt) fine_none
     expr_fine (expr.Read p) = place_fine p
-    expr_fine (expr.Unary' u p e) = fine_last (unless_ready (operand_of e) (expr_code e)) (instr.Do (does.Unary u (operand_of e))) (λ pc. tt) (unless_fine (operand_of e) (expr_code e) (expr_fine e))
-    expr_fine (expr.Chain' p first shape more) = fine_append (expr_code first) (joined (link_codes more)) (expr_fine first) (joined_fine (link_codes more) (links_fine more))
+    expr_fine (expr.Unary' u p e) = one_fine (computing_op (term_of (expr.Unary' u p e))) (unless_ready (operand_of e) (expr_code e) ++ instr.Do (does.Unary u (operand_of e)) ∷ []) (fine_last (unless_ready (operand_of e) (expr_code e)) (instr.Do (does.Unary u (operand_of e))) (λ pc. tt) (unless_fine (operand_of e) (expr_code e) (expr_fine e)))
+    expr_fine (expr.Chain' p first shape more) = one_fine (computing_op (term_of (expr.Chain' p first shape more))) (expr_code first ++ joined (link_codes more)) (fine_append (expr_code first) (joined (link_codes more)) (expr_fine first) (joined_fine (link_codes more) (links_fine more)))
     expr_fine (expr.Choice' p a q b r c) = choice_fine (fork_by (forks a) (operand_of a) (expr_code a) false) (expr_code b) (expr_code c) (fork_by_fine (forks a) (operand_of a) (expr_code a) (test_fine a) (expr_fine a) false) (expr_fine b) (expr_fine c)
     expr_fine (expr.After op q) = fine_last (parts_code q) (instr.Do (does.After op (destination_of q))) (λ pc. tt) (parts_fine q)
     expr_fine (expr.Assign' q p e) =
@@ -213,7 +218,8 @@ module _ (code : List Instr) where
         fine_append (parts_code q) _ (parts_fine q) (fine_last (unless_ready from (expr_code e)) (instr.Do (does.Update op (destination_of q) from)) (λ pc. tt) (unless_fine from (expr_code e) (expr_fine e)))
     expr_fine (expr.Call' f shape args arrays) = fine_last (joined (expr_codes args)) (instr.Call f (length (expr_codes args)) arrays.items) (λ pc. tt) (joined_fine (expr_codes args) (exprs_fine args))
     expr_fine (expr.Part' p e q from r count) =
-        fine_append (expr_code e) (expr_code from ++ (expr_code count ++ instr.Do does.Part ∷ [])) (expr_fine e) (fine_append (expr_code from) (expr_code count ++ instr.Do does.Part ∷ []) (expr_fine from) (fine_last (expr_code count) (instr.Do does.Part) (λ pc. tt) (expr_fine count)))
+        one_fine (part_op (simple_of e) (term_of from) (term_of count)) (expr_code e ++ (expr_code from ++ (expr_code count ++ instr.Do does.Part ∷ [])))
+        (fine_append (expr_code e) (expr_code from ++ (expr_code count ++ instr.Do does.Part ∷ [])) (expr_fine e) (fine_append (expr_code from) (expr_code count ++ instr.Do does.Part ∷ []) (expr_fine from) (fine_last (expr_code count) (instr.Do does.Part) (λ pc. tt) (expr_fine count))))
     expr_fine (expr.Match' p e q s) =
         let from = sought_operand s in
         fine_append (expr_code e) _ (expr_fine e) (fine_last (unless_ready from (expr_code s)) (instr.Do (does.Match from)) (λ pc. tt) (unless_fine from (expr_code s) (expr_fine s)))
@@ -240,7 +246,7 @@ module _ (code : List Instr) where
     place_fine (place.Global x) = fine_last [] (instr.Do (does.Push _)) (λ pc. tt) fine_none
     place_fine (place.Local i) = fine_last [] (instr.Do (does.Push _)) (λ pc. tt) fine_none
     place_fine place.FieldCount = fine_last [] (instr.Do (does.Push _)) (λ pc. tt) fine_none
-    place_fine (place.Field' p e) = pushed_fine (simple_field (constant_field e)) (expr_code e ++ instr.Do does.FieldAt ∷ []) (fine_last (expr_code e) (instr.Do does.FieldAt) (λ pc. tt) (expr_fine e))
+    place_fine (place.Field' p e) = pushed_fine (simple_field (constant_field e)) (unless_ready (operand_of e) (expr_code e) ++ instr.Do (does.FieldAt (operand_of e)) ∷ []) (fine_last (unless_ready (operand_of e) (expr_code e)) (instr.Do (does.FieldAt (operand_of e))) (λ pc. tt) (unless_fine (operand_of e) (expr_code e) (expr_fine e)))
     place_fine (place.Element' a shape subscripts) =
         let from = key_operand (items-the_row-Expr _ subscripts) in
         fine_last (unless_ready from (key_code (expr_codes subscripts))) (instr.Do (does.ElementAt a from)) (λ pc. tt) (unless_fine from (key_code (expr_codes subscripts)) (key_fine (expr_codes subscripts) (exprs_fine subscripts)))

@@ -4,3 +4,4 @@ pub mod Spots
 pub mod OperandLaws
 pub mod BorrowedLaws
 pub mod Oks
+pub mod Ready

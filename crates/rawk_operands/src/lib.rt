@@ -4,7 +4,9 @@
 pub mod borrowed;
 pub mod formats;
 pub mod formulas;
+pub mod numbers;
 pub mod operands;
 pub mod place;
 pub mod spot;
 pub mod stack;
+pub mod variables;

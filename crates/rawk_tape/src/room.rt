@@ -68,12 +68,28 @@ pub(crate) fn read_behind<R: Source>(
     source.read(&mut items[end..end + size])
 }
 
-/// Moves the bytes from `start` up to `end` to the front.
+/// Copies `size` bytes from `start` on to the front, which they don't reach.
+fn copy_to_front(items: &mut [u8], start: usize, size: usize)
+    requires apart { size ≤ start }
+    requires within { start + size ≤ length items.old }
+    ensures kept { take size items.new ≡ take size (drop start items.old) }
+    ensures len { length items.new ≡ length items.old }
+{
+    let (front, back) = items.split_at_mut(start);
+    front[..size].copy_from_slice(&back[..size]);
+}
+
+/// Moves the bytes from `start` up to `end` to the front: in one piece where they don't reach over their new places.
 pub(crate) fn move_to_front(items: &mut Vec<u8>, start: usize, end: usize)
     requires low { start ≤ end }
     requires high { end ≤ length items.old.items }
     ensures kept { take (end - start) items.new.items ≡ drop start (take end items.old.items) }
     ensures len { length items.new.items ≡ length items.old.items }
 {
+    let size = end - start;
+    if size <= start {
+        copy_to_front(items, start, size);
+        return;
+    }
     items.copy_within(start..end, 0);
 }

@@ -17,9 +17,9 @@ ghost use Rattle.rawk_tape.specs.declared.source.Ending.{Ending};
 ghost use Rattle.rawk_code.specs.Actions.{Point};
 
 use itoa::Buffer;
-use rawk_act::variables::global_number;
 use rawk_operands::borrowed::global_borrowed;
 use rawk_operands::stack::put;
+use rawk_operands::variables::global_number;
 use rawk_operators::{number, text_borrowed};
 use rawk_special::{FNR, FS, NR, RS};
 use rawk_store::{Cells, Store};
