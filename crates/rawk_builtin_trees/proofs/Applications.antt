@@ -23,7 +23,7 @@ pub two_applies : (f : Function) (j : Joiner) (e g : Expr) (s : Box Expr) (u : E
     → Some j ≡ binary_of f → s.value ≡ e → u ≡ g → links.items ≡ tree_link.Combine j u ∷ [] → Applies f (e ∷ g ∷ []) (tree.Chain s links)
 two_applies f j e g s u links found held same one = rw (sym held, sym same) (spec.of_two j s u links (sym found) one)
 
-pub part_applies : (e g h : Expr) (s t u : Box Expr) → s.value ≡ e → t.value ≡ g → u.value ≡ h → Applies fun.Substr (e ∷ g ∷ h ∷ []) (tree.Part s t u)
+pub part_applies : (e g h : Expr) (s t u : Box Expr) → s.value ≡ e → t.value ≡ g → u.value ≡ h → Applies fun.Substr (e ∷ g ∷ h ∷ []) (tree.Substr s t u)
 part_applies e g h s t u one two three = rw (sym one, sym two, sym three) (spec.substr s t u)
 
 pub format_applies : (es : List Expr) (e : Expr) (s : Box Expr) (ss : Vec Expr) → es ≡ e ∷ ss.items → s.value ≡ e → Applies fun.Sprintf es (tree.Sprintf s ss)

@@ -52,6 +52,6 @@ pub data Applies : Function → List Expr → Expr → Type 0 where
   -- two arguments are a chain of one link
   of_two : {f : Function} (j : Joiner) (s : Box Expr) (t : Expr) (ys : Vec Link)
       → binary_of f ≡ Some j → ys.items ≡ tree_link.Combine j t ∷ [] → Applies f (s.value ∷ t ∷ []) (tree.Chain s ys)
-  substr : (s t u : Box Expr) → Applies fun.Substr (s.value ∷ t.value ∷ u.value ∷ []) (tree.Part s t u)
+  substr : (s t u : Box Expr) → Applies fun.Substr (s.value ∷ t.value ∷ u.value ∷ []) (tree.Substr s t u)
   -- the first argument is the format
   sprintf : (s : Box Expr) (ss : Vec Expr) → Applies fun.Sprintf (s.value ∷ ss.items) (tree.Sprintf s ss)

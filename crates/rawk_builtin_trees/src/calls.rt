@@ -139,7 +139,7 @@ fn apply_three(
     ensures { IfOk result (λ o. (s : Expr) × (o ≡ Some s) × Applies Substr (text ∷ place ∷ count ∷ []) s) }
 {
     let (text, place, count) = three_boxed(alloc, text, place, count)?;
-    Ok(Some(Expr::Part(text, place, count)))
+    Ok(Some(Expr::Substr(text, place, count)))
 }
 
 /// A function of three arguments or more, of which the last two are these.

@@ -41,7 +41,7 @@ fn op_asks(op: &Op) -> bool {
         Op::FieldAt(_) | Op::FieldNumber => true,
         Op::Push(simple) | Op::Append(_, simple) => simple_asks(simple),
         Op::Compute(formula) => formula.asks_for_fields(),
-        Op::PartOf(simple, place, count) => {
+        Op::SubstrOf(simple, place, count) => {
             simple_asks(simple) || place.get().asks_for_fields() || count.get().asks_for_fields()
         }
         Op::ElementAt(_, from)
@@ -67,7 +67,7 @@ fn op_asks(op: &Op) -> bool {
         | Op::SetRange(_, _)
         | Op::Printf(_)
         | Op::Sprintf(_)
-        | Op::Part => false,
+        | Op::Substr => false,
     }
 }
 

@@ -217,9 +217,9 @@ module _ (code : List Instr) where
         let from = operand_of e in
         fine_append (parts_code q) _ (parts_fine q) (fine_last (unless_ready from (expr_code e)) (instr.Do (does.Update op (destination_of q) from)) (λ pc. tt) (unless_fine from (expr_code e) (expr_fine e)))
     expr_fine (expr.Call' f shape args arrays) = fine_last (joined (expr_codes args)) (instr.Call f (length (expr_codes args)) arrays.items) (λ pc. tt) (joined_fine (expr_codes args) (exprs_fine args))
-    expr_fine (expr.Part' p e q from r count) =
-        one_fine (part_op (simple_of e) (term_of from) (term_of count)) (expr_code e ++ (expr_code from ++ (expr_code count ++ instr.Do does.Part ∷ [])))
-        (fine_append (expr_code e) (expr_code from ++ (expr_code count ++ instr.Do does.Part ∷ [])) (expr_fine e) (fine_append (expr_code from) (expr_code count ++ instr.Do does.Part ∷ []) (expr_fine from) (fine_last (expr_code count) (instr.Do does.Part) (λ pc. tt) (expr_fine count))))
+    expr_fine (expr.Substr' p e q from r count) =
+        one_fine (part_op (simple_of e) (term_of from) (term_of count)) (expr_code e ++ (expr_code from ++ (expr_code count ++ instr.Do does.Substr ∷ [])))
+        (fine_append (expr_code e) (expr_code from ++ (expr_code count ++ instr.Do does.Substr ∷ [])) (expr_fine e) (fine_append (expr_code from) (expr_code count ++ instr.Do does.Substr ∷ []) (expr_fine from) (fine_last (expr_code count) (instr.Do does.Substr) (λ pc. tt) (expr_fine count))))
     expr_fine (expr.Match' p e q s) =
         let from = sought_operand s in
         fine_append (expr_code e) _ (expr_fine e) (fine_last (unless_ready from (expr_code s)) (instr.Do (does.Match from)) (λ pc. tt) (unless_fine from (expr_code s) (expr_fine s)))
@@ -278,7 +278,7 @@ module _ (code : List Instr) where
     test_fine (expr.Assign' q p e) = tt
     test_fine (expr.Update' op q p e) = tt
     test_fine (expr.Call' f shape args arrays) = tt
-    test_fine (expr.Part' p e q from r count) = tt
+    test_fine (expr.Substr' p e q from r count) = tt
     test_fine (expr.Match' p e q s) = tt
     test_fine (expr.Replace' extent p s q r place) = tt
     test_fine (expr.Split' how p e a q by) = tt
@@ -330,7 +330,7 @@ module _ (code : List Instr) where
       let from = operand_of e in
       fine_append (parts_code q) _ (parts_fine q) (fine_last (unless_ready from (expr_code e)) (instr.Do (does.StoreUpdate op (destination_of q) from)) (λ pc. tt) (unless_fine from (expr_code e) (expr_fine e)))
   effect_fine (expr.Call' f shape args arrays) = fine_last _ (instr.Do does.Pop) (λ pc. tt) (expr_fine (expr.Call' f shape args arrays))
-  effect_fine (expr.Part' p e q from r count) = fine_last _ (instr.Do does.Pop) (λ pc. tt) (expr_fine (expr.Part' p e q from r count))
+  effect_fine (expr.Substr' p e q from r count) = fine_last _ (instr.Do does.Pop) (λ pc. tt) (expr_fine (expr.Substr' p e q from r count))
   effect_fine (expr.Match' p e q s) = fine_last _ (instr.Do does.Pop) (λ pc. tt) (expr_fine (expr.Match' p e q s))
   effect_fine (expr.Replace' extent p s q r place) = fine_last _ (instr.Do does.Pop) (λ pc. tt) (expr_fine (expr.Replace' extent p s q r place))
   effect_fine (expr.Split' how p e a q by) = fine_last _ (instr.Do does.Pop) (λ pc. tt) (expr_fine (expr.Split' how p e a q by))

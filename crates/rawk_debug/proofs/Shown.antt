@@ -4,7 +4,7 @@ use Rattle.std.specs.Prelude.{slice_index_or}
 use Rattle.std.proofs.Math.Seq.{drop-append_seam}
 use Rattle.rawk_value.specs.Values.{Bytes}
 use Rattle.rawk_debug.specs.declared.answer.Answer.{Answer}
-use Rattle.rawk_debug.specs.declared.answer.Answer.TheVariants.{Went, Halted, Returned, Stayed, Shown, Listed, TakenBack, Made, BreakDeleted, WatchDeleted, Traced, Left}
+use Rattle.rawk_debug.specs.declared.answer.Answer.TheVariants.{Advanced, Halted, Returned, Stayed, Shown, Listed, TakenBack, Made, BreakDeleted, WatchDeleted, BacktraceShown, Quits}
 use Rattle.rawk_answers.specs.Positions.{Snapshot}
 use Rattle.rawk_store.specs.Observed.{Observed}
 use Rattle.rawk_debug.specs.Moves.{Stand}
@@ -38,7 +38,7 @@ both_added (Err refused) old middle new first last one two = tt
 
 -- an answer is what it shows, and its text behind that
 pub whole_answer : (s : Stand) (h : Snapshot) (came : Observed) (answer : Answer) → shown_of answer h.state.output ++ behind_shown s h came answer ≡ text_of s h came answer
-whole_answer s h came (Went from) = rejoined (drop from h.state.output) _ _
+whole_answer s h came (Advanced from) = rejoined (drop from h.state.output) _ _
 whole_answer s h came (Halted from) = rejoined (drop from h.state.output) _ _
 whole_answer s h came (Returned found) = refl
 whole_answer s h came Stayed = refl
@@ -48,5 +48,5 @@ whole_answer s h came TakenBack = refl
 whole_answer s h came Made = refl
 whole_answer s h came (BreakDeleted n) = refl
 whole_answer s h came (WatchDeleted n) = refl
-whole_answer s h came Traced = refl
-whole_answer s h came Left = refl
+whole_answer s h came BacktraceShown = refl
+whole_answer s h came Quits = refl

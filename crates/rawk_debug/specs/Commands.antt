@@ -21,7 +21,7 @@ use Rattle.rawk_answers.specs.declared.stop.Stop.{Stop}
 use Rattle.rawk_answers.specs.declared.stop.Stop.TheVariants as stop
 use Rattle.rawk_answers.specs.declared.stop.Entry.{Entry}
 use Rattle.rawk_debug.specs.declared.answer.Answer.{Answer}
-use Rattle.rawk_debug.specs.declared.answer.Answer.TheVariants.{Went, Halted, Returned, Stayed, Shown, Listed, TakenBack, Made, BreakDeleted, WatchDeleted, Traced, Left}
+use Rattle.rawk_debug.specs.declared.answer.Answer.TheVariants.{Advanced, Halted, Returned, Stayed, Shown, Listed, TakenBack, Made, BreakDeleted, WatchDeleted, BacktraceShown, Quits}
 use Rattle.rawk_answers.specs.Positions.{Snapshot, here, back_at, with_set, has_set_at, IsTakenBack}
 use Rattle.rawk_store.specs.Observed.{Observed}
 use Rattle.rawk_answers.specs.Activations.{local_kinds, local_names}
@@ -96,7 +96,7 @@ written h = length h.state.output
 
 -- a forward move has come to its end, or was refused memory on the way
 abbrev pub Forwards : Input → Goal → Stand → Answer → Observed → Stand → Type 0
-Forwards input goal old (Went from) came new = (from ≡ written (here input old.machine)) × Goes input goal old new × (came ≡ from_below input old new.machine.point)
+Forwards input goal old (Advanced from) came new = (from ≡ written (here input old.machine)) × Goes input goal old new × (came ≡ from_below input old new.machine.point)
 Forwards input goal old (Halted from) came new = (from ≡ written (here input old.machine)) × Halts input goal old new
 Forwards input goal old other came new = ⊥
 
@@ -145,8 +145,8 @@ Does input (Set place constant) old answer came new =
     (l : Lvalue) × (lvalue_at old (here input old.machine) place ≡ Ok l)
     × (answer ≡ Shown l) × (new ≡ record old { machine = with_set (target_of l) (constant_value constant) old.machine })
 Does input ReverseSet old answer came new = (answer ≡ TakenBack) × IsTakenBack old.machine new.machine × (new ≡ record old { machine = new.machine })
-Does input Backtrace old answer came new = (answer ≡ Traced) × (new ≡ old)
-Does input Quit old answer came new = (answer ≡ Left) × (new ≡ old)
+Does input Backtrace old answer came new = (answer ≡ BacktraceShown) × (new ≡ old)
+Does input Quit old answer came new = (answer ≡ Quits) × (new ≡ old)
 
 -- the commands that are read or executed with memory: the others cannot be refused it, but for a forward move's answer
 abbrev pub needs_memory : Command → Bool
@@ -166,6 +166,6 @@ Executes input command old (Err reason) came new = (refusal command old (here in
 
 -- what an answer's text needs: where it tells of stops, the machine has just moved
 abbrev pub IsReady : Bool → Answer → Type 0
-IsReady fresh (Went from) = fresh ≡ true
+IsReady fresh (Advanced from) = fresh ≡ true
 IsReady fresh (Returned found) = found ≡ true → fresh ≡ true
 IsReady fresh other = Unit {0}

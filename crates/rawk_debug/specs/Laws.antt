@@ -7,7 +7,7 @@ use Rattle.rawk_commands.specs.declared.command.Command.TheVariants.{Move, Set, 
 use Rattle.rawk_commands.specs.declared.command.Place.{Place}
 use Rattle.rawk_commands.specs.declared.command.Constant.{Constant}
 use Rattle.rawk_debug.specs.declared.answer.Answer.{Answer}
-use Rattle.rawk_debug.specs.declared.answer.Answer.TheVariants.{Went}
+use Rattle.rawk_debug.specs.declared.answer.Answer.TheVariants.{Advanced}
 use Rattle.rawk_answers.specs.Positions.{IsPosition, here}
 use Rattle.rawk_store.specs.Observed.{Observed}
 use Rattle.rawk_debug.specs.Moves.{Stand}
@@ -30,7 +30,7 @@ pub record IsBack (input : Input) (old new : Stand) : Type 0 where
 abbrev pub StepLaw : Type 0
 StepLaw =
     (input : Input) (old mid new : Stand) (from : ℕ) (answer : Answer) (came last : Observed) → IsPosition old.machine → KeepsAStep old.machine.history
-    → Executes input (Move Forward AnyPoint) old (Ok (Went from)) came mid → Executes input (Move Back AnyPoint) mid (Ok answer) last new → IsBack input old new
+    → Executes input (Move Forward AnyPoint) old (Ok (Advanced from)) came mid → Executes input (Move Back AnyPoint) mid (Ok answer) last new → IsBack input old new
 
 -- `set`, where it is not refused, and then `reverse-set` lead back
 abbrev pub SetLaw : Type 0

@@ -20,7 +20,7 @@ use std::alloc::{AllocError, Global};
 #[derive(Drop)]
 pub enum Answer {
     /// A forward move came to its end; the length of the output before it.
-    Went(usize),
+    Advanced(usize),
     /// A forward move was refused memory on the way; the length of the output before it.
     Halted(usize),
     /// A backward move; whether it ended where it looked for.
@@ -40,9 +40,9 @@ pub enum Answer {
     /// The watch of this number was removed.
     WatchDeleted(u64),
     /// The activations are reported.
-    Traced,
+    BacktraceShown,
     /// The session is to end.
-    Left,
+    Quits,
 }
 
 /// Adds a line for each breakpoint that stands where the machine does and each watch that differs.
@@ -90,7 +90,7 @@ fn push_behind<M: Stepper>(
         ≡ out.old.items ++ behind_shown (stand M.position session.now) (M.held session.now.machine) (M.before session.now.machine) answer.now) }
 {
     match answer {
-        Answer::Went(from) => {
+        Answer::Advanced(from) => {
             push_line_end(out, output_from(session.machine.output(), *from))?;
             push_stop_lines(out, session)?;
             push_place_line(out, &session.machine)
@@ -108,8 +108,8 @@ fn push_behind<M: Stepper>(
         Answer::Made => push_newest(out, session.machine.program(), &session.stops),
         Answer::BreakDeleted(number) => push_deleted(out, b"Deleted breakpoint ", *number),
         Answer::WatchDeleted(number) => push_deleted(out, b"Deleted watchpoint ", *number),
-        Answer::Traced => push_backtrace(out, &session.machine),
-        Answer::Left => Ok(()),
+        Answer::BacktraceShown => push_backtrace(out, &session.machine),
+        Answer::Quits => Ok(()),
     }
 }
 
@@ -119,7 +119,7 @@ impl Answer {
         ensures { drop result output.now ≡ shown_of self.now output.now }
     {
         match self {
-            Answer::Went(from) => *from,
+            Answer::Advanced(from) => *from,
             Answer::Halted(from) => *from,
             _ => output.len(),
         }

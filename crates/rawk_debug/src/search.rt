@@ -132,7 +132,7 @@ impl<M: Stepper> Session<M> {
         self.machine.known();
         let from = self.machine.output().len();
         match self.forward(alloc, goal) {
-            Ok(()) => Answer::Went(from),
+            Ok(()) => Answer::Advanced(from),
             Err(AllocError) => Answer::Halted(from),
         }
     }

@@ -307,8 +307,8 @@ impl<M: Stepper> Session<M> {
             Command::Print(place) => self.print(place),
             Command::Set(place, constant) => self.set(alloc, place, constant),
             Command::ReverseSet => self.take_back(),
-            Command::Backtrace => Ok(Answer::Traced),
-            Command::Quit => Ok(Answer::Left),
+            Command::Backtrace => Ok(Answer::BacktraceShown),
+            Command::Quit => Ok(Answer::Quits),
         }
     }
 }

@@ -14,10 +14,10 @@ use Rattle.rawk_slots.specs.StackGroups.{StackGroup, first_if, rest_if}
 use Rattle.rawk_frames.specs.declared.frames.FramesGroup.{FramesGroup}
 use Rattle.rawk_frames.specs.KeptStacks.{StackLists, newest_frames, newest_operands, older_stacks}
 use Rattle.rawk_record.specs.Shown.{Shown}
-use Rattle.rawk_store.specs.declared.others.FewGroup.{FewGroup}
-use Rattle.rawk_store.specs.declared.others.Others.{Others}
+use Rattle.rawk_store.specs.declared.rare_changes.FewGroup.{FewGroup}
+use Rattle.rawk_store.specs.declared.rare_changes.RareChanges.{RareChanges}
 use Rattle.rawk_history.specs.declared.full.Mark.{Mark}
-use Rattle.rawk_history.specs.declared.full.Slow.{Slow}
+use Rattle.rawk_history.specs.declared.full.RareRegisters.{RareRegisters}
 use Rattle.rawk_store.specs.Groups.{Group}
 use Rattle.rawk_history.specs.Steps.{Kept}
 use Rattle.rawk_store.specs.Saving.{ElementsOnce, FewOnce, saved_in_part}
@@ -36,7 +36,7 @@ pub same_rest : {T : Type 0} (x y : T) (xs ys : List T) → x ∷ xs ≡ y ∷ y
 same_rest x y xs ys e = cc e
 
 -- a step more
-pub kept_added : (marks marks2 : List Mark) (m : Mark) (slows slows2 : List Slow) (globals list globals2 entries : List (Saved Value)) (live n : ℕ) (stacks stacks2 : StackLists) (others others2 : List Others) (records records2 : List Shown) (sets sets2 : List (Vec Group)) →
+pub kept_added : (marks marks2 : List Mark) (m : Mark) (slows slows2 : List RareRegisters) (globals list globals2 entries : List (Saved Value)) (live n : ℕ) (stacks stacks2 : StackLists) (others others2 : List RareChanges) (records records2 : List Shown) (sets sets2 : List (Vec Group)) →
     marks2 ≡ marks ++ m ∷ [] → list ≡ take live globals → live ≤ length globals → m.globals ≡ live → globals2 ≡ list ++ entries → n ≡ length globals2 → rest_if m.has_state (reverse slows2) ≡ reverse slows → older_stacks m.stacks stacks2 ≡ stacks →
     rest_if m.has_others (reverse others2) ≡ reverse others → rest_if m.has_record (reverse records2) ≡ reverse records → rest_if m.has_sets (reverse sets2) ≡ reverse sets →
     kept_of (reverse marks2) (reverse slows2) (take n globals2) stacks2 (reverse others2) (reverse records2) (reverse sets2) ≡
@@ -58,14 +58,14 @@ kept_added marks marks2 m slows slows2 globals list globals2 entries live n stac
     ∙ ap (λ (ms : List Mark). kept_of ms (reverse slows2) (take n globals2) stacks2 (reverse others2) (reverse records2) (reverse sets2)) (reverse-append marks (m ∷ []))
     ∙ ap (λ (gs : List (Saved Value)). kept_of (m ∷ reverse marks) (reverse slows2) gs stacks2 (reverse others2) (reverse records2) (reverse sets2)) whole
     ∙ ap (λ (gs : List (Saved Value)). item gs ∷ kept_of (reverse marks) (rest_if m.has_state (reverse slows2)) (take m.globals globals2) (older_stacks m.stacks stacks2) (rest_if m.has_others (reverse others2)) (rest_if m.has_record (reverse records2)) (rest_if m.has_sets (reverse sets2))) own
-    ∙ ap (λ (ws : List Slow). item entries ∷ kept_of (reverse marks) ws (take m.globals globals2) (older_stacks m.stacks stacks2) (rest_if m.has_others (reverse others2)) (rest_if m.has_record (reverse records2)) (rest_if m.has_sets (reverse sets2))) w
+    ∙ ap (λ (ws : List RareRegisters). item entries ∷ kept_of (reverse marks) ws (take m.globals globals2) (older_stacks m.stacks stacks2) (rest_if m.has_others (reverse others2)) (rest_if m.has_record (reverse records2)) (rest_if m.has_sets (reverse sets2))) w
     ∙ ap (λ (gs : List (Saved Value)). item entries ∷ kept_of (reverse marks) (reverse slows) gs (older_stacks m.stacks stacks2) (rest_if m.has_others (reverse others2)) (rest_if m.has_record (reverse records2)) (rest_if m.has_sets (reverse sets2))) older
     ∙ ap (λ (xs : StackLists). item entries ∷ kept_of (reverse marks) (reverse slows) (take live globals) xs (rest_if m.has_others (reverse others2)) (rest_if m.has_record (reverse records2)) (rest_if m.has_sets (reverse sets2))) t
-    ∙ ap (λ (xs : List Others). item entries ∷ kept_of (reverse marks) (reverse slows) (take live globals) stacks xs (rest_if m.has_record (reverse records2)) (rest_if m.has_sets (reverse sets2))) o
+    ∙ ap (λ (xs : List RareChanges). item entries ∷ kept_of (reverse marks) (reverse slows) (take live globals) stacks xs (rest_if m.has_record (reverse records2)) (rest_if m.has_sets (reverse sets2))) o
     ∙ ap (λ (xs : List Shown). item entries ∷ kept_of (reverse marks) (reverse slows) (take live globals) stacks (reverse others) xs (rest_if m.has_sets (reverse sets2))) r
     ∙ ap (λ (xs : List (Vec Group)). item entries ∷ kept_of (reverse marks) (reverse slows) (take live globals) stacks (reverse others) (reverse records) xs) s
 
-pub full_added : (marks marks2 : List Mark) (m : Mark) (globals list globals2 entries : List (Saved Value)) (live n : ℕ) (others others2 : List Others) (records records2 : List Shown) (sets sets2 : List (Vec Group)) →
+pub full_added : (marks marks2 : List Mark) (m : Mark) (globals list globals2 entries : List (Saved Value)) (live n : ℕ) (others others2 : List RareChanges) (records records2 : List Shown) (sets sets2 : List (Vec Group)) →
     IsFull marks globals live others records sets → HasDistinctPlaces entries →
     marks2 ≡ marks ++ m ∷ [] → list ≡ take live globals → m.globals ≡ live → globals2 ≡ list ++ entries → n ≡ length globals2 →
     rest_if m.has_others (reverse others2) ≡ reverse others → rest_if m.has_record (reverse records2) ≡ reverse records → rest_if m.has_sets (reverse sets2) ≡ reverse sets →
@@ -91,12 +91,12 @@ few_once : (few : Option (Box FewGroup)) → FewOnce few
 few_once None = tt
 few_once (Some f) = f.value.arrays.slots.distinct
 
-pub elements_once : (others : Option Others) → ElementsOnce others
+pub elements_once : (others : Option RareChanges) → ElementsOnce others
 elements_once None = tt
 elements_once (Some o) = few_once o.few
 
 -- the step with its sets, in front of what was kept
-pub is_added : (start now : Layout) (list longer : List (Saved Value)) (frames : FramesGroup) (operands : Option (StackGroup Value)) (others fo : Option Others) (current fr : Option Shown) (output out : ℕ) (registers regs : Registers) (taken fs : Option (Vec Group)) (here : List Group) (old old2 new : List Kept) →
+pub is_added : (start now : Layout) (list longer : List (Saved Value)) (frames : FramesGroup) (operands : Option (StackGroup Value)) (others fo : Option RareChanges) (current fr : Option Shown) (output out : ℕ) (registers regs : Registers) (taken fs : Option (Vec Group)) (here : List Group) (old old2 new : List Kept) →
     (e : EndsBehind frames operands others current output registers start now list longer) →
     new ≡ record { step = record { globals = e.entries; frames = frames; operands = operands; others = fo; current = fr; output = out; registers = regs }; sets = items_of fs } ∷ old2 →
     out ≡ output → regs ≡ registers → fo ≡ others → fr ≡ current → fs ≡ taken → items_of taken ≡ here → old2 ≡ old → KeepsStep start now old new here None
@@ -114,8 +114,8 @@ is_added start now list longer frames operands others fo current fr output out r
     }
 
 -- the newest step, and those before it
-pub put_back_is : (marks marks2 : List Mark) (m : Mark) (slows slows2 : List Slow) (slow : Slow) (globals globals2 : List (Saved Value)) (live : ℕ) (stacks stacks2 : StackLists) (others others2 : List Others) (records records2 : List Shown) (sets sets2 : List (Vec Group)) (took_frames : FramesGroup) (took_operands : Option (StackGroup Value)) (took : Option Others) (earlier : Option Shown) (group_sets : Option (Vec Group))
-    (item : Kept) (rest : List Kept) (old new : Layout) (cut : List (Saved Value)) (stood ready newer_sets : List Group) (newer_others : Option Others) (newer : Option Shown) →
+pub put_back_is : (marks marks2 : List Mark) (m : Mark) (slows slows2 : List RareRegisters) (slow : RareRegisters) (globals globals2 : List (Saved Value)) (live : ℕ) (stacks stacks2 : StackLists) (others others2 : List RareChanges) (records records2 : List Shown) (sets sets2 : List (Vec Group)) (took_frames : FramesGroup) (took_operands : Option (StackGroup Value)) (took : Option RareChanges) (earlier : Option Shown) (group_sets : Option (Vec Group))
+    (item : Kept) (rest : List Kept) (old new : Layout) (cut : List (Saved Value)) (stood ready newer_sets : List Group) (newer_others : Option RareChanges) (newer : Option Shown) →
     marks ≡ marks2 ++ m ∷ [] → cut ≡ take live globals → took_frames ≡ newest_frames m.stacks stacks → took_operands ≡ newest_operands m.stacks stacks → stacks2 ≡ older_stacks m.stacks stacks → took ≡ first_if m.has_others (reverse others) → earlier ≡ first_if m.has_record (reverse records) → group_sets ≡ first_if m.has_sets (reverse sets) → slow ≡ newest_slow (reverse slows) → reverse slows2 ≡ rest_if m.has_state (reverse slows) →
     reverse others2 ≡ rest_if m.has_others (reverse others) → reverse records2 ≡ rest_if m.has_record (reverse records) → reverse sets2 ≡ rest_if m.has_sets (reverse sets) →
     take m.globals globals2 ≡ take m.globals cut → new ≡ put_back old (step_of m slow cut took_frames took_operands took earlier) → globals_on new.globals (drop m.globals globals2) newer_others ≡ old.globals → arrays_in new.arrays newer_others ≡ old.arrays → ArraysFit newer_others new.arrays → record_back new.current newer ≡ old.current →
@@ -137,7 +137,7 @@ put_back_is marks marks2 m slows slows2 slow globals globals2 live stacks stacks
     }
 
 -- the newest step fits
-pub fits_newest : (marks marks2 : List Mark) (m : Mark) (slows : List Slow) (slow : Slow) (globals : List (Saved Value)) (live : ℕ) (stacks : StackLists) (others : List Others) (records : List Shown) (sets : List (Vec Group)) (took_frames : FramesGroup) (took_operands : Option (StackGroup Value)) (took : Option Others) (earlier : Option Shown) (registers : Registers) (cut : List (Saved Value)) (now : Layout) (kept : List Kept) →
+pub fits_newest : (marks marks2 : List Mark) (m : Mark) (slows : List RareRegisters) (slow : RareRegisters) (globals : List (Saved Value)) (live : ℕ) (stacks : StackLists) (others : List RareChanges) (records : List Shown) (sets : List (Vec Group)) (took_frames : FramesGroup) (took_operands : Option (StackGroup Value)) (took : Option RareChanges) (earlier : Option Shown) (registers : Registers) (cut : List (Saved Value)) (now : Layout) (kept : List Kept) →
     marks ≡ marks2 ++ m ∷ [] → cut ≡ take live globals → took_frames ≡ newest_frames m.stacks stacks → took_operands ≡ newest_operands m.stacks stacks → took ≡ first_if m.has_others (reverse others) → earlier ≡ first_if m.has_record (reverse records) → slow ≡ newest_slow (reverse slows) → registers ≡ registers_by m slow →
     kept ≡ kept_of (reverse marks) (reverse slows) (take live globals) stacks (reverse others) (reverse records) (reverse sets) →
     ((item : Kept) (rest : List Kept) → kept ≡ item ∷ rest → FitsIn item.step now) → FitsIn (step_by m.globals slow.output registers cut took_frames took_operands took earlier) now
@@ -150,7 +150,7 @@ fits_newest marks marks2 m slows slow globals live stacks others records sets to
     subst (λ (g : Group). FitsIn g now) (sym (ap (λ (regs : Registers). step_by m.globals slow.output regs cut took_frames took_operands took earlier) by ∙ step)) (fits mine older split)
 
 -- the newest step, lent
-pub newest_is : (marks : List Mark) (m : Mark) (slows : List Slow) (globals : List (Saved Value)) (stacks : StackLists) (others : List Others) (records : List Shown) (sets : List (Vec Group)) → (ms : List Mark) → reverse marks ≡ m ∷ ms →
+pub newest_is : (marks : List Mark) (m : Mark) (slows : List RareRegisters) (globals : List (Saved Value)) (stacks : StackLists) (others : List RareChanges) (records : List Shown) (sets : List (Vec Group)) → (ms : List Mark) → reverse marks ≡ m ∷ ms →
     (item : Kept) × (rest : List Kept) × (kept_of (reverse marks) slows globals stacks others records sets ≡ item ∷ rest) × (item.step.globals ≡ drop m.globals globals) × (item.step.current ≡ first_if m.has_record records) × (item.step.others ≡ first_if m.has_others others)
 newest_is marks m slows globals stacks others records sets ms is = (
   record { step = step_of m (newest_slow slows) globals (newest_frames m.stacks stacks) (newest_operands m.stacks stacks) (first_if m.has_others others) (first_if m.has_record records); sets = items_of (first_if m.has_sets sets) },
@@ -180,7 +180,7 @@ lent_some {T} xs o r last is =
 pub popped_is : (marks rest : List Mark) (o : Option Mark) (m : Mark) → marks ≡ rest ++ option_to_list o → o ≡ Some m → marks ≡ rest ++ m ∷ []
 popped_is marks rest o m all is = all ∙ ap (λ (x : Option Mark). rest ++ option_to_list x) is
 
-pub others_reverse : (xs : List Others) → saved_in_others (reverse xs) ≡ saved_in_others xs
+pub others_reverse : (xs : List RareChanges) → saved_in_others (reverse xs) ≡ saved_in_others xs
 others_reverse xs = sum_by-IsPermutation saved_in_part xs (reverse xs) (IsPermutation-reverse xs)
 
 pub sets_reverse : (xs : List (Vec Group)) → saved_in_sets (reverse xs) ≡ saved_in_sets xs
@@ -203,7 +203,7 @@ pub behind_is : (live : ℕ) (slice globals : List (Saved Value)) → slice ≡ 
 behind_is live slice globals is = rw is (take_all (length globals - live) (drop live globals) (omega (arith, length-drop live globals)))
 
 -- the registers that a mark was made of
-pub registers_are : (m : Mark) (s : Slow) (r : Registers) (output : ℕ) → s ≡ slow_of output r → m.place ≡ r.place → m.here ≡ r.here → m.consumed ≡ r.consumed → (if m.has_site then Some m.site else None) ≡ r.site → registers_by m s ≡ r
+pub registers_are : (m : Mark) (s : RareRegisters) (r : Registers) (output : ℕ) → s ≡ slow_of output r → m.place ≡ r.place → m.here ≡ r.here → m.consumed ≡ r.consumed → (if m.has_site then Some m.site else None) ≡ r.site → registers_by m s ≡ r
 registers_are m s r output w p h k e = rw (w, p, h, k, e) refl
 
 pub site_is : (o : Option ℕ) → (if is_some o then Some (unwrap_or o 0) else None) ≡ o

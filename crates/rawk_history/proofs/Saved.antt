@@ -9,9 +9,9 @@ use Rattle.std.proofs.lemmas.List.Sorted.{sum_by-IsPermutation, IsPermutation-re
 use Rattle.rawk_value.specs.declared.value.Value.{Value}
 use Rattle.rawk_slots.specs.declared.saved.Saved.{Saved}
 use Rattle.rawk_record.specs.Shown.{Shown}
-use Rattle.rawk_store.specs.declared.others.Others.{Others}
+use Rattle.rawk_store.specs.declared.rare_changes.RareChanges.{RareChanges}
 use Rattle.rawk_history.specs.declared.full.Mark.{Mark}
-use Rattle.rawk_history.specs.declared.full.Slow.{Slow}
+use Rattle.rawk_history.specs.declared.full.RareRegisters.{RareRegisters}
 use Rattle.rawk_store.specs.Groups.{Group}
 use Rattle.rawk_history.specs.Steps.{Kept}
 use Rattle.rawk_store.specs.Saving.{one_if_some, saved_in_part, saved_others}
@@ -29,9 +29,9 @@ count_if false n xs = let e : 0 + n ≡ n = omega arith in rw e (omega arith)
 count_if {T} true n [] = let e : 1 + n ≡ suc n = omega arith in let f = ap length (take_none T n) in rw e (omega (arith, f))
 count_if true n (x ∷ xs) = let e : 1 + n ≡ suc n = omega arith in rw e (omega arith)
 
-others_if : (b : Bool) (n : ℕ) (xs : List Others) → saved_in_others (take (cond b 1 0 + n) xs) ≡ saved_others (first_if b xs) + saved_in_others (take n (rest_if b xs))
+others_if : (b : Bool) (n : ℕ) (xs : List RareChanges) → saved_in_others (take (cond b 1 0 + n) xs) ≡ saved_others (first_if b xs) + saved_in_others (take n (rest_if b xs))
 others_if false n xs = let e : 0 + n ≡ n = omega arith in rw e (omega arith)
-others_if true n [] = let e : 1 + n ≡ suc n = omega arith in let f = ap saved_in_others (take_none Others n) in rw e (omega (arith, f))
+others_if true n [] = let e : 1 + n ≡ suc n = omega arith in let f = ap saved_in_others (take_none RareChanges n) in rw e (omega (arith, f))
 others_if true n (x ∷ xs) = let e : 1 + n ≡ suc n = omega arith in rw e (sum_by-cons saved_in_part x (take n xs))
 
 sets_if : (b : Bool) (n : ℕ) (xs : List (Vec Group)) → saved_in_sets (take (cond b 1 0 + n) xs) ≡ saved_in_groups (items_of (first_if b xs)) + saved_in_sets (take n (rest_if b xs))
@@ -39,7 +39,7 @@ sets_if false n xs = let e : 0 + n ≡ n = omega arith in rw e (omega arith)
 sets_if true n [] = let e : 1 + n ≡ suc n = omega arith in let f = ap saved_in_sets (take_none (Vec Group) n) in rw e (omega (arith, f))
 sets_if true n (x ∷ xs) = let e : 1 + n ≡ suc n = omega arith in rw e (sum_by-cons (λ (v : Vec Group). saved_in_groups v.items) x (take n xs))
 
-pub saved_newest : (n : ℕ) (marks : List Mark) (slows : List Slow) (globals : List (Saved Value)) (stacks : StackLists) (others : List Others) (records : List Shown) (sets : List (Vec Group)) → AreMarked marks globals others records sets →
+pub saved_newest : (n : ℕ) (marks : List Mark) (slows : List RareRegisters) (globals : List (Saved Value)) (stacks : StackLists) (others : List RareChanges) (records : List Shown) (sets : List (Vec Group)) → AreMarked marks globals others records sets →
     saved_by_all (take n (kept_of marks slows globals stacks others records sets)) + began_by (take n marks) (length globals) ≡
     length globals + length (take (count_by (λ m. m.has_record) (take n marks)) records) + saved_in_others (take (count_by (λ m. m.has_others) (take n marks)) others) + saved_in_sets (take (count_by (λ m. m.has_sets) (take n marks)) sets)
 saved_newest zero marks slows globals stacks others records sets h = omega arith
@@ -59,7 +59,7 @@ saved_newest (suc n) (m ∷ ms) slows globals stacks others records sets (le, d,
     omega (arith, whole, rest, first, last, le, began, r, o, s)
 
 -- none of the newest steps begins behind the end
-pub began-le : (n : ℕ) (marks : List Mark) (globals : List (Saved Value)) (others : List Others) (records : List Shown) (sets : List (Vec Group)) → AreMarked marks globals others records sets → began_by (take n marks) (length globals) ≤ length globals
+pub began-le : (n : ℕ) (marks : List Mark) (globals : List (Saved Value)) (others : List RareChanges) (records : List Shown) (sets : List (Vec Group)) → AreMarked marks globals others records sets → began_by (take n marks) (length globals) ≤ length globals
 began-le zero marks globals others records sets h = omega arith
 began-le (suc n) [] globals others records sets h = omega arith
 began-le (suc n) (m ∷ ms) globals others records sets (le, d, h) =
@@ -96,6 +96,6 @@ last_are {T} n xs =
 pub count-reverse : (p : Mark → Bool) (ms : List Mark) → count_by p (reverse ms) ≡ count_by p ms
 count-reverse p ms = sum_by-IsPermutation (λ x. cond (p x) 1 0) ms (reverse ms) (IsPermutation-reverse ms)
 
-pub length_of : (marks : List Mark) (slows : List Slow) (globals : List (Saved Value)) (stacks : StackLists) (others : List Others) (records : List Shown) (sets : List (Vec Group)) → length (kept_of marks slows globals stacks others records sets) ≡ length marks
+pub length_of : (marks : List Mark) (slows : List RareRegisters) (globals : List (Saved Value)) (stacks : StackLists) (others : List RareChanges) (records : List Shown) (sets : List (Vec Group)) → length (kept_of marks slows globals stacks others records sets) ≡ length marks
 length_of [] slows globals stacks others records sets = refl
 length_of (m ∷ ms) slows globals stacks others records sets = ap suc (length_of ms (rest_if m.has_state slows) (take m.globals globals) (older_stacks m.stacks stacks) (rest_if m.has_others others) (rest_if m.has_record records) (rest_if m.has_sets sets))

@@ -3,7 +3,7 @@ use Rattle.std.specs.Prelude.{◌≡◌, ℕ, ◌+◌, ◌^◌, ◌<◌, List, r
 use Rattle.std.specs.List.{sum_by}
 use Rattle.std.specs.Global.{Vec}
 use Rattle.std.proofs.lemmas.List.Sorted.{sum_by-IsPermutation, IsPermutation-reverse}
-use Rattle.rawk_store.specs.declared.others.Others.{Others}
+use Rattle.rawk_store.specs.declared.rare_changes.RareChanges.{RareChanges}
 use Rattle.rawk_store.specs.Groups.{Group}
 use Rattle.rawk_store.specs.Saving.{saved_in, saved_in_part}
 use Rattle.rawk_history.specs.Steps.{Kept}
@@ -11,7 +11,7 @@ use Rattle.rawk_history.specs.Steps.{Kept}
 abbrev pub saved_in_groups : List Group → ℕ
 saved_in_groups groups = sum_by saved_in groups
 
-abbrev pub saved_in_others : List Others → ℕ
+abbrev pub saved_in_others : List RareChanges → ℕ
 saved_in_others all = sum_by saved_in_part all
 
 abbrev pub saved_in_sets : List (Vec Group) → ℕ

@@ -17,7 +17,7 @@ ghost use Rattle.rawk_history.specs.Saving.{Counts, saved_by_all, saved_in_sets}
 use crate::keeper::{Keeper, StepRef};
 use crate::saving::{saved_in_groups, saved_in_others};
 use rawk_store::{
-    Ending, Group, HasStacks, KeptStacks, Others, Phase, Record, Registers, Saved, Store,
+    Ending, Group, HasStacks, KeptStacks, Phase, RareChanges, Record, Registers, Saved, Store,
 };
 use rawk_value::Value;
 use std::alloc::{AllocError, Global};
@@ -43,7 +43,7 @@ pub struct Mark {
 
 /// What few steps change of the registers, and how many bytes of output there were.
 #[derive(Clone, Copy, PartialEq, Eq)]
-pub struct Slow {
+pub struct RareRegisters {
     pub output: usize,
     pub phase: Phase,
     pub status: u8,
@@ -58,17 +58,17 @@ pub struct Slow {
 pub struct Full {
     marks: Vec<Mark>,
     // What few steps change of the registers: the newest is that of the newest step.
-    slows: Vec<Slow>,
+    slows: Vec<RareRegisters>,
     globals: Vec<Saved<Value>>,
     // So many of the globals' values are of steps that are kept.
     live: usize,
     stacks: KeptStacks,
-    others: Vec<Others>,
+    others: Vec<RareChanges>,
     records: Vec<Record>,
     sets: Vec<Vec<Group>>,
     // What leads forward beside globals, where a step was put back.
     is_back: bool,
-    newer_others: Option<Others>,
+    newer_others: Option<RareChanges>,
     newer_record: Option<Record>,
     newer_sets: Vec<Group>,
 }
@@ -213,10 +213,10 @@ fn newest_if<T>(list: &Vec<T>, has: bool) -> Option<&T>
 
 /// What few steps change of these registers, with the bytes of output.
 #[inline]
-fn slow_of(output: usize, registers: &Registers) -> Slow
+fn slow_of(output: usize, registers: &Registers) -> RareRegisters
     ensures { result ≡ slow_of output registers.now }
 {
-    Slow {
+    RareRegisters {
         output,
         phase: registers.phase,
         status: registers.status,
@@ -226,7 +226,7 @@ fn slow_of(output: usize, registers: &Registers) -> Slow
 
 /// Whether both are the same, and no run has ended.
 #[inline]
-fn is_same(a: &Slow, b: &Slow) -> bool
+fn is_same(a: &RareRegisters, b: &RareRegisters) -> bool
     ensures { OnTrue result (a.now ≡ b.now) }
 {
     if a.output != b.output || a.status != b.status || a.phase != b.phase {
@@ -240,7 +240,7 @@ fn is_same(a: &Slow, b: &Slow) -> bool
 
 /// Adds it, if it is another one than the newest, and answers whether it was added.
 #[inline]
-fn add_slow(list: &mut Vec<Slow>, slow: Slow) -> bool
+fn add_slow(list: &mut Vec<RareRegisters>, slow: RareRegisters) -> bool
     requires { vec_len list.old < vec_capacity list.old }
     ensures first { newest_slow (reverse list.new.items) ≡ slow }
     ensures rest { rest_if result (reverse list.new.items) ≡ reverse list.old.items }
@@ -256,12 +256,12 @@ fn add_slow(list: &mut Vec<Slow>, slow: Slow) -> bool
 
 /// The newest, or that before the first step.
 #[inline]
-fn newest_slow(list: &Vec<Slow>) -> Slow
+fn newest_slow(list: &Vec<RareRegisters>) -> RareRegisters
     ensures { result ≡ newest_slow (reverse list.now.items) }
 {
     match list.last() {
         Some(slow) => *slow,
-        None => Slow {
+        None => RareRegisters {
             output: 0,
             phase: Phase::InBegin,
             status: 0,
@@ -272,7 +272,7 @@ fn newest_slow(list: &Vec<Slow>) -> Slow
 
 /// Drops the newest, where a step has its own.
 #[inline]
-fn drop_if(list: &mut Vec<Slow>, has: bool)
+fn drop_if(list: &mut Vec<RareRegisters>, has: bool)
     ensures { reverse list.new.items ≡ rest_if has (reverse list.old.items) }
 {
     if has {
@@ -282,7 +282,7 @@ fn drop_if(list: &mut Vec<Slow>, has: bool)
 
 /// The registers at the beginning of a step.
 #[inline]
-fn registers_by(mark: &Mark, slow: &Slow) -> Registers
+fn registers_by(mark: &Mark, slow: &RareRegisters) -> Registers
     ensures { result ≡ registers_by mark.now slow.now }
 {
     Registers {
@@ -324,8 +324,8 @@ fn exchange(sets: &mut Vec<Group>, newer: &mut Vec<Group>, earlier: Option<Vec<G
 #[inline]
 fn reserve(
     marks: &mut Vec<Mark>,
-    slows: &mut Vec<Slow>,
-    others: &mut Vec<Others>,
+    slows: &mut Vec<RareRegisters>,
+    others: &mut Vec<RareChanges>,
     records: &mut Vec<Record>,
     sets: &mut Vec<Vec<Group>>,
 ) -> Result<(), AllocError>
@@ -367,7 +367,7 @@ fn finish_behind(
     globals: &mut Vec<Saved<Value>>,
     count: usize,
     stacks: &mut KeptStacks,
-    others: &mut Vec<Others>,
+    others: &mut Vec<RareChanges>,
     records: &mut Vec<Record>,
 ) -> Result<Rest, AllocError>
     requires nested { BeganNested store.old }
@@ -406,9 +406,9 @@ fn undo_behind(
     registers: Registers,
     stacks: &mut KeptStacks,
     has: HasStacks,
-    others: Option<Others>,
+    others: Option<RareChanges>,
     current: Option<Record>,
-    newer_others: &mut Option<Others>,
+    newer_others: &mut Option<RareChanges>,
     newer_record: &mut Option<Record>,
 )
     requires within { began ≤ length globals.old.items }
@@ -452,7 +452,7 @@ fn undo_parts(
     registers: Registers,
     stacks: &mut KeptStacks,
     has: HasStacks,
-    others: &mut Option<Others>,
+    others: &mut Option<RareChanges>,
     current: &mut Option<Record>,
 )
     requires within { began ≤ length globals.old.items }

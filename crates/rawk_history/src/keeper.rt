@@ -10,7 +10,7 @@ ghost use Rattle.rawk_store.specs.Layout.{IsSound};
 ghost use Rattle.rawk_history.specs.Saving.{Counts, saved_by_all};
 ghost use Rattle.rawk_store.specs.Stores.{BeganNested, now_of, start_of};
 
-use rawk_store::{Group, Others, Record, Saved, Store};
+use rawk_store::{Group, RareChanges, Record, Saved, Store};
 use rawk_value::Value;
 use std::alloc::{AllocError, Global};
 
@@ -19,7 +19,7 @@ use std::alloc::{AllocError, Global};
 pub struct StepRef<'a> {
     pub globals: &'a [Saved<Value>],
     pub current: Option<&'a Record>,
-    pub others: Option<&'a Others>,
+    pub others: Option<&'a RareChanges>,
 }
 
 /// Keeps what steps changed, and puts the newest back.

@@ -8,8 +8,8 @@ use Rattle.rawk_store.specs.Back.{back}
 use Rattle.rawk_store.specs.BackLaws.{length-back}
 use Rattle.rawk_store.specs.Layout.{Layout}
 use Rattle.std.specs.Global.{Box}
-use Rattle.rawk_store.specs.declared.others.FewGroup.{FewGroup}
-use Rattle.rawk_store.specs.declared.others.Others.{Others}
+use Rattle.rawk_store.specs.declared.rare_changes.FewGroup.{FewGroup}
+use Rattle.rawk_store.specs.declared.rare_changes.RareChanges.{RareChanges}
 use Rattle.rawk_store.specs.GroupBack.{arrays_in, few_arrays, globals_in, globals_on}
 use Rattle.rawk_store.specs.GrownLaws.{length-globals_in, length-globals_on}
 use Rattle.rawk_arrays.specs.Laid.{Laid, IsLaid, arrays_of}
@@ -50,11 +50,11 @@ few_size : (l : Laid) (f : Option (Box FewGroup)) → length (few_arrays l f).sl
 few_size l None = refl
 few_size l (Some f) = length-back l.slots f.value.arrays.slots.entries.items
 
-pub index_in : (l : Laid) (o : Option Others) → (arrays_in l o).index ≡ l.index
+pub index_in : (l : Laid) (o : Option RareChanges) → (arrays_in l o).index ≡ l.index
 index_in l None = refl
 index_in l (Some o) = few_index l o.few
 
-pub size_in : (l : Laid) (o : Option Others) → length (arrays_in l o).slots ≡ length l.slots
+pub size_in : (l : Laid) (o : Option RareChanges) → length (arrays_in l o).slots ≡ length l.slots
 size_in l None = refl
 size_in l (Some o) = few_size l o.few
 
@@ -66,7 +66,7 @@ pub size_forth : (l : Laid) (gs : List Group) → length (arrays_forth l gs).slo
 size_forth l [] = refl
 size_forth l (g ∷ gs) = size_forth (arrays_in l g.others) gs ∙ size_in l g.others
 
-before_in : (l : Laid) (o : Option Others) (s : Observed) → IsLaid l.index l.slots → s.arrays ≡ arrays_of (arrays_in l o) → LaidBefore l s
+before_in : (l : Laid) (o : Option RareChanges) (s : Observed) → IsLaid l.index l.slots → s.arrays ≡ arrays_of (arrays_in l o) → LaidBefore l s
 before_in l o s laid e = record { laid = arrays_in l o; index = index_in l o; size = size_in l o; sound = laid_in l o laid; is = e }
 
 pub laid_before : (la : Last) (l : Layout) (sets : List SetAt) (point : ℕ) (here : List Group) (items : List Kept) (s : Observed) → (la ≡ last.On → here ≡ []) → IsLaid l.arrays.index l.arrays.slots → before_of la l.globals l.arrays l.current (pasts l sets point here items) ≡ Some s →

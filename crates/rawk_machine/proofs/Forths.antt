@@ -6,8 +6,8 @@ use Rattle.rawk_arrays.specs.Elements.{Elements}
 use Rattle.rawk_arrays.specs.Laid.{Laid, GrownArrays, IsLaid}
 use Rattle.rawk_arrays.specs.ArraysLaws.{arrays_of-grown, GrownArrays-back, FitsArrays-grown, IsLaid-back}
 use Rattle.std.specs.Global.{Box}
-use Rattle.rawk_store.specs.declared.others.FewGroup.{FewGroup}
-use Rattle.rawk_store.specs.declared.others.Others.{Others}
+use Rattle.rawk_store.specs.declared.rare_changes.FewGroup.{FewGroup}
+use Rattle.rawk_store.specs.declared.rare_changes.RareChanges.{RareChanges}
 use Rattle.rawk_store.specs.Groups.{Group}
 use Rattle.rawk_store.specs.GroupBack.{ArraysFit, FewArraysFit, arrays_in, few_arrays}
 use Rattle.rawk_store.specs.Observed.{Observed}
@@ -31,15 +31,15 @@ few_laid : (l : Laid) (f : Option (Box FewGroup)) → IsLaid l.index l.slots →
 few_laid l None h = h
 few_laid l (Some f) h = IsLaid-back l f.value.arrays h
 
-in-grown : (l m : Laid) (o : Option Others) → GrownArrays l m → ArraysFit o l → GrownArrays (arrays_in l o) (arrays_in m o)
+in-grown : (l m : Laid) (o : Option RareChanges) → GrownArrays l m → ArraysFit o l → GrownArrays (arrays_in l o) (arrays_in m o)
 in-grown l m None g h = g
 in-grown l m (Some o) g h = few-grown l m o.few g h
 
-fits-grown : (l m : Laid) (o : Option Others) → GrownArrays l m → ArraysFit o l → ArraysFit o m
+fits-grown : (l m : Laid) (o : Option RareChanges) → GrownArrays l m → ArraysFit o l → ArraysFit o m
 fits-grown l m None g h = tt
 fits-grown l m (Some o) g h = few_fits-grown l m o.few g h
 
-pub laid_in : (l : Laid) (o : Option Others) → IsLaid l.index l.slots → IsLaid (arrays_in l o).index (arrays_in l o).slots
+pub laid_in : (l : Laid) (o : Option RareChanges) → IsLaid l.index l.slots → IsLaid (arrays_in l o).index (arrays_in l o).slots
 laid_in l None h = h
 laid_in l (Some o) h = few_laid l o.few h
 

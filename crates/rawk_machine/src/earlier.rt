@@ -17,7 +17,7 @@ use crate::last_move::LastMove;
 use crate::machine::Machine;
 use rawk_history::Keeper;
 use rawk_store::{
-    FieldRef, Group, Others, Record, ValueRef, global_after, global_before, led_to, saved_at,
+    FieldRef, Group, RareChanges, Record, ValueRef, global_after, global_before, led_to, saved_at,
 };
 use rawk_tape::Source;
 use rawk_value::Value;
@@ -67,7 +67,7 @@ struct SlotAt<'a> {
 }
 
 /// A slot where old values lead, from what it is now; for a number of a slot.
-fn slot_before<'a>(others: Option<&'a Others>, now: SlotAt<'a>, number: usize) -> SlotAt<'a>
+fn slot_before<'a>(others: Option<&'a RareChanges>, now: SlotAt<'a>, number: usize) -> SlotAt<'a>
     ensures slot { (l : Laid) → number < length l.slots → slice_get l.slots number ≡ option_copied now.entry.slot → slice_get (arrays_in l (option_copied others.entry)).slots number ≡ option_copied result.slot }
     ensures live { (l : Laid) → l.live ≡ now.entry.live → (arrays_in l (option_copied others.entry)).live ≡ result.live }
 {

@@ -55,7 +55,7 @@ impl Table {
     pub fn number(&mut self, alloc: Global, group: usize, word: &[u8]) -> Result<usize, AllocError>
         ensures { IfOk result (λ number. (number, self.new) ≡ numbered (array_key group word.now) self.old) }
     {
-        number_in(alloc, &mut self.keys, group, word)
+        number_or_add(alloc, &mut self.keys, group, word)
     }
 
     /// The name at a place.
@@ -75,7 +75,12 @@ fn find_in(keys: &Keys, group: usize, word: &[u8]) -> Option<usize>
     keys.find(group, word)
 }
 
-fn number_in(alloc: Global, keys: &mut Keys, group: usize, word: &[u8]) -> Result<usize, AllocError>
+fn number_or_add(
+    alloc: Global,
+    keys: &mut Keys,
+    group: usize,
+    word: &[u8],
+) -> Result<usize, AllocError>
     requires { AreOnce keys.old }
     ensures did { IfOk result (λ number. (number, keys.new) ≡ numbered (array_key group word.now) keys.old) }
     ensures once { AreOnce keys.new }

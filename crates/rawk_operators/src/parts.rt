@@ -40,7 +40,7 @@ pub fn part(
 
 /// The part of a text from a place on, `count` bytes, or the fault of a number. It fails where memory is refused.
 #[inline(always)]
-pub fn make_part(
+pub fn make_substr(
     alloc: Global,
     value: Borrowed<'_>,
     place: Borrowed<'_>,

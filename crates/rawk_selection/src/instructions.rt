@@ -126,9 +126,9 @@ fn put_missing(code: &mut Vec<Instr>, x: Destination) -> Result<(), AllocError>
 
 /// A part of a text.
 pub fn put_part(code: &mut Vec<Instr>) -> Result<(), AllocError>
-    ensures { OnOk result (code.new.items ≡ code.old.items ++ Instr.Do Op.Part ∷ []) }
+    ensures { OnOk result (code.new.items ≡ code.old.items ++ Instr.Do Op.Substr ∷ []) }
 {
-    put(code, Instr::Do(Op::Part))
+    put(code, Instr::Do(Op::Substr))
 }
 
 /// What a range's flag becomes.

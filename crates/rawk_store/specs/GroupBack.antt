@@ -5,9 +5,9 @@ use Rattle.rawk_value.specs.declared.value.Value.{Value}
 use Rattle.rawk_slots.specs.declared.saved.Saved.{Saved}
 use Rattle.rawk_cells.specs.declared.cells.Appended.{Appended}
 use Rattle.rawk_cells.specs.Cells.{FitsAppended, with_again, without}
-use Rattle.rawk_store.specs.declared.others.FewGroup.{FewGroup}
-use Rattle.rawk_store.specs.declared.others.Others.{Others}
-use Rattle.rawk_store.specs.declared.others.RareGroup.{RareGroup}
+use Rattle.rawk_store.specs.declared.rare_changes.FewGroup.{FewGroup}
+use Rattle.rawk_store.specs.declared.rare_changes.RareChanges.{RareChanges}
+use Rattle.rawk_store.specs.declared.rare_changes.RareGroup.{RareGroup}
 use Rattle.rawk_store.specs.declared.store.Store.{Store}
 use Rattle.rawk_store.specs.Groups.{Group}
 use Rattle.rawk_slots.specs.Back.{back, AreBelow}
@@ -21,16 +21,16 @@ use Rattle.rawk_record.specs.Shown.{record_back}
 use Rattle.rawk_store.specs.Layout.{Layout}
 
 -- what came behind a text that grew
-abbrev pub grown_in : Option Others → Option (Box Appended)
+abbrev pub grown_in : Option RareChanges → Option (Box Appended)
 grown_in None = None
 grown_in (Some o) = o.grown
 
 -- the globals without it
-abbrev pub globals_in : List Value → Option Others → List Value
+abbrev pub globals_in : List Value → Option RareChanges → List Value
 globals_in xs o = without (grown_in o) xs
 
 -- the globals with newer values put in, and with it
-abbrev pub globals_on : List Value → List (Saved Value) → Option Others → List Value
+abbrev pub globals_on : List Value → List (Saved Value) → Option RareChanges → List Value
 globals_on xs newer o = with_again (grown_in o) (back xs newer)
 
 -- parts that few steps change, with what was saved of them put back: a part that was not changed stays
@@ -38,7 +38,7 @@ abbrev pub few_arrays : Laid → Option (Box FewGroup) → Laid
 few_arrays l None = l
 few_arrays l (Some f) = arrays_back l f.value.arrays
 
-abbrev pub arrays_in : Laid → Option Others → Laid
+abbrev pub arrays_in : Laid → Option RareChanges → Laid
 arrays_in l None = l
 arrays_in l (Some o) = few_arrays l o.few
 
@@ -58,11 +58,11 @@ abbrev pub few_ranges : List Bool → Option (Box FewGroup) → List Bool
 few_ranges l None = l
 few_ranges l (Some f) = rare_ranges l f.value.rare
 
-abbrev pub keys_in : LaidKeys → Option Others → LaidKeys
+abbrev pub keys_in : LaidKeys → Option RareChanges → LaidKeys
 keys_in l None = l
 keys_in l (Some o) = few_keys l o.few
 
-abbrev pub ranges_in : List Bool → Option Others → List Bool
+abbrev pub ranges_in : List Bool → Option RareChanges → List Bool
 ranges_in l None = l
 ranges_in l (Some o) = few_ranges l o.few
 
@@ -85,7 +85,7 @@ abbrev pub FewArraysFit : Option (Box FewGroup) → Laid → Type 0
 FewArraysFit None l = Unit {0}
 FewArraysFit (Some f) l = FitsArrays f.value.arrays l
 
-abbrev pub ArraysFit : Option Others → Laid → Type 0
+abbrev pub ArraysFit : Option RareChanges → Laid → Type 0
 ArraysFit None l = Unit {0}
 ArraysFit (Some o) l = FewArraysFit o.few l
 
@@ -100,16 +100,16 @@ FewFit None l = Unit {0}
 FewFit (Some f) l = FitsArrays f.value.arrays l.arrays × RareFit f.value.rare l
 
 -- each place of these parts is one of the layout
-pub record OthersFit (o : Others) (l : Layout) : Type 0 where
+pub record RareChangesFit (o : RareChanges) (l : Layout) : Type 0 where
   pub grown : FitsAppended o.grown l.globals
   pub few : FewFit o.few l
 
-abbrev pub FitsOthers : Option Others → Layout → Type 0
-FitsOthers None l = Unit {0}
-FitsOthers (Some o) l = OthersFit o l
+abbrev pub FitsRareChanges : Option RareChanges → Layout → Type 0
+FitsRareChanges None l = Unit {0}
+FitsRareChanges (Some o) l = RareChangesFit o l
 
 -- the layout with these parts put back
-abbrev pub others_put : Layout → Option Others → Layout
+abbrev pub others_put : Layout → Option RareChanges → Layout
 others_put l o = record {
   globals = globals_in l.globals o;
   arrays = arrays_in l.arrays o;
@@ -123,7 +123,7 @@ others_put l o = record {
 }
 
 -- what was saved of these parts leads from the one layout back to the other
-pub record OthersLead (o : Option Others) (now start : Layout) : Type 0 where
+pub record RareChangesLead (o : Option RareChanges) (now start : Layout) : Type 0 where
   pub arrays : arrays_in now.arrays o ≡ start.arrays
   pub keys : keys_in now.keys o ≡ start.keys
   pub ranges : ranges_in now.ranges o ≡ start.ranges
@@ -158,5 +158,5 @@ pub record FitsIn (group : Group) (l : Layout) : Type 0 where
   pub globals : AreBelow (length (globals_in l.globals group.others)) group.globals
   pub frames : FitsFrames group.frames l.frames
   pub operands : FitsStackIf group.operands l.operands
-  pub others : FitsOthers group.others l
+  pub others : FitsRareChanges group.others l
   pub output : group.output ≤ length l.output

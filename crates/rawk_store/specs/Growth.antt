@@ -19,13 +19,13 @@ use Rattle.rawk_frames.specs.LaidKeys.{AreKeysLive, GrownKeys}
 use Rattle.rawk_frames.specs.FramesLaws.{frames_of-grown, keys_of-grown, GrownFrames-refl, GrownFrames-trans, GrownFrames-back, GrownKeys-refl, GrownKeys-trans, GrownKeys-back, FitsFrames-grown, FitsKeys-grown, AreFramesLive-back, AreKeysLive-back, AreNested-grown}
 use Rattle.rawk_record.specs.Shown.{Shown, record_back}
 use Rattle.rawk_store.specs.declared.registers.Registers.{Registers}
-use Rattle.rawk_store.specs.declared.others.FewGroup.{FewGroup}
-use Rattle.rawk_store.specs.declared.others.Others.{Others}
-use Rattle.rawk_store.specs.declared.others.RareGroup.{RareGroup}
+use Rattle.rawk_store.specs.declared.rare_changes.FewGroup.{FewGroup}
+use Rattle.rawk_store.specs.declared.rare_changes.RareChanges.{RareChanges}
+use Rattle.rawk_store.specs.declared.rare_changes.RareGroup.{RareGroup}
 use Rattle.rawk_store.specs.Groups.{Group}
 use Rattle.rawk_store.specs.State.{State}
 use Rattle.rawk_store.specs.Layout.{Layout, Grown, IsSound, keys, operands, state}
-use Rattle.rawk_store.specs.GroupBack.{FewFit, FitsIn, FitsOthers, RareFit, few_arrays, few_keys, rare_keys, arrays_in, keys_in, globals_in, others_put, put_back, ranges_in}
+use Rattle.rawk_store.specs.GroupBack.{FewFit, FitsIn, FitsRareChanges, RareFit, few_arrays, few_keys, rare_keys, arrays_in, keys_in, globals_in, others_put, put_back, ranges_in}
 
 pub Grown-refl : (l : Layout) → Grown l l
 Grown-refl l = record {
@@ -164,7 +164,7 @@ few_arrays-grown : (l m : Layout) (f : Option (Box FewGroup)) → Grown l m → 
 few_arrays-grown l m None g h = g.arrays
 few_arrays-grown l m (Some f) g h = GrownArrays-back l.arrays m.arrays f.value.arrays g.arrays h.0
 
-arrays_in-grown : (l m : Layout) (o : Option Others) → Grown l m → FitsOthers o l → GrownArrays (arrays_in l.arrays o) (arrays_in m.arrays o)
+arrays_in-grown : (l m : Layout) (o : Option RareChanges) → Grown l m → FitsRareChanges o l → GrownArrays (arrays_in l.arrays o) (arrays_in m.arrays o)
 arrays_in-grown l m None g h = g.arrays
 arrays_in-grown l m (Some o) g h = few_arrays-grown l m o.few g h.few
 
@@ -176,7 +176,7 @@ few_keys-grown : (l m : Layout) (f : Option (Box FewGroup)) → Grown l m → Fe
 few_keys-grown l m None g h = g.keys
 few_keys-grown l m (Some f) g h = rare_keys-grown l m f.value.rare g h.1
 
-keys_in-grown : (l m : Layout) (o : Option Others) → Grown l m → FitsOthers o l → GrownKeys (keys_in l.keys o) (keys_in m.keys o)
+keys_in-grown : (l m : Layout) (o : Option RareChanges) → Grown l m → FitsRareChanges o l → GrownKeys (keys_in l.keys o) (keys_in m.keys o)
 keys_in-grown l m None g h = g.keys
 keys_in-grown l m (Some o) g h = few_keys-grown l m o.few g h.few
 
@@ -202,9 +202,9 @@ FewFit-grown : (l m : Layout) (f : Option (Box FewGroup)) → Grown l m → FewF
 FewFit-grown l m None g h = tt
 FewFit-grown l m (Some f) g h = (FitsArrays-grown l.arrays m.arrays f.value.arrays g.arrays h.0, RareFit-grown l m f.value.rare g h.1)
 
-FitsOthers-grown : (l m : Layout) (o : Option Others) → Grown l m → FitsOthers o l → FitsOthers o m
-FitsOthers-grown l m None g h = tt
-FitsOthers-grown l m (Some o) g h = record {
+FitsRareChanges-grown : (l m : Layout) (o : Option RareChanges) → Grown l m → FitsRareChanges o l → FitsRareChanges o m
+FitsRareChanges-grown l m None g h = tt
+FitsRareChanges-grown l m (Some o) g h = record {
   grown = subst (λ (xs : List Value). FitsAppended o.grown xs) (sym g.globals) h.grown;
   few = FewFit-grown l m o.few g h.few;
 }
@@ -214,7 +214,7 @@ FitsIn-grown l m group g h = record {
   globals = subst (λ (xs : List Value). AreBelow (length (globals_in xs group.others)) group.globals) (sym g.globals) h.globals;
   frames = FitsFrames-grown l.frames m.frames group.frames g.frames h.frames;
   operands = FitsStackIf-over l.operands m.operands group.operands g.operands h.operands;
-  others = FitsOthers-grown l m group.others g h.others;
+  others = FitsRareChanges-grown l m group.others g h.others;
   output = rw g.output h.output;
 }
 
@@ -230,7 +230,7 @@ few_live : (l : Layout) (f : Option (Box FewGroup)) → FewFit f l → AreKeysLi
 few_live l None h s = s
 few_live l (Some f) h s = rare_live l f.value.rare h.1 s
 
-IsSound-others : (l : Layout) (o : Option Others) → FitsOthers o l → IsSound l → IsSound (others_put l o)
+IsSound-others : (l : Layout) (o : Option RareChanges) → FitsRareChanges o l → IsSound l → IsSound (others_put l o)
 IsSound-others l None h s = record { arrays = s.arrays; frames = s.frames; nested = s.nested; keys = s.keys; operands = s.operands }
 IsSound-others l (Some o) h s = record {
   arrays = few_laid l o.few h.few s.arrays;

@@ -2,8 +2,8 @@
 use Rattle.std.specs.Prelude.{◌≡◌, ℕ, ◌+◌, [], IfSome, length, Option, None, Some}
 use Rattle.rawk_slots.specs.Back.{HasDistinctPlaces}
 use Rattle.std.specs.Global.{Box}
-use Rattle.rawk_store.specs.declared.others.FewGroup.{FewGroup}
-use Rattle.rawk_store.specs.declared.others.Others.{Others}
+use Rattle.rawk_store.specs.declared.rare_changes.FewGroup.{FewGroup}
+use Rattle.rawk_store.specs.declared.rare_changes.RareChanges.{RareChanges}
 use Rattle.rawk_store.specs.Groups.{Group}
 use Rattle.rawk_store.specs.GroupBack.{grown_in}
 
@@ -17,10 +17,10 @@ saved_elements None = 0
 saved_elements (Some f) = length f.value.arrays.slots.entries.items
 
 -- these, and that of a text that grew, among those of the parts that few steps change
-abbrev pub saved_in_part : Others → ℕ
+abbrev pub saved_in_part : RareChanges → ℕ
 saved_in_part o = saved_elements o.few + one_if_some o.grown
 
-abbrev pub saved_others : Option Others → ℕ
+abbrev pub saved_others : Option RareChanges → ℕ
 saved_others None = 0
 saved_others (Some o) = saved_in_part o
 
@@ -33,7 +33,7 @@ abbrev pub FewOnce : Option (Box FewGroup) → Type 0
 FewOnce None = Unit {0}
 FewOnce (Some f) = HasDistinctPlaces f.value.arrays.slots.entries.items
 
-abbrev pub ElementsOnce : Option Others → Type 0
+abbrev pub ElementsOnce : Option RareChanges → Type 0
 ElementsOnce None = Unit {0}
 ElementsOnce (Some o) = FewOnce o.few
 

@@ -4,7 +4,7 @@ ghost use Rattle.std.specs.Prelude.{◌≡◌};
 ghost use Rattle.std.specs.Option.{option_copied};
 ghost use Rattle.rawk_store.specs.Saving.{saved_in, saved_others};
 
-use crate::others::Others;
+use crate::rare_changes::RareChanges;
 use crate::registers::Registers;
 use rawk_frames::FramesGroup;
 use rawk_record::Record;
@@ -18,7 +18,7 @@ pub struct Group {
     pub(crate) globals: SlotGroup<Value>,
     pub(crate) frames: FramesGroup,
     pub(crate) operands: Option<StackGroup<Value>>,
-    pub(crate) others: Option<Others>,
+    pub(crate) others: Option<RareChanges>,
     pub(crate) current: Option<Record>,
     /// How many bytes of output there were.
     pub(crate) output: usize,
@@ -48,7 +48,7 @@ impl Group {
     }
 
     /// What was changed of the parts that few steps change, if anything was.
-    pub fn others(&self) -> Option<&Others>
+    pub fn others(&self) -> Option<&RareChanges>
         ensures { option_copied result ≡ self.now.others }
     {
         self.others.as_ref()
@@ -74,8 +74,8 @@ impl Group {
     }
 }
 
-/// How many old values these parts hold, if any was changed (see `Others::saved`).
-fn saved_others(others: &Option<Others>) -> usize
+/// How many old values these parts hold, if any was changed (see `RareChanges::saved`).
+fn saved_others(others: &Option<RareChanges>) -> usize
     ensures { result ≡ saved_others others.now }
 {
     match others {

@@ -8,7 +8,7 @@ ghost use Rattle.rawk_cells.specs.Cells.{lengthened, shortened};
 ghost use Rattle.rawk_store.specs.GroupBack.{globals_in, globals_on, grown_in};
 ghost use Rattle.rawk_store.specs.Lent.{lent};
 
-use crate::others::Others;
+use crate::rare_changes::RareChanges;
 use rawk_cells::Appended;
 use rawk_slots::{Saved, led_to, saved_at};
 use rawk_value::Value;
@@ -51,7 +51,7 @@ fn longer<'a>(value: &'a Value, more: &'a [u8]) -> ValueRef<'a>
 }
 
 /// What came behind a text in a step, if anything did.
-fn grown_in(others: Option<&Others>) -> Option<&Appended>
+fn grown_in(others: Option<&RareChanges>) -> Option<&Appended>
     ensures { option_copied result ≡ option_map (λ a. a.value) (grown_in (option_copied others.entry)) }
 {
     match others {
@@ -66,7 +66,7 @@ fn grown_in(others: Option<&Others>) -> Option<&Appended>
 /// A global before a step that changed `saved` of the globals and `others`, from its value now, for a number of a global. It takes no memory.
 pub fn global_before<'a>(
     saved: &'a [Saved<Value>],
-    others: Option<&'a Others>,
+    others: Option<&'a RareChanges>,
     now: Option<&'a Value>,
     number: usize,
 ) -> Option<ValueRef<'a>>
@@ -87,7 +87,7 @@ pub fn global_before<'a>(
 /// A global after a step that was put back, which left these newer values of globals and `others`, from its value now, for a number of a global. It takes no memory.
 pub fn global_after<'a>(
     newer: &'a [Saved<Value>],
-    others: Option<&'a Others>,
+    others: Option<&'a RareChanges>,
     now: Option<&'a Value>,
     number: usize,
 ) -> Option<ValueRef<'a>>

@@ -5,7 +5,7 @@ ghost use Rattle.rawk_record.specs.Shown.{record_back};
 ghost use Rattle.rawk_store.specs.Layout.{IsSound, state};
 ghost use Rattle.rawk_store.specs.Saving.{SavesOnce};
 ghost use Rattle.rawk_store.specs.Stores.{BeganNested, IsNew, few_rested, globals_rested, now_of, start_of};
-ghost use Rattle.rawk_store.specs.GroupBack.{ArraysFit, FewArraysFit, FewFit, FewLead, FitsIn, FitsOthers, HasFewRoom, HasRoom, OthersLead, RareFit, RareLeads, arrays_in, few_arrays, few_keys, few_ranges, grown_in, others_put, put_back, rare_keys, rare_ranges};
+ghost use Rattle.rawk_store.specs.GroupBack.{ArraysFit, FewArraysFit, FewFit, FewLead, FitsIn, FitsRareChanges, HasFewRoom, HasRoom, RareChangesLead, RareFit, RareLeads, arrays_in, few_arrays, few_keys, few_ranges, grown_in, others_put, put_back, rare_keys, rare_ranges};
 ghost use Rattle.rawk_arrays.specs.Laid.{IsLaid};
 ghost use Rattle.rawk_cells.specs.Cells.{FitsAppended, with_again, without};
 ghost use Rattle.rawk_slots.specs.Back.{back};
@@ -13,8 +13,8 @@ ghost use Rattle.rawk_slots.specs.Journaled.{at_rest};
 ghost use Rattle.rawk_frames.specs.LaidKeys.{AreKeysLive};
 
 use crate::group::Group;
-use crate::others::{FewGroup, Others, RareGroup};
 use crate::output::Output;
+use crate::rare_changes::{FewGroup, RareChanges, RareGroup};
 use crate::registers::{Bank, Registers};
 use rawk_arrays::Arrays;
 use rawk_cells::{Appended, Cells};
@@ -160,20 +160,20 @@ impl Store {
         alloc: Global,
         room: Option<Box<FewGroup>>,
         grown: Option<Box<Appended>>,
-    ) -> Option<Others>
+    ) -> Option<RareChanges>
         requires room { HasFewRoom room self.old }
         requires grown { FitsAppended grown self.old.globals.now }
         ensures now { now_of self.new ≡ now_of self.old }
         ensures start { start_of self.new ≡ few_rested (now_of self.old) (start_of self.old) }
-        ensures back { OthersLead result (now_of self.old) (start_of self.old) }
-        ensures fits { FitsOthers result (now_of self.old) }
+        ensures back { RareChangesLead result (now_of self.old) (start_of self.old) }
+        ensures fits { FitsRareChanges result (now_of self.old) }
         ensures grown { grown_in result ≡ grown }
     {
         let few = self.finish_few(alloc, room);
         if grown.is_none() && few.is_none() {
             return None;
         }
-        Some(Others { grown, few })
+        Some(RareChanges { grown, few })
     }
 
     /// Ends the step, and gives what it changed, of each global and each element once. It takes memory at most where a text grew in place, or arrays, keys
@@ -321,8 +321,8 @@ impl Store {
 
     /// Puts back what a step that ended changed in the parts that few steps change, and leaves the newer values there, and takes what came behind a text of the globals from
     /// there. It takes no memory and always succeeds.
-    pub fn undo_others(&mut self, others: &mut Option<Others>)
-        requires { FitsOthers others.old (now_of self.old) }
+    pub fn undo_others(&mut self, others: &mut Option<RareChanges>)
+        requires { FitsRareChanges others.old (now_of self.old) }
         ensures now { now_of self.new ≡ others_put (now_of self.old) others.old }
         ensures start { start_of self.new ≡ globals_rested (now_of self.new) (start_of self.old) }
         ensures newer_globals { with_again (grown_in others.new) self.new.globals.now ≡ self.old.globals.now }

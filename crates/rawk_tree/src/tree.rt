@@ -63,7 +63,7 @@ pub enum Expr {
     /// a call of a function, by its number from 0 in the order of the text: the arguments of its scalar parameters, and those of its arrays, each in their order
     Call(usize, Vec<Expr>, Vec<Array>),
     /// a number of bytes of a text from a place on: `substr` with three arguments
-    Part(Box<Expr>, Box<Expr>, Box<Expr>),
+    Substr(Box<Expr>, Box<Expr>, Box<Expr>),
     /// `match`: the place where the first match stands in the left text of the expression that the right text is
     Match(Box<Expr>, Box<Expr>),
     /// `sub` and `gsub`: the expression, the replacement, and the place whose text is changed

@@ -5,7 +5,7 @@ use Rattle.rawk_builtin_trees.proofs.calls.apply_three.Goals as goal
 
 pub returns : goal.returns
 returns c = (
-  tree.Part c.in_ok-text.text c.in_ok-text.place c.in_ok-text.count,
+  tree.Substr c.in_ok-text.text c.in_ok-text.place c.in_ok-text.count,
   refl,
   part_applies c.args.text c.args.place c.args.count c.in_ok-text.text c.in_ok-text.place c.in_ok-text.count c.in_ok-text.ensures.first c.in_ok-text.ensures.second c.in_ok-text.ensures.third,
 )

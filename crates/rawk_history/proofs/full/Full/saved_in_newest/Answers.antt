@@ -3,7 +3,7 @@ use Rattle.std.specs.List.{count_by}
 use Rattle.std.specs.Global.{Vec}
 use Rattle.std.proofs.lemmas.List.{length-reverse, length-take-le}
 use Rattle.rawk_record.specs.Shown.{Shown}
-use Rattle.rawk_store.specs.declared.others.Others.{Others}
+use Rattle.rawk_store.specs.declared.rare_changes.RareChanges.{RareChanges}
 use Rattle.rawk_store.specs.Groups.{Group}
 use Rattle.rawk_history.specs.declared.full.Mark.{Mark}
 use Rattle.rawk_history.specs.Flat.{began_by}
@@ -31,7 +31,7 @@ returns c = λ few.
     let on = c.others_in.ensures ∙ (sym (count-reverse (λ m. m.has_others) marks) ∙ ap (count_by (λ (m : Mark). m.has_others)) is) in
     let sn = c.sets_in.ensures ∙ (sym (count-reverse (λ m. m.has_sets) marks) ∙ ap (count_by (λ (m : Mark). m.has_sets)) is) in
     let r = sym (length-reverse c.newest_of-records.result.now) ∙ ap length (c.newest_of-records.ensures ∙ (ap (λ k. take k (reverse c.deref-2.result.now)) rn ∙ ap (λ (xs : List Shown). take (count_by (λ (m : Mark). m.has_record) newest) (reverse xs)) c.deref-2.ensures.value)) in
-    let o = sym (others_reverse c.newest_of.result.now) ∙ ap saved_in_others (c.newest_of.ensures ∙ (ap (λ k. take k (reverse c.deref-3.result.now)) on ∙ ap (λ (xs : List Others). take (count_by (λ (m : Mark). m.has_others) newest) (reverse xs)) c.deref-3.ensures.value)) in
+    let o = sym (others_reverse c.newest_of.result.now) ∙ ap saved_in_others (c.newest_of.ensures ∙ (ap (λ k. take k (reverse c.deref-3.result.now)) on ∙ ap (λ (xs : List RareChanges). take (count_by (λ (m : Mark). m.has_others) newest) (reverse xs)) c.deref-3.ensures.value)) in
     let s = sym (sets_reverse c.newest_of-2.result.now) ∙ ap saved_in_sets (c.newest_of-2.ensures ∙ (ap (λ k. take k (reverse c.deref-4.result.now)) sn ∙ ap (λ (xs : List (Vec Group)). take (count_by (λ (m : Mark). m.has_sets) newest) (reverse xs)) c.deref-4.ensures.value)) in
     let x = c.saved_in_others-others.ensures (omega (arith, few, view, flat, within, o)) in
     let y = c.saved_in_sets-sets.ensures (omega (arith, few, view, flat, within, s)) in

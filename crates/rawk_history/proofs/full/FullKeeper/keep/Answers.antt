@@ -1,7 +1,7 @@
 use Rattle.std.proofs.Common.{◌≡◌, ◌∙◌, ◌∷◌, ◌++◌, [], ap, refl, take, reverse, if◌then◌else◌, Some, None}
 use Rattle.rawk_frames.specs.KeptStacks.{lists_of}
 use Rattle.rawk_history.specs.declared.full.Mark.{Mark}
-use Rattle.rawk_history.specs.declared.full.Slow.{Slow}
+use Rattle.rawk_history.specs.declared.full.RareRegisters.{RareRegisters}
 use Rattle.rawk_history.specs.Flat.{newest_slow, registers_by}
 use Rattle.rawk_history.proofs.Flats.{full_added, is_added, kept_added, registers_are, site_is}
 use Rattle.rawk_history.proofs.full.FullKeeper.keep.Goals as goal
@@ -56,4 +56,4 @@ returns-clause-did c =
     let slow = c.add_slow.ensures.first ∙ c.slow_of.ensures in
     let s = newest_slow (reverse c.add_slow.new.list.items) in
     let site : (if c.is_some.result then Some c.unwrap_or.result else None) ≡ r.registers.site = rw (c.is_some.ensures, c.unwrap_or.ensures) (site_is r.registers.site) in
-    is_added _ _ _ _ _ _ _ _ _ _ r.output s.output r.registers (registers_by m s) c.taken.result _ c.args.sets.now.items _ _ _ e all (ap (λ (x : Slow). x.output) slow) (registers_are m s r.registers r.output slow refl refl refl site) refl refl c.add_if.ensures.first c.taken.ensures.is (ap (λ k. k.kept) c.self.view_is)
+    is_added _ _ _ _ _ _ _ _ _ _ r.output s.output r.registers (registers_by m s) c.taken.result _ c.args.sets.now.items _ _ _ e all (ap (λ (x : RareRegisters). x.output) slow) (registers_are m s r.registers r.output slow refl refl refl site) refl refl c.add_if.ensures.first c.taken.ensures.is (ap (λ k. k.kept) c.self.view_is)

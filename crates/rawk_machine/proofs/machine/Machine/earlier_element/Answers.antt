@@ -3,7 +3,7 @@ use Rattle.std.proofs.lemmas.Option.{same_Some}
 use Rattle.std.specs.Prelude.{option_copied}
 use Rattle.rawk_arrays.specs.Elements.{element_at}
 use Rattle.rawk_arrays.specs.ListLaws.{length_arrays}
-use Rattle.rawk_store.specs.declared.others.Others.{Others}
+use Rattle.rawk_store.specs.declared.rare_changes.RareChanges.{RareChanges}
 use Rattle.rawk_store.specs.Groups.{Group}
 use Rattle.rawk_store.specs.GroupBack.{arrays_in}
 use Rattle.rawk_store.specs.Observed.{Observed}
@@ -42,8 +42,8 @@ returns-in-Some-newest g c = λ s is.
     let last : last_of i.last (g.K.Keeper.forth i.keeper) ≡ On = ap (λ (x : LastMove). last_of x (g.K.Keeper.forth i.keeper)) c.in-On.is in
     let before = sym (ap (λ (la : Last). before_of la l.globals l.arrays l.current (pasts l i.sets.items i.point here kept)) last) ∙ ap (λ (x : Standing g.row.R.Denot). x.before) c.self.view_is ∙ is in
     let arrays = on_arrays l i.sets.items i.point here kept e.0 e.1 s e.2 (v.clean last) before in
-    let slot : slice_get m.slots n ≡ option_copied c.slot_before.result.slot = ap (λ (x : Option Others). slice_get (arrays_in l.arrays x).slots n) (sym e.5) ∙ c.slot_before.ensures.slot l.arrays c.in-Some.ensures.0 (sym c.slot.ensures) in
-    let live : m.live ≡ c.slot_before.result.live = ap (λ (x : Option Others). (arrays_in l.arrays x).live) (sym e.5) ∙ c.slot_before.ensures.live l.arrays (sym (c.len.ensures ∙ length_arrays l.arrays)) in
+    let slot : slice_get m.slots n ≡ option_copied c.slot_before.result.slot = ap (λ (x : Option RareChanges). slice_get (arrays_in l.arrays x).slots n) (sym e.5) ∙ c.slot_before.ensures.slot l.arrays c.in-Some.ensures.0 (sym c.slot.ensures) in
+    let live : m.live ≡ c.slot_before.result.live = ap (λ (x : Option RareChanges). (arrays_in l.arrays x).live) (sym e.5) ∙ c.slot_before.ensures.live l.arrays (sym (c.len.ensures ∙ length_arrays l.arrays)) in
     c.held_by.ensures
     ∙ held_is a key n m (option_copied c.slot_before.result.slot) c.slot_before.result.live (laid_in l.arrays o v.sound.arrays) (slot_stays a key n l.arrays m c.in-Some.ensures (index_in l.arrays o) (size_in l.arrays o)) slot live
     ∙ ap (element_at a key) (sym arrays)
@@ -62,8 +62,8 @@ returns-in-Some-ahead g c = λ s is.
     let m = arrays_forth mid f.sets in
     let last : last_of i.last (g.K.Keeper.forth i.keeper) ≡ Back f = ap (λ (x : LastMove). last_of x (g.K.Keeper.forth i.keeper)) c.in-Back.is ∙ ap (last_of move.Back) e.1 in
     let seen = same_Some _ _ (sym (ap (λ (la : Last). before_of la l.globals l.arrays l.current (pasts l i.sets.items i.point (reverse i.here.items) (g.K.Keeper.kept i.keeper))) last) ∙ ap (λ (x : Standing g.row.R.Denot). x.before) c.self.view_is ∙ is) in
-    let first : slice_get mid.slots n ≡ option_copied c.slot_before-in-Some-ahead.result.slot = ap (λ (x : Option Others). slice_get (arrays_in l.arrays x).slots n) (sym e.4) ∙ c.slot_before-in-Some-ahead.ensures.slot l.arrays c.in-Some.ensures.0 (sym c.slot.ensures) in
-    let first_live : mid.live ≡ c.slot_before-in-Some-ahead.result.live = ap (λ (x : Option Others). (arrays_in l.arrays x).live) (sym e.4) ∙ c.slot_before-in-Some-ahead.ensures.live l.arrays (sym (c.len.ensures ∙ length_arrays l.arrays)) in
+    let first : slice_get mid.slots n ≡ option_copied c.slot_before-in-Some-ahead.result.slot = ap (λ (x : Option RareChanges). slice_get (arrays_in l.arrays x).slots n) (sym e.4) ∙ c.slot_before-in-Some-ahead.ensures.slot l.arrays c.in-Some.ensures.0 (sym c.slot.ensures) in
+    let first_live : mid.live ≡ c.slot_before-in-Some-ahead.result.live = ap (λ (x : Option RareChanges). (arrays_in l.arrays x).live) (sym e.4) ∙ c.slot_before-in-Some-ahead.ensures.live l.arrays (sym (c.len.ensures ∙ length_arrays l.arrays)) in
     let there = slot_stays a key n l.arrays mid c.in-Some.ensures (index_in l.arrays f.others) (size_in l.arrays f.others) in
     let through = c.slot_through.ensures mid there.0 first first_live in
     let sets = sym (c.ahead_sets.ensures f e.1) in

@@ -4,7 +4,7 @@ use Rattle.std.proofs.lemmas.Option.{same_Some, slice_get_past}
 use Rattle.rawk_store.specs.Groups.{Group}
 use Rattle.rawk_store.specs.GroupBack.{globals_on}
 use Rattle.rawk_store.specs.GrownLaws.{length-globals_on}
-use Rattle.rawk_store.specs.declared.others.Others.{Others}
+use Rattle.rawk_store.specs.declared.rare_changes.RareChanges.{RareChanges}
 use Rattle.rawk_store.specs.Stores.{now_of}
 use Rattle.rawk_machine.specs.Last.{Back, Last, last_of}
 use Rattle.rawk_machine.specs.declared.last_move.LastMove.{LastMove}
@@ -51,7 +51,7 @@ returns-in-None-saved_through g c = λ s is.
     let seen = same_Some _ _ (sym (ap (λ (la : Last). before_of la l.globals l.arrays l.current (pasts l i.sets.items i.point (reverse i.here.items) (g.K.Keeper.kept i.keeper))) last) ∙ ap (λ (m : Standing g.row.R.Denot). m.before) c.self.view_is ∙ is) in
     sym (c.global_after.ensures l.globals inside (sym c.value-now.ensures))
     ∙ ap (λ es. slice_get (globals_on l.globals es (option_copied c.in-Some-ahead.step.others)) n) a.2
-    ∙ ap (λ (o : Option Others). slice_get (globals_on l.globals f.globals o) n) a.4
+    ∙ ap (λ (o : Option RareChanges). slice_get (globals_on l.globals f.globals o) n) a.4
     ∙ sym (c.in-None-saved_through.ensures mid within)
     ∙ ap (λ (gs : List Group). slice_get (globals_forth mid gs) n) (c.ahead_sets.ensures f a.1)
     ∙ ap (λ (x : Observed). slice_get x.globals n) seen

@@ -23,12 +23,12 @@ pub struct FewGroup {
 
 /// What came behind the text of a global, where a long one grew in place, and what a step changed in the parts that few steps change, if in these at all.
 #[derive(Drop)]
-pub struct Others {
+pub struct RareChanges {
     pub grown: Option<Box<Appended>>,
     pub few: Option<Box<FewGroup>>,
 }
 
-impl Others {
+impl RareChanges {
     /// How many old values of elements it holds, also where an element was not there, and of a text that grew in place. It takes no memory.
     pub fn saved(&self) -> usize
         ensures { result ≡ saved_in_part self.now }

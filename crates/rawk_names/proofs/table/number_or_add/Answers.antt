@@ -2,7 +2,7 @@ use Rattle.std.proofs.Common.{sym, ◌∙◌, subst, refl}
 use Rattle.rawk_keys.specs.ArrayKey.{array_key}
 use Rattle.rawk_names.specs.Table.{numbered, AreOnce}
 use Rattle.rawk_names.specs.Tables.{once_more}
-use Rattle.rawk_names.proofs.table.number_in.Goals as goal
+use Rattle.rawk_names.proofs.table.number_or_add.Goals as goal
 
 pub returns-in-Some-clause-did : goal.returns-in-Some-clause-did
 unfolding numbered
