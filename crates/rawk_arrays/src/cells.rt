@@ -53,7 +53,7 @@ fn number_of(alloc: Global, index: &mut Keys, array: usize, key: &[u8]) -> Resul
     ensures added { IsAddedTo array index.old index.new }
     ensures distinct { AreDistinct index.old → AreDistinct index.new }
 {
-    if let Some(number) = index.find(array, key) {
+    if let Some(number) = index.find_next(array, key) {
         return Ok(number);
     }
     let number = index.len();

@@ -60,6 +60,7 @@ fn refill(
 }
 
 /// Makes a text with its fields the present record; the record as it was when the step began stays.
+#[inline(always)]
 fn fill<const SAVES: bool>(
     alloc: Global,
     present: &mut Record,
@@ -148,6 +149,7 @@ impl Current {
     ///
     /// A separator of several bytes that is no extended regular expression is refused, and then nothing has changed: `BadEre`. Where memory is refused the answer is
     /// `OutOfMemory`. The expression is kept, and read anew only where the separator is another one than last time.
+    #[inline(always)]
     pub fn read<const SAVES: bool>(
         &mut self,
         alloc: Global,

@@ -1,8 +1,8 @@
 //! Activations of functions, with their locals.
 
-ghost use Rattle.std.specs.Prelude.{◌≡◌, ◌<◌, ◌≤◌, ◌∷◌, [], IfNone, IfSome, MatchOption, None, OnErr, OnOk, Some, drop, length, slice_get};
+ghost use Rattle.std.specs.Prelude.{◌≡◌, ◌<◌, ◌≤◌, ◌∷◌, [], IfNone, IfSome, MatchOption, None, OnErr, OnOk, Some, drop, if◌then◌else◌, length, slice_get};
 ghost use Rattle.std.specs.Bool.{OnTrue};
-ghost use Rattle.std.specs.Option.{option_copied};
+ghost use Rattle.std.specs.Option.{is_some, option_copied};
 ghost use Rattle.rawk_slots.specs.Journaled.{at_rest};
 ghost use Rattle.rawk_slots.specs.StackGroups.{first_if, rest_if};
 ghost use Rattle.rawk_slots.specs.Stacked.{live_slots, live_values};
@@ -128,6 +128,18 @@ impl Frames {
         ensures err { OnErr result (self.new.now ≡ self.old.now) }
     {
         set_local_of::<SAVES>(&self.frames, &mut self.locals, number, local)
+    }
+
+    /// Puts a local in the place of one of the newest activation, by its number from 0, and gives that, where it need not be saved, since the step has changed it already or
+    /// saves nothing; else `None`, also for a number that is none, and then nothing has changed. It takes no memory.
+    #[inline(always)]
+    pub fn take_local<const SAVES: bool>(&mut self, number: usize, spare: Local) -> Option<Local>
+        ensures value { IfSome result (λ l. slice_get (locals_now (frames_of self.old.now)) number ≡ Some l) }
+        ensures after { frames_of self.new.now ≡ (if is_some result then with_local number spare (frames_of self.old.now) else frames_of self.old.now) }
+        ensures returns { returns_of self.new.now ≡ returns_of self.old.now }
+        ensures start { OnTrue SAVES (self.new.start ≡ self.old.start) }
+    {
+        take_local_of::<SAVES>(&self.frames, &mut self.locals, number, spare)
     }
 
     /// Adds an activation with no locals. It fails where memory is refused.
@@ -459,4 +471,23 @@ fn set_local_of<const SAVES: bool>(
         None => {}
     }
     Ok(())
+}
+
+/// Puts a local in the place of one of the newest activation, and gives that, where it need not be saved.
+#[inline(always)]
+fn take_local_of<const SAVES: bool>(
+    frames: &Stack<Activation>,
+    locals: &mut Stack<Local>,
+    number: usize,
+    spare: Local,
+) -> Option<Local>
+    ensures value { IfSome result (λ l. slice_get (locals_now (frames_from (live_values frames.now.now) (live_slots locals.old.now))) number ≡ Some l) }
+    ensures after { frames_from (live_values frames.now.now) (live_slots locals.new.now) ≡ (if is_some result then with_local number spare (frames_from (live_values frames.now.now) (live_slots locals.old.now)) else frames_from (live_values frames.now.now) (live_slots locals.old.now)) }
+    ensures start { OnTrue SAVES (locals.new.start ≡ locals.old.start) }
+    ensures size { length (live_slots locals.new.now) ≡ length (live_slots locals.old.now) }
+{
+    match place_of(frames, locals, number) {
+        Some(place) => locals.take_oldest::<SAVES>(place, spare),
+        None => None,
+    }
 }

@@ -1,6 +1,7 @@
 //! A list of keys of arrays, in which one is found by its bytes.
 
 ghost use Rattle.std.specs.Prelude.{◌≡◌, ◌<◌, ◌≤◌, ◌++◌, ◌∷◌, [], IfOk, IsTrue, ◌↔◌, MatchOption, OnErr, OnOk, Some, length, slice_get, slice_range};
+ghost use Rattle.std.specs.Bool.{OnTrue};
 ghost use Rattle.std.proofs.Common.{get_or};
 ghost use Rattle.rawk_keys.specs.declared.keys.KeyRange.{KeyRange};
 ghost use Rattle.rawk_keys.specs.ArrayKey.{IsAbsent, IsLastOf, ArrayKey, array_key};
@@ -29,6 +30,8 @@ pub struct Keys {
     spans: Vec<KeyRange>,
     by_hash: Chains,
     by_array: Chains,
+    // The number of the entry behind the one that was found last. No contract sees it, since no answer depends on it.
+    guess: usize,
 }
 
 impl Model for Keys {
@@ -97,6 +100,23 @@ impl Keys {
         )
     }
 
+    /// The same. The entry behind the one that was found last is looked at first, so that keys that are sought in the order in which they were added need no hash.
+    pub fn find_next(&mut self, array: usize, key: &[u8]) -> Option<usize>
+        ensures found { let entry = array_key array key.now in MatchOption result (IsAbsent entry self.old) (λ i. slice_get self.old i ≡ Some entry) }
+        ensures same { self.new ≡ self.old }
+    {
+        let guess = self.guess;
+        let found = if is_at(&self.text, &self.spans, &self.by_array, guess, array, key) {
+            Some(guess)
+        } else {
+            self.find(array, key)
+        };
+        if let Some(number) = found {
+            self.guess = number.saturating_add(1);
+        }
+        found
+    }
+
     /// The last entry of an array.
     pub fn latest(&self, array: usize) -> Option<usize>
         ensures { IsLastOf array self.now (length self.now) result }
@@ -141,6 +161,7 @@ fn none_from(alloc: Global, basis: usize) -> Keys
         spans: Vec::new(alloc),
         by_hash: Chains::new(alloc),
         by_array: Chains::new(alloc),
+        guess: 0,
     }
 }
 
@@ -277,6 +298,26 @@ fn is_key(
 {
     if by_array.label(number) == array {
         return same_bytes(key_at(text, spans, number), key);
+    }
+    false
+}
+
+/// Whether a number is that of the entry; one that is past all entries is not.
+#[inline(always)]
+fn is_at(
+    text: &[u8],
+    spans: &[KeyRange],
+    by_array: &Chains,
+    number: usize,
+    array: usize,
+    key: &[u8],
+) -> bool
+    requires within { AreWithin text.now spans.now }
+    requires sizes { length by_array.now ≡ length spans.now }
+    ensures { OnTrue result (slice_get (keys_of text.now by_array.now spans.now) number ≡ Some (array_key array key.now)) }
+{
+    if number < spans.len() {
+        return is_key(text, spans, by_array, number, array, key);
     }
     false
 }

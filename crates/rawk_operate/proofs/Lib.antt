@@ -7,3 +7,4 @@ pub mod Splits
 pub mod Subscripts
 pub mod Visits
 pub mod InPlace
+pub mod Locals

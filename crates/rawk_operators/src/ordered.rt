@@ -1,6 +1,7 @@
 //! Comparison of values in place.
 
-ghost use Rattle.std.specs.Prelude.{◌≡◌, Ok, Some, None, if◌then◌else◌};
+ghost use Rattle.std.specs.Bool.{OnTrue};
+ghost use Rattle.std.specs.Prelude.{◌≡◌, false, Ok, Some, None, if◌then◌else◌};
 ghost use Rattle.std.specs.Cmp.Lexicographic.{slice_cmp};
 ghost use Rattle.std.specs.Ordering.{nat_cmp};
 ghost use Rattle.rawk_value.specs.Values.{counts, holds, int_order, next_ok, number_of, order_of, text_of};
@@ -9,7 +10,7 @@ ghost use Rattle.rawk_operators.specs.Borrowed.{borrowed_value};
 use crate::borrowed::{Borrowed, text_borrowed};
 use itoa::Buffer;
 use rawk_value::order::{holds, number_if_counts, number_if_numeric, number_order};
-use rawk_value::{Comparison, Fault};
+use rawk_value::{Comparison, Fault, Value};
 use std::cmp::Ordering;
 
 /// Its number, where a comparison takes it as a number.
@@ -27,6 +28,18 @@ fn number_if_compared(value: Borrowed<'_>) -> Option<Result<i64, Fault>>
     }
 }
 
+/// Whether it is a text that a comparison never takes as a number.
+#[inline(always)]
+fn is_string(value: Borrowed<'_>) -> bool
+    ensures { OnTrue result (counts (borrowed_value value.entry) ≡ false) }
+{
+    match value {
+        Borrowed::Text(_) => true,
+        Borrowed::Kept(Value::String(_)) => true,
+        _ => false,
+    }
+}
+
 /// The order of their texts, byte by byte.
 fn text_order(left: Borrowed<'_>, right: Borrowed<'_>) -> Ordering
     ensures { result ≡ slice_cmp nat_cmp (text_of (borrowed_value left.entry)) (text_of (borrowed_value right.entry)) }
@@ -36,10 +49,13 @@ fn text_order(left: Borrowed<'_>, right: Borrowed<'_>) -> Ordering
     text_borrowed(left, &mut left_digits).cmp(&text_borrowed(right, &mut right_digits))
 }
 
-/// How they stand to one another, or the fault of the left number, or else of the right one.
+/// How they stand to one another, or the fault of the left number, or else of the right one. Beside a text that is no number no other text is read as one.
 fn order(left: Borrowed<'_>, right: Borrowed<'_>) -> Result<Ordering, Fault>
     ensures { result ≡ order_of (borrowed_value left.entry) (borrowed_value right.entry) }
 {
+    if is_string(right) {
+        return Ok(text_order(left, right));
+    }
     match number_if_compared(left) {
         None => Ok(text_order(left, right)),
         Some(x) => match number_if_compared(right) {

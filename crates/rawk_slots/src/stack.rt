@@ -162,6 +162,19 @@ impl<T: Drop> Stack<T> {
         None
     }
 
+    /// The same of a value that is counted from the oldest; `None` also for a number that has none.
+    #[inline]
+    pub fn take_oldest<const SAVES: bool>(&mut self, number: usize, spare: T) -> Option<T>
+        ensures value { IfSome result (λ v. slice_get (live_slots self.old.now) number ≡ Some v) }
+        ensures after { live_slots self.new.now ≡ (if is_some result then slice_set (live_slots self.old.now) number spare else live_slots self.old.now) }
+        ensures start { OnTrue SAVES (self.new.start ≡ self.old.start) }
+    {
+        if number < self.live {
+            return self.slots.take_changed::<SAVES>(number, spare);
+        }
+        None
+    }
+
     /// Drops the newest values, as many as there are at most.
     pub fn drop_newest(&mut self, count: usize)
         ensures did { live_values self.new.now ≡ drop count (live_values self.old.now) }

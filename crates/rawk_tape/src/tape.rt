@@ -149,6 +149,7 @@ impl<R: Source + Drop> Tape<R> {
     }
 
     /// Reads once more.
+    #[inline(never)]
     fn fill(&mut self) -> Result<(), Fault>
         requires { R.over self.old.source ≡ None }
         ensures reads { OnOk result (ReadsOn R.may_give R.over R.handed
@@ -165,6 +166,7 @@ impl<R: Source + Drop> Tape<R> {
     }
 
     /// The next record, which this byte ends.
+    #[inline(always)]
     fn next_line(&mut self, separator: u8) -> Result<Option<Found>, Fault>
         ensures ahead { ReadsAhead R.may_give R.over R.handed self.old self.new }
         ensures next { (input : Input) → MayBe R.may_give self.new input →
@@ -263,6 +265,7 @@ impl<R: Source + Drop> Tape<R> {
     /// Errors: `BadSeparator` for several bytes that are no expression, before anything is read;
     /// `ReadFailed` where the source has failed before the record was settled; `OutOfMemory` where
     /// a growth was refused.
+    #[inline(always)]
     pub fn next(&mut self, separator: &[u8]) -> Result<Option<Found>, Fault>
         ensures ahead { ReadsAhead R.may_give R.over R.handed self.old self.new }
         ensures next { (input : Input) → MayBe R.may_give self.new input →
