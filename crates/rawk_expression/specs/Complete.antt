@@ -412,8 +412,8 @@ complete {d = d} {i = i} {j = j} (text {w = w} s) = text_reads d w i j s
 complete {d = d} {i = i} {j = j} (ere {w = w} s) = ere_reads d w i j s
 complete (group {d = d} {e = e} {v = v} {w = w} {i = i} {j = j} {l = l} {m = m} s g t) = group_reads d e v w i j l m s (complete g (ap ends t.is_kind)) t
 complete (call {d = d} {es = es} {w = w} {i = i} {j = j} {l = l} s g) = let h = complete g in call_reads d es w i j l s h.1
-complete (builtin {d = d} {c = c} {f = f} {es = es} {w = w} {i = i} {j = j} {l = l} s e g t) = let h = complete g in builtin_reads d c f es w i j l s e h.0 h.1 t
-complete {d = d} {i = i} {j = j} (bare_length {w = w} s ne) = bare_length_reads d w i j s ne
+complete (builtin {d = d} {f = f} {es = es} {w = w} {i = i} {j = j} {l = l} s e g t) = let h = complete g in builtin_reads d f es w i j l s e h.0 h.1 t
+complete {d = d} {i = i} {j = j} (bare_length {w = w} s e ne) = bare_length_reads d w i j s e ne
 complete (no_argument {d = d} {v = v} {w = w} {i = i} {j = j} {l = l} s t) = (s.is_kind, arguments_none d v w i j l s t)
 complete (some_arguments {d = d} {es = es} {v = v} {w = w} {i = i} {j = j} {l = l} {m = m} s g t) =
     (s.is_kind, arguments_some d es v w i j l m s (apart begins (kind j) k.RightParen (fronts g) refl) (bracket_list d es w k.RightParen j l m (complete g) t refl (λ q. cc)) t)

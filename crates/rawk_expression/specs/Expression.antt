@@ -1,5 +1,7 @@
 -- Expressions, as functions on the text. The code equals them; Grammar.antt says what is right.
 use Rattle.std.specs.Prelude.{ℕ, zero, suc, Bool, true, false, not, ◌||◌, if◌then◌else◌, ◌==◌, List, [], ◌∷◌, ◌++◌, Option, Some, None, Ok, Err}
+use Rattle.rawk_keywords.specs.declared.builtin.Builtin.{Builtin}
+use Rattle.rawk_keywords.specs.declared.builtin.Builtin.TheVariants as fun
 use Rattle.rawk_keywords.specs.declared.token.Kind.{Kind}
 use Rattle.rawk_keywords.specs.declared.token.Kind.TheVariants as k
 use Rattle.rawk_lexer.specs.Lex.{kind, next, left}
@@ -17,16 +19,14 @@ use Rattle.rawk_words.specs.declared.operator.Sign.{Sign}
 use Rattle.rawk_parsing.specs.declared.tree.Change.{Change}
 use Rattle.rawk_parsing.specs.declared.tree.Change.TheVariants as changes
 use Rattle.rawk_parsing.specs.declared.tree.Assignment.{Assignment}
-use Rattle.rawk_parsing.specs.declared.tree.Function.{Function}
-use Rattle.rawk_parsing.specs.declared.tree.Function.TheVariants as fun
 use Rattle.rawk_parsing.specs.declared.tree.Name.{Name}
 use Rattle.rawk_parsing.specs.declared.tree.Expr.{Expr}
 use Rattle.rawk_parsing.specs.declared.tree.Expr.TheVariants as tree
 use Rattle.rawk_parsing.specs.declared.tree.Link.{Link, roll-Link}
 use Rattle.rawk_parsing.specs.declared.tree.Place.{Place}
 use Rattle.rawk_parsing.specs.declared.tree.Place.TheVariants as spot
-use Rattle.rawk_parsing.specs.Parser.{Input, Parser, and_then, ◌>>=◌, ◌>>◌, pure, refuse, too_deep, left_out, peek, take_token, sees, eat, expect, newlines, name, bare_name, number, text, ere, not_redirected}
-use Rattle.rawk_parsing.specs.Tables.{is_concat, joins, is_alone, mark, logic, sign, change, assignment, function, fits}
+use Rattle.rawk_parsing.specs.Parser.{Input, Parser, and_then, ◌>>=◌, ◌>>◌, pure, refuse, too_deep, left_out, peek, take_token, sees, eat, expect, newlines, name, bare_name, function, number, text, ere, not_redirected}
+use Rattle.rawk_parsing.specs.Tables.{is_concat, joins, is_alone, mark, logic, sign, change, assignment, fits}
 
 -- ---- parts of trees
 
@@ -114,7 +114,7 @@ joined level operand first = λ i. if first.is_open || not (sees (mark level) i)
 
 -- ---- rules that open no construct
 
-abbrev pub fitting : ℕ → Function → List Expr → Parser Expr
+abbrev pub fitting : ℕ → Builtin → List Expr → Parser Expr
 fitting place f es = if fits f es then pure (tree.Builtin f es) else (λ i. Err (Here refused.Syntax place))
 
 -- what may not stand behind the place of `getline`
@@ -195,12 +195,12 @@ module _ (room : ℕ) (deeper : Wanted → Parser Expr) where
   called = do word ← name; es ← arguments; pure (tree.Call word es)
 
   -- `length` may stand alone
-  abbrev pub arguments_of : Function → Parser (List Expr)
+  abbrev pub arguments_of : Builtin → Parser (List Expr)
   arguments_of fun.Length = λ i. if sees k.LeftParen i then arguments i else Ok ([], i)
   arguments_of _ = arguments
 
-  unfoldable pub builtin : Function → Parser Expr
-  builtin f = λ i. and_then (arguments_of f (next i)) (fitting (left i) f)
+  unfoldable pub builtin : Parser Expr
+  builtin = λ i. and_then (function i) (λ f. arguments_of f >>= fitting (left i) f)
 
   unfoldable pub getline_to : Parser Expr
   getline_to = do p ← place; behind_getline; pure (tree.GetlineTo p)
@@ -214,10 +214,6 @@ module _ (room : ℕ) (deeper : Wanted → Parser Expr) where
   unfoldable pub getline : Parser Expr
   getline = take_token >> (peek >>= getline_by)
 
-  abbrev pub builtin_or_place : Option Function → Parser Expr
-  builtin_or_place None = do p ← place; pure (tree.Of p)
-  builtin_or_place (Some f) = builtin f
-
   unfoldable pub group : Parser Expr
   group = take_token >> (do inner ← deeper want.Whole; expect k.RightParen; pure (tree.Group inner))
 
@@ -229,7 +225,8 @@ module _ (room : ℕ) (deeper : Wanted → Parser Expr) where
   primary_by k.LeftParen = group
   primary_by k.FunctionName = called
   primary_by k.Getline = getline
-  primary_by c = builtin_or_place (function c)
+  primary_by k.Builtin = builtin
+  primary_by _ = do p ← place; pure (tree.Of p)
 
   unfoldable pub primary : Parser Expr
   primary = peek >>= primary_by

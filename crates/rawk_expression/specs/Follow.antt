@@ -79,17 +79,7 @@ starts k.Slash = true
 starts k.SlashAssign = true
 starts k.LeftParen = true
 starts k.FunctionName = true
-starts k.Length = true
-starts k.Index = true
-starts k.Substr = true
-starts k.Split = true
-starts k.Sub = true
-starts k.Gsub = true
-starts k.Match = true
-starts k.Sprintf = true
-starts k.Tolower = true
-starts k.Toupper = true
-starts k.Int = true
+starts k.Builtin = true
 starts _ = false
 
 pub ends_stops : (c : Kind) → ends c ≡ true → stops c ≡ true

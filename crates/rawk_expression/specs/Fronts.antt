@@ -9,7 +9,6 @@ use Rattle.rawk_parsing.specs.declared.tree.Operator.{Operator}
 use Rattle.rawk_words.specs.declared.operator.Sign.{Sign}
 use Rattle.rawk_parsing.specs.declared.tree.Change.{Change}
 use Rattle.rawk_parsing.specs.declared.tree.Assignment.{Assignment}
-use Rattle.rawk_parsing.specs.declared.tree.Function.{Function}
 use Rattle.rawk_parsing.specs.Parser.{Input}
 use Rattle.rawk_parsing.specs.Tables as table
 use Rattle.rawk_parsing.specs.Tokens.{Spells, SpellsEre, Newlines, none, more, Arrays, no_array, array}
@@ -46,9 +45,6 @@ spells_shrink c w i j ne s =
     let a = next_shrinks i (λ e. ne (sym s.is_kind ∙ e)) in
     let b : left (next i) ≡ left j = ap left s.is_next in
     omega arith
-
-pub function_not_end : (c : Kind) (f : Function) → table.function c ≡ Some f → c ≢ k.EndOfText
-function_not_end c f h e = let no : table.function c ≡ None = ap table.function e in cc
 
 pub sign_not_end : (c : Kind) (s : Sign) → table.sign c ≡ Some s → c ≢ k.EndOfText
 sign_not_end c s h e = let no : table.sign c ≡ None = ap table.sign e in cc
@@ -117,8 +113,8 @@ shrinks {i = i} {j = j} (text s) = spells_shrink k.Text _ i j (λ q. cc) s
 shrinks {i = i} {j = j} (ere s) = ere_shrink _ i j s
 shrinks (group {i = i} {j = j} {l = l} {m = m} s g t) = let a1 = spells_shrink k.LeftParen _ i j (λ q. cc) s in let a2 = shrinks g in let a3 = spells_shrink k.RightParen _ l m (λ q. cc) t in omega arith
 shrinks (call {i = i} {j = j} s g) = let a1 = spells_shrink k.FunctionName _ i j (λ q. cc) s in let a2 = shrinks g in omega arith
-shrinks (builtin {c = c} {f = f} {i = i} {j = j} s e g t) = let a1 = spells_shrink c _ i j (function_not_end c f e) s in let a2 = shrinks g in omega arith
-shrinks {i = i} {j = j} (bare_length s ne) = spells_shrink k.Length _ i j (λ q. cc) s
+shrinks (builtin {i = i} {j = j} s e g t) = let a1 = spells_shrink k.Builtin _ i j (λ q. cc) s in let a2 = shrinks g in omega arith
+shrinks {i = i} {j = j} (bare_length s e ne) = spells_shrink k.Builtin _ i j (λ q. cc) s
 shrinks (no_argument {i = i} {j = j} {l = l} s t) = let a1 = spells_shrink k.LeftParen _ i j (λ q. cc) s in let a2 = spells_shrink k.RightParen _ j l (λ q. cc) t in omega arith
 shrinks (some_arguments {i = i} {j = j} {l = l} {m = m} s g t) = let a1 = spells_shrink k.LeftParen _ i j (λ q. cc) s in let a2 = shrinks g in let a3 = spells_shrink k.RightParen _ l m (λ q. cc) t in omega arith
 shrinks {i = i} {j = j} (getline s b ne) = spells_shrink k.Getline _ i j (λ q. cc) s
@@ -138,10 +134,6 @@ begins k.Increment = true
 begins k.Decrement = true
 begins k.Getline = true
 begins c = starts c
-
-pub function_begins : (c : Kind) (f : Function) → table.function c ≡ Some f → begins c ≡ true
-function_begins k.Length f h = refl
-function_begins _ f h = cc
 
 pub sign_begins : (c : Kind) (s : Sign) → table.sign c ≡ Some s → begins c ≡ true
 sign_begins k.Plus s h = refl
@@ -195,8 +187,8 @@ fronts (text s) = ap begins s.is_kind
 fronts {i = i} (ere s) = ere_begins i s.begins
 fronts (group s g t) = ap begins s.is_kind
 fronts (call s g) = ap begins s.is_kind
-fronts (builtin {c = c} {f = f} s e g t) = ap begins s.is_kind ∙ function_begins c f e
-fronts (bare_length s ne) = ap begins s.is_kind
+fronts (builtin s e g t) = ap begins s.is_kind
+fronts (bare_length s e ne) = ap begins s.is_kind
 fronts (no_argument s t) = ap begins s.is_kind
 fronts (some_arguments s g t) = ap begins s.is_kind
 fronts (getline s b ne) = ap begins s.is_kind

@@ -1,7 +1,10 @@
 -- The grammar of expressions (POSIX awk, "Grammar" and "Expressions in awk").
 use Rattle.std.specs.Prelude.{◌≡◌, ◌≢◌, ℕ, suc, ℤ, Bool, true, false, List, [], ◌∷◌, Some, None}
+use Rattle.rawk_keywords.specs.declared.builtin.Builtin.{Builtin}
+use Rattle.rawk_keywords.specs.declared.builtin.Builtin.TheVariants as fun
 use Rattle.rawk_keywords.specs.declared.token.Kind.{Kind}
 use Rattle.rawk_keywords.specs.declared.token.Kind.TheVariants as k
+use Rattle.rawk_keywords.specs.Builtins.{builtin_named}
 use Rattle.rawk_lexer.specs.Escape.{unescaped_of, unquoted}
 use Rattle.rawk_lexer.specs.Lex.{kind, left}
 use Rattle.rawk_parsing.specs.declared.tree.Operator.{Operator}
@@ -9,8 +12,6 @@ use Rattle.rawk_parsing.specs.declared.tree.Operator.TheVariants as op
 use Rattle.rawk_words.specs.declared.operator.Sign.{Sign}
 use Rattle.rawk_parsing.specs.declared.tree.Change.{Change}
 use Rattle.rawk_parsing.specs.declared.tree.Assignment.{Assignment}
-use Rattle.rawk_parsing.specs.declared.tree.Function.{Function}
-use Rattle.rawk_parsing.specs.declared.tree.Function.TheVariants as fun
 use Rattle.rawk_parsing.specs.declared.tree.Name.{Name}
 use Rattle.rawk_parsing.specs.declared.tree.Expr.{Expr}
 use Rattle.rawk_parsing.specs.declared.tree.Expr.TheVariants as tree
@@ -19,7 +20,7 @@ use Rattle.rawk_parsing.specs.declared.tree.Place.{Place}
 use Rattle.rawk_parsing.specs.declared.tree.Place.TheVariants as spot
 use Rattle.rawk_parsing.specs.Parser.{Input, name_at}
 use Rattle.rawk_parsing.specs.Constant.{constant}
-use Rattle.rawk_parsing.specs.Tables.{operator, binds, begins_joined, is_greater, is_alone, mark, logic, sign, change, begins_place, assignment, function, fits}
+use Rattle.rawk_parsing.specs.Tables.{operator, binds, begins_joined, is_greater, is_alone, mark, logic, sign, change, begins_place, assignment, fits}
 use Rattle.rawk_expression.specs.Expression.{link, chained, contained}
 use Rattle.rawk_parsing.specs.Tokens.{Spells, SpellsEre, Newlines, Arrays}
 
@@ -114,11 +115,11 @@ pub data Derives : ℕ → Phrase → Input → Input → Type 0 where
       → Spells k.LeftParen v i j → Derives d (Whole false e) j l → Spells k.RightParen w l m → Derives (suc d) (Primary (tree.Group e)) i m
   call : {d : ℕ} {es : List Expr} {w : List ℕ} {i j l : Input}
       → Spells k.FunctionName w i j → Derives d (Arguments es) j l → Derives d (Primary (tree.Call (name_at i) es)) i l
-  builtin : {d : ℕ} {c : Kind} {f : Function} {es : List Expr} {w : List ℕ} {i j l : Input}
-      → Spells c w i j → function c ≡ Some f → Derives d (Arguments es) j l → fits f es ≡ true → Derives d (Primary (tree.Builtin f es)) i l
+  builtin : {d : ℕ} {f : Builtin} {es : List Expr} {w : List ℕ} {i j l : Input}
+      → Spells k.Builtin w i j → builtin_named w ≡ Some f → Derives d (Arguments es) j l → fits f es ≡ true → Derives d (Primary (tree.Builtin f es)) i l
   -- a `(` behind `length` begins its arguments
   bare_length : {d : ℕ} {w : List ℕ} {i j : Input}
-      → Spells k.Length w i j → kind j ≢ k.LeftParen → Derives d (Primary (tree.Builtin fun.Length [])) i j
+      → Spells k.Builtin w i j → builtin_named w ≡ Some fun.Length → kind j ≢ k.LeftParen → Derives d (Primary (tree.Builtin fun.Length [])) i j
   no_argument : {d : ℕ} {v w : List ℕ} {i j l : Input} → Spells k.LeftParen v i j → Spells k.RightParen w j l → Derives (suc d) (Arguments []) i l
   some_arguments : {d : ℕ} {es : List Expr} {v w : List ℕ} {i j l m : Input}
       → Spells k.LeftParen v i j → Derives d (Listed false es) j l → Spells k.RightParen w l m → Derives (suc d) (Arguments es) i m

@@ -1,8 +1,11 @@
 -- How the parser reads operands.
 use Rattle.std.proofs.Common.{◌≡◌, ◌≢◌, ℕ, suc, ℤ, Bool, true, false, cond, ◌==◌, ◌⊎◌, inl, inr, List, [], ◌∷◌, Option, Some, None, Ok, Err, refl, sym, ap, subst, ◌∙◌, rules}
 use Rattle.std.proofs.lemmas.Bool.{false_from_ne_true}
+use Rattle.rawk_keywords.specs.declared.builtin.Builtin.{Builtin}
+use Rattle.rawk_keywords.specs.declared.builtin.Builtin.TheVariants as fun
 use Rattle.rawk_keywords.specs.declared.token.Kind.{Kind}
 use Rattle.rawk_keywords.specs.declared.token.Kind.TheVariants as k
+use Rattle.rawk_keywords.specs.Builtins.{builtin_named, takes}
 use Rattle.rawk_lexer.specs.Lex.{kind, next, left, ere_len, ere_spelling, past_ere}
 use Rattle.rawk_lexer.specs.Escape.{unescaped_of, unquoted}
 use Rattle.rawk_parsing.specs.declared.refusal.RefusalKind.TheVariants as refused
@@ -14,8 +17,6 @@ use Rattle.rawk_expression.specs.declared.operands.Start.TheVariants as start
 use Rattle.rawk_parsing.specs.declared.tree.Change.{Change}
 use Rattle.rawk_parsing.specs.declared.tree.Change.TheVariants as changes
 use Rattle.rawk_parsing.specs.declared.tree.Assignment.{Assignment}
-use Rattle.rawk_parsing.specs.declared.tree.Function.{Function}
-use Rattle.rawk_parsing.specs.declared.tree.Function.TheVariants as fun
 use Rattle.rawk_parsing.specs.declared.tree.Expr.{Expr}
 use Rattle.rawk_parsing.specs.declared.tree.Expr.TheVariants as tree
 use Rattle.rawk_parsing.specs.declared.tree.Place.{Place}
@@ -367,57 +368,35 @@ call_is d es w i j l s h =
 pub call_reads : (d : ℕ) (es : List Expr) (w : List ℕ) (i j l : Input) → Spells k.FunctionName w i j → x.arguments d (x.expression d) j ≡ Ok (es, l) → Reads d (tree.Call (name_at i) es) i l
 call_reads d es w i j l s h = token_reads d k.FunctionName (tree.Call (name_at i) es) i l s.is_kind refl refl refl (λ _. call_is d es w i j l s h)
 
-arguments_given : (d : ℕ) (f : Function) (es : List Expr) (i j : Input) → kind i ≡ k.LeftParen → x.arguments d (x.expression d) i ≡ Ok (es, j) → x.arguments_of d (x.expression d) f i ≡ Ok (es, j)
+arguments_given : (d : ℕ) (f : Builtin) (es : List Expr) (i j : Input) → kind i ≡ k.LeftParen → x.arguments d (x.expression d) i ≡ Ok (es, j) → x.arguments_of d (x.expression d) f i ≡ Ok (es, j)
 arguments_given d fun.Length es i j at h = ap (λ b. cond b (x.arguments d (x.expression d) i) (done [] i)) (seen k.LeftParen i at) ∙ h
 arguments_given d _ es i j at h = h
 
-builtin_is : (d : ℕ) (f : Function) (es : List Expr) (w : List ℕ) (c : Kind) (i j l : Input) → Spells c w i j → kind j ≡ k.LeftParen → x.arguments d (x.expression d) j ≡ Ok (es, l) → table.fits f es ≡ true → x.builtin d (x.expression d) f i ≡ Ok (tree.Builtin f es, l)
-unfolding x.builtin
-builtin_is d f es w c i j l s at h t =
-    then_ok (x.arguments_of d (x.expression d) f (next i)) (x.fitting (left i) f) es l (ap (x.arguments_of d (x.expression d) f) s.is_next ∙ arguments_given d f es j l at h)
+function_read : (f : Builtin) (w : List ℕ) (i j : Input) → Spells k.Builtin w i j → builtin_named w ≡ Some f → parser.function i ≡ Ok (f, j)
+unfolding parser.function
+function_read f w i j s e = ap (λ o. parser.function_from o i) (ap builtin_named s.is_word ∙ e) ∙ ap (λ m. done f m) s.is_next
+
+-- a function whose word was read, and its arguments
+given_is : (d : ℕ) (f : Builtin) (es : List Expr) (w : List ℕ) (i j l : Input) → Spells k.Builtin w i j → builtin_named w ≡ Some f → x.arguments_of d (x.expression d) f j ≡ Ok (es, l) → table.fits f es ≡ true → x.primary d (x.expression d) i ≡ Ok (tree.Builtin f es, l)
+unfolding x.primary x.builtin
+given_is d f es w i j l s e h t =
+    by_kind (x.primary_by d (x.expression d)) k.Builtin i s.is_kind
+    ∙ then_ok (parser.function i) (λ g. x.arguments_of d (x.expression d) g >>= x.fitting (left i) g) f j (function_read f w i j s e)
+    ∙ then_ok (x.arguments_of d (x.expression d) f j) (x.fitting (left i) f) es l h
     ∙ ap (λ b. cond b (pure (tree.Builtin f es)) (λ i'. Err (Here refused.Syntax (left i))) l) t
 
-builtin_starts : (c : Kind) (f : Function) → table.function c ≡ Some f → starts c ≡ true
-builtin_starts k.Length f h = refl
-builtin_starts _ f h = cc
+pub builtin_reads : (d : ℕ) (f : Builtin) (es : List Expr) (w : List ℕ) (i j l : Input) → Spells k.Builtin w i j → builtin_named w ≡ Some f → kind j ≡ k.LeftParen → x.arguments d (x.expression d) j ≡ Ok (es, l) → table.fits f es ≡ true → Reads d (tree.Builtin f es) i l
+builtin_reads d f es w i j l s e at h t = token_reads d k.Builtin (tree.Builtin f es) i l s.is_kind refl refl refl (λ _. given_is d f es w i j l s e (arguments_given d f es j l at h) t)
 
-builtin_primary : (d : ℕ) (c : Kind) (f : Function) → table.function c ≡ Some f → x.primary_by d (x.expression d) c ≡ x.builtin_or_place d (x.expression d) (table.function c)
-builtin_primary d k.Length f h = refl
-builtin_primary d k.Index f h = refl
-builtin_primary d k.Substr f h = refl
-builtin_primary d k.Split f h = refl
-builtin_primary d k.Sub f h = refl
-builtin_primary d k.Gsub f h = refl
-builtin_primary d k.Match f h = refl
-builtin_primary d k.Sprintf f h = refl
-builtin_primary d k.Tolower f h = refl
-builtin_primary d k.Toupper f h = refl
-builtin_primary d k.Int f h = refl
-builtin_primary d _ f h = cc
+pub bare_fits : table.fits fun.Length [] ≡ true
+unfolding table.fits takes
+bare_fits = refl
 
-builtin_postfix : (d : ℕ) (c : Kind) (f : Function) → table.function c ≡ Some f → x.postfix_by d (x.expression d) c ≡ x.primary d (x.expression d)
-builtin_postfix d k.Length f h = refl
-builtin_postfix d _ f h = cc
+bare_arguments : (d : ℕ) (i : Input) → kind i ≢ k.LeftParen → x.arguments_of d (x.expression d) fun.Length i ≡ Ok ([], i)
+bare_arguments d i ne = ap (λ b. cond b (x.arguments d (x.expression d) i) (done [] i)) (not_seen k.LeftParen i ne)
 
-builtin_opening : (d : ℕ) (c : Kind) (f : Function) → table.function c ≡ Some f → x.opening_by d (x.expression d) c ≡ pure start.Nothing
-builtin_opening d k.Length f h = refl
-builtin_opening d _ f h = cc
-
-pub builtin_reads : (d : ℕ) (c : Kind) (f : Function) (es : List Expr) (w : List ℕ) (i j l : Input) → Spells c w i j → table.function c ≡ Some f → kind j ≡ k.LeftParen → x.arguments d (x.expression d) j ≡ Ok (es, l) → table.fits f es ≡ true → Reads d (tree.Builtin f es) i l
-unfolding x.primary
-builtin_reads d c f es w i j l s e at h t =
-    token_reads d c (tree.Builtin f es) i l s.is_kind (starts_both c (builtin_starts c f e)) (builtin_postfix d c f e) (builtin_opening d c f e)
-    (λ _. by_kind (x.primary_by d (x.expression d)) c i s.is_kind ∙ ap (λ q. q i) (builtin_primary d c f e) ∙ ap (λ o. x.builtin_or_place d (x.expression d) o i) e ∙ builtin_is d f es w c i j l s at h t)
-
-bare_length_is : (d : ℕ) (w : List ℕ) (i j : Input) → Spells k.Length w i j → kind j ≢ k.LeftParen → x.primary d (x.expression d) i ≡ Ok (tree.Builtin fun.Length [], j)
-unfolding x.primary x.builtin table.fits
-bare_length_is d w i j s ne =
-    by_kind (x.primary_by d (x.expression d)) k.Length i s.is_kind
-    ∙ then_ok (x.arguments_of d (x.expression d) fun.Length (next i)) (x.fitting (left i) fun.Length) [] j
-    (ap (x.arguments_of d (x.expression d) fun.Length) s.is_next ∙ ap (λ b. cond b (x.arguments d (x.expression d) j) (done [] j)) (not_seen k.LeftParen j ne))
-
-pub bare_length_reads : (d : ℕ) (w : List ℕ) (i j : Input) → Spells k.Length w i j → kind j ≢ k.LeftParen → Reads d (tree.Builtin fun.Length []) i j
-bare_length_reads d w i j s ne = token_reads d k.Length (tree.Builtin fun.Length []) i j s.is_kind refl refl refl (λ _. bare_length_is d w i j s ne)
+pub bare_length_reads : (d : ℕ) (w : List ℕ) (i j : Input) → Spells k.Builtin w i j → builtin_named w ≡ Some fun.Length → kind j ≢ k.LeftParen → Reads d (tree.Builtin fun.Length []) i j
+bare_length_reads d w i j s e ne = token_reads d k.Builtin (tree.Builtin fun.Length []) i j s.is_kind refl refl refl (λ _. given_is d fun.Length [] w i j j s e (bare_arguments d j ne) bare_fits)
 
 -- ---- `getline`
 

@@ -1,7 +1,10 @@
 -- What the parser reads is derived by the grammar.
 use Rattle.std.proofs.Common.{◌≡◌, ◌≢◌, ◌<◌, ℕ, zero, suc, Bool, true, false, not, ◌||◌, cond, ◌==◌, ◌⊎◌, inl, inr, ⊎_elim, List, [], ◌∷◌, ◌++◌, Option, Some, None, Ok, refl, sym, ap, subst, ◌∙◌, append_assoc, append-nil, arith}
+use Rattle.rawk_keywords.specs.declared.builtin.Builtin.{Builtin}
+use Rattle.rawk_keywords.specs.declared.builtin.Builtin.TheVariants as fun
 use Rattle.rawk_keywords.specs.declared.token.Kind.{Kind}
 use Rattle.rawk_keywords.specs.declared.token.Kind.TheVariants as k
+use Rattle.rawk_keywords.specs.Builtins.{builtin_named}
 use Rattle.rawk_lexer.specs.Lex.{kind, next, spelling, left}
 use Rattle.rawk_lexer.specs.Moves.{some_left}
 use Rattle.rawk_expression.specs.declared.grammar.Wanted.{Wanted}
@@ -16,8 +19,6 @@ use Rattle.rawk_words.specs.declared.operator.Sign.{Sign}
 use Rattle.rawk_parsing.specs.declared.tree.Change.{Change}
 use Rattle.rawk_parsing.specs.declared.tree.Change.TheVariants as changes
 use Rattle.rawk_parsing.specs.declared.tree.Assignment.{Assignment}
-use Rattle.rawk_parsing.specs.declared.tree.Function.{Function}
-use Rattle.rawk_parsing.specs.declared.tree.Function.TheVariants as fun
 use Rattle.rawk_parsing.specs.declared.tree.Expr.{Expr}
 use Rattle.rawk_parsing.specs.declared.tree.Expr.TheVariants as tree
 use Rattle.rawk_parsing.specs.declared.tree.Link.{Link}
@@ -29,8 +30,8 @@ use Rattle.rawk_parsing.specs.Tables as table
 use Rattle.rawk_expression.specs.Expression as x
 use Rattle.rawk_parsing.specs.Tokens.{Spells}
 use Rattle.rawk_expression.specs.Grammar.{Whole, Test, Further, Member, Level, Links, Unary, Power, Postfix, Dollar, Primary, APlace, Arguments, Listed, PrintList, Derives, test, lone, joint, last, further, contains, operated, chain, no_more, joined, tight, unsigned, base, unchanged, bare, changed_after, named, dollar, of_place, number, text, ere, call, builtin, bare_length, getline, getline_to, one, several, print_list}
-use Rattle.rawk_parsing.specs.Steps.{and_then_ok, cond_is, cond_ok, done, at_ok, not_ok, sees_kind, spells, eaten, kept, keeps, expect_ok, bare_name_ok, ere_ok, number_ok, newlines_are}
-use Rattle.rawk_expression.specs.Under.{Found, IsSound, ListedAs, Under, arguments_under, arrays_sound, assign_under, before_under, choice_under, dollar_before_under, element_under, field_under, group_under, joins_sound, length_only, list_sound, listed_in_under, neither, no_argument_under, not_redirected_ok, not_seen, one_under, print_group_under, raised_under, several_under, signed_under}
+use Rattle.rawk_parsing.specs.Steps.{and_then_ok, cond_is, cond_ok, done, at_ok, not_ok, sees_kind, spells, eaten, kept, keeps, expect_ok, bare_name_ok, ere_ok, function_ok, number_ok, newlines_are}
+use Rattle.rawk_expression.specs.Under.{Found, IsSound, ListedAs, Under, arguments_under, arrays_sound, assign_under, before_under, choice_under, dollar_before_under, element_under, field_under, group_under, joins_sound, list_sound, listed_in_under, neither, no_argument_under, not_redirected_ok, not_seen, one_under, print_group_under, raised_under, several_under, signed_under}
 
 -- ---- rules
 
@@ -127,10 +128,10 @@ module _ (d : ℕ) (deeper : Wanted → Parser Expr) (sound : IsSound d deeper) 
       at_ok (λ y j. Derives d (Primary y) i j) _ _ r (call (spells k.FunctionName i at) (arguments_sound _ a.0 a.1)) a.2
 
   -- the arguments of a function, or none behind a `length`
-  abbrev pub Given : Function → List Expr → Input → Input → Type 0
+  abbrev pub Given : Builtin → List Expr → Input → Input → Type 0
   Given f es j l = Derives d (Arguments es) j l ⊎ ((f ≡ fun.Length) × (es ≡ []) × (j ≡ l) × (kind j ≢ k.LeftParen))
 
-  arguments_of_sound : (f : Function) (i : Input) (r : List Expr × Input) → x.arguments_of d deeper f i ≡ Ok r → Given f r.0 i r.1
+  arguments_of_sound : (f : Builtin) (i : Input) (r : List Expr × Input) → x.arguments_of d deeper f i ≡ Ok r → Given f r.0 i r.1
   arguments_of_sound fun.Length i r h =
       ⊎_elim
       (λ w. inl (arguments_sound i r w.1))
@@ -138,23 +139,25 @@ module _ (d : ℕ) (deeper : Wanted → Parser Expr) (sound : IsSound d deeper) 
       (cond_is (sees k.LeftParen i) (x.arguments d deeper i) (Ok ([], i)) (Ok r) h)
   arguments_of_sound _ i r h = inl (arguments_sound i r h)
 
-  given_builtin : (f : Function) (es : List Expr) (i l : Input) → table.function (kind i) ≡ Some f → table.fits f es ≡ true → Given f es (next i) l → Derives d (Primary (tree.Builtin f es)) i l
-  given_builtin f es i l e t (inl h) = builtin (spells (kind i) i refl) e h t
-  given_builtin f es i l e t (inr h) =
-      let at : kind i ≡ k.Length = length_only (kind i) (e ∙ ap Some h.0) in
-      let here : Derives d (Primary (tree.Builtin fun.Length [])) i (next i) = bare_length (spells k.Length i at) h.3 in
+  given_builtin : (f : Builtin) (es : List Expr) (i l : Input) → kind i ≡ k.Builtin → builtin_named (spelling i) ≡ Some f → table.fits f es ≡ true → Given f es (next i) l → Derives d (Primary (tree.Builtin f es)) i l
+  given_builtin f es i l at e t (inl h) = builtin (spells k.Builtin i at) e h t
+  given_builtin f es i l at e t (inr h) =
+      let here : Derives d (Primary (tree.Builtin fun.Length [])) i (next i) = bare_length (spells k.Builtin i at) (e ∙ ap Some h.0) h.3 in
       let there : Derives d (Primary (tree.Builtin fun.Length [])) i l = subst (λ m. Derives d (Primary (tree.Builtin fun.Length [])) i m) h.2 here in
       let listed : Derives d (Primary (tree.Builtin fun.Length es)) i l = subst (λ y. Derives d (Primary (tree.Builtin fun.Length y)) i l) (sym h.1) there in
       subst (λ g. Derives d (Primary (tree.Builtin g es)) i l) (sym h.0) listed
 
-  builtin_sound : (f : Function) (i : Input) (r : Expr × Input) → table.function (kind i) ≡ Some f → x.builtin d deeper f i ≡ Ok r → Derives d (Primary r.0) i r.1
+  builtin_sound : (i : Input) (r : Expr × Input) → kind i ≡ k.Builtin → x.builtin d deeper i ≡ Ok r → Derives d (Primary r.0) i r.1
   unfolding x.builtin
-  builtin_sound f i r e h =
-      let a = and_then_ok (x.arguments_of d deeper f (next i)) _ r h in
+  builtin_sound i r at h =
+      let f = and_then_ok (parser.function i) _ r h in
+      let found = function_ok i f.0 f.1 in
+      let a = and_then_ok (x.arguments_of d deeper f.0.0 f.0.1) _ r f.2 in
+      let given = subst (λ m. Given f.0.0 a.0.0 m a.0.1) (sym found.1) (arguments_of_sound f.0.0 f.0.1 a.0 a.1) in
       ⊎_elim
-      (λ w. at_ok (λ y j. Derives d (Primary y) i j) _ _ r (given_builtin f a.0.0 i a.0.1 e w.0 (arguments_of_sound f (next i) a.0 a.1)) w.1)
+      (λ w. at_ok (λ y j. Derives d (Primary y) i j) _ _ r (given_builtin f.0.0 a.0.0 i a.0.1 at found.0 w.0 given) w.1)
       (λ w. not_ok _ r w.1)
-      (cond_ok (table.fits f a.0.0) (pure (tree.Builtin f a.0.0)) _ a.0.1 (Ok r) a.2)
+      (cond_ok (table.fits f.0.0 a.0.0) (pure (tree.Builtin f.0.0 a.0.0)) _ a.0.1 (Ok r) a.2)
 
   behind_getline : (c : Kind) (i : Input) (r : Unit {0} × Input) → kind i ≡ c → x.behind_getline_by c i ≡ Ok r → (table.change (kind i) ≡ None) × (kind i ≢ k.Less) × (i ≡ r.1)
   behind_getline k.Less i r e h = not_ok _ r h
@@ -194,11 +197,10 @@ module _ (d : ℕ) (deeper : Wanted → Parser Expr) (sound : IsSound d deeper) 
       let b = and_then_ok (expect k.RightParen a.0.1) _ r a.2 in
       at_ok (λ y j. Derives d (Primary y) i j) _ _ r (group_under d a.0.0 _ _ i _ _ _ (spells k.LeftParen i at) (sound want.Whole _ a.0 a.1) (expect_ok k.RightParen _ b.0 b.1)) b.2
 
-  builtin_or_place_sound : (i : Input) (r : Expr × Input) (o : Option Function) → table.function (kind i) ≡ o → x.builtin_or_place d deeper o i ≡ Ok r → Derives d (Primary r.0) i r.1
-  builtin_or_place_sound i r None e h =
+  of_place_sound : (i : Input) (r : Expr × Input) → (x.place d deeper >>= (λ p. pure (tree.Of p))) i ≡ Ok r → Derives d (Primary r.0) i r.1
+  of_place_sound i r h =
       let a = and_then_ok (x.place d deeper i) _ r h in
       at_ok (λ y j. Derives d (Primary y) i j) _ _ r (of_place (place_sound i a.0 a.1)) a.2
-  builtin_or_place_sound i r (Some f) e h = builtin_sound f i r e h
 
   primary_by_sound : (i : Input) (r : Expr × Input) (c : Kind) → kind i ≡ c → x.primary_by d deeper c i ≡ Ok r → Derives d (Primary r.0) i r.1
   unfolding parser.text
@@ -212,7 +214,8 @@ module _ (d : ℕ) (deeper : Wanted → Parser Expr) (sound : IsSound d deeper) 
   primary_by_sound i r k.LeftParen e h = group_sound i r e h
   primary_by_sound i r k.FunctionName e h = called_sound i r e h
   primary_by_sound i r k.Getline e h = getline_sound i r e h
-  primary_by_sound i r c e h = builtin_or_place_sound i r (table.function c) (ap table.function e) h
+  primary_by_sound i r k.Builtin e h = builtin_sound i r e h
+  primary_by_sound i r _ e h = of_place_sound i r h
 
   primary_sound : (i : Input) (r : Expr × Input) → x.primary d deeper i ≡ Ok r → Derives d (Primary r.0) i r.1
   unfolding x.primary

@@ -12,7 +12,6 @@ use Rattle.rawk_parsing.specs.declared.tree.Operator.TheVariants as op
 use Rattle.rawk_words.specs.declared.operator.Sign.{Sign}
 use Rattle.rawk_parsing.specs.declared.tree.Change.{Change}
 use Rattle.rawk_parsing.specs.declared.tree.Assignment.{Assignment}
-use Rattle.rawk_parsing.specs.declared.tree.Function.TheVariants as fun
 use Rattle.rawk_parsing.specs.declared.tree.Name.{Name}
 use Rattle.rawk_parsing.specs.declared.tree.Expr.{Expr}
 use Rattle.rawk_parsing.specs.declared.tree.Expr.TheVariants as tree
@@ -197,10 +196,6 @@ not_redirected_ok p i r h =
     (λ w. not_ok _ r w.1)
     (λ w. at_ok (λ _ j. i ≡ j) tt i r refl w.1)
     (cond_is (p && sees k.Greater i) _ (Ok (tt, i)) (Ok r) h)
-
-pub length_only : (c : Kind) → table.function c ≡ Some fun.Length → c ≡ k.Length
-length_only k.Length h = refl
-length_only _ h = cc
 
 -- ---- lists
 

@@ -7,10 +7,11 @@ ghost use Rattle.rawk_expression.specs.Nests.{Nests};
 
 use crate::grammar::{Grammar, Wanted, boxed};
 use rawk_items::{Boxed, Items};
+use rawk_keywords::Builtin;
 use rawk_lexer::{Cursor, Kind};
-use rawk_parsing::tables::{change, fits, function};
-use rawk_parsing::tokens::{ere, expect, name, number, refuse, sees, text};
-use rawk_parsing::tree::{Change, Expr, Function, Place};
+use rawk_parsing::tables::{change, fits};
+use rawk_parsing::tokens::{ere, expect, function, name, number, refuse, sees, text};
+use rawk_parsing::tree::{Change, Expr, Place};
 use rawk_parsing::{ParseError, RefusalKind};
 use std::alloc::Global;
 
@@ -80,13 +81,13 @@ impl<F: Fn(Global, &mut Cursor<'_>, usize, Wanted) -> Result<Boxed<Expr>, ParseE
     fn arguments_of(
         &self,
         tokens: &mut Cursor<'_>,
-        function: Function,
+        function: Builtin,
     ) -> Result<Items<Boxed<Expr>>, ParseError>
         requires { Nests self.now.depth (F.pre self.now.expression) (F.post self.now.expression) }
         ensures { Parses (spec.arguments_of self.now.depth (spec.expression self.now.depth) function tokens.old) result tokens.new }
     {
         match function {
-            Function::Length => {
+            Builtin::Length => {
                 if sees(tokens, Kind::LeftParen) {
                     self.arguments(tokens)
                 } else {
@@ -98,16 +99,12 @@ impl<F: Fn(Global, &mut Cursor<'_>, usize, Wanted) -> Result<Boxed<Expr>, ParseE
     }
 
     #[tactic(auto, unfolding(crate::specs::Expression::builtin))]
-    fn builtin(
-        &self,
-        tokens: &mut Cursor<'_>,
-        function: Function,
-    ) -> Result<Boxed<Expr>, ParseError>
+    fn builtin(&self, tokens: &mut Cursor<'_>) -> Result<Boxed<Expr>, ParseError>
         requires { Nests self.now.depth (F.pre self.now.expression) (F.post self.now.expression) }
-        ensures { Parses (spec.builtin self.now.depth (spec.expression self.now.depth) function tokens.old) result tokens.new }
+        ensures { Parses (spec.builtin self.now.depth (spec.expression self.now.depth) tokens.old) result tokens.new }
     {
         let place = tokens.left();
-        tokens.take();
+        let function = function(tokens)?;
         let arguments = self.arguments_of(tokens, function)?;
         if !fits(function, arguments.as_slice()) {
             return Err(ParseError::Here(RefusalKind::Syntax, place));
@@ -149,23 +146,6 @@ impl<F: Fn(Global, &mut Cursor<'_>, usize, Wanted) -> Result<Boxed<Expr>, ParseE
         boxed(self.alloc, Expr::Group(inner))
     }
 
-    fn builtin_or_place(
-        &self,
-        tokens: &mut Cursor<'_>,
-        function: Option<Function>,
-    ) -> Result<Boxed<Expr>, ParseError>
-        requires { Nests self.now.depth (F.pre self.now.expression) (F.post self.now.expression) }
-        ensures { Parses (spec.builtin_or_place self.now.depth (spec.expression self.now.depth) function tokens.old) result tokens.new }
-    {
-        match function {
-            None => {
-                let place = self.place(tokens)?;
-                boxed(self.alloc, Expr::Of(place))
-            }
-            Some(function) => self.builtin(tokens, function),
-        }
-    }
-
     #[tactic(auto, unfolding(crate::specs::Expression::primary))]
     pub fn primary(&self, tokens: &mut Cursor<'_>) -> Result<Boxed<Expr>, ParseError>
         requires { Nests self.now.depth (F.pre self.now.expression) (F.post self.now.expression) }
@@ -178,7 +158,11 @@ impl<F: Fn(Global, &mut Cursor<'_>, usize, Wanted) -> Result<Boxed<Expr>, ParseE
             Kind::LeftParen => self.group(tokens),
             Kind::FunctionName => self.called(tokens),
             Kind::Getline => self.getline(tokens),
-            kind => self.builtin_or_place(tokens, function(kind)),
+            Kind::Builtin => self.builtin(tokens),
+            _ => {
+                let place = self.place(tokens)?;
+                boxed(self.alloc, Expr::Of(place))
+            }
         }
     }
 

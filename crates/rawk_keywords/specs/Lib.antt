@@ -1,3 +1,4 @@
+pub mod Builtins
 pub mod Classes
 pub mod Keywords
 pub mod Name

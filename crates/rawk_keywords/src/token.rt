@@ -36,18 +36,8 @@ pub enum Kind {
     Getline,
     Print,
     Printf,
-    // Built-in functions.
-    Length,
-    Index,
-    Substr,
-    Split,
-    Sub,
-    Gsub,
-    Match,
-    Sprintf,
-    Tolower,
-    Toupper,
-    Int,
+    /// The name of a built-in function.
+    Builtin,
     // Symbols.
     LeftBrace,
     RightBrace,
@@ -90,8 +80,8 @@ pub enum Kind {
     Append,
 }
 
-/// The words that are no names: keywords, built-in functions, and what is left out.
-pub static WORDS: [(&[u8], Kind); 45] = [
+/// The words that are no names, but for those of built-in functions: keywords, and what is left out.
+pub static WORDS: [(&[u8], Kind); 34] = [
     (b"BEGIN", Kind::BeginKeyword),
     (b"END", Kind::EndKeyword),
     (b"function", Kind::Function),
@@ -110,17 +100,6 @@ pub static WORDS: [(&[u8], Kind); 45] = [
     (b"getline", Kind::Getline),
     (b"print", Kind::Print),
     (b"printf", Kind::Printf),
-    (b"length", Kind::Length),
-    (b"index", Kind::Index),
-    (b"substr", Kind::Substr),
-    (b"split", Kind::Split),
-    (b"sub", Kind::Sub),
-    (b"gsub", Kind::Gsub),
-    (b"match", Kind::Match),
-    (b"sprintf", Kind::Sprintf),
-    (b"tolower", Kind::Tolower),
-    (b"toupper", Kind::Toupper),
-    (b"int", Kind::Int),
     (b"sin", Kind::LeftOut),
     (b"cos", Kind::LeftOut),
     (b"atan2", Kind::LeftOut),

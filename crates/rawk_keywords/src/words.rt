@@ -3,6 +3,7 @@
 ghost use Rattle.std.specs.Prelude.{◌≡◌, map};
 ghost use Rattle.rawk_keywords.specs.Keywords as spec;
 
+use crate::builtin::builtin_named;
 use crate::token::{Kind, WORDS};
 
 fn lookup(mut table: &[(&[u8], Kind)], word: &[u8]) -> Kind
@@ -22,5 +23,8 @@ fn lookup(mut table: &[(&[u8], Kind)], word: &[u8]) -> Kind
 pub fn keyword(word: &[u8]) -> Kind
     ensures { result ≡ spec.keyword word.now }
 {
-    lookup(&WORDS, word)
+    match builtin_named(word) {
+        None => lookup(&WORDS, word),
+        Some(_) => Kind::Builtin,
+    }
 }

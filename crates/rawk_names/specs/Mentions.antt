@@ -1,8 +1,8 @@
 -- The names of an expression, in the order of the text, each with how it is used (POSIX awk, "Expressions in awk", "Variables and Special Variables").
 use Rattle.std.specs.Prelude.{◌==◌, ℕ, ◌+◌, if◌then◌else◌, List, [], ◌∷◌, ◌++◌, length, map, Option, Some, None}
+use Rattle.rawk_keywords.specs.declared.builtin.Builtin.{Builtin}
+use Rattle.rawk_keywords.specs.declared.builtin.Builtin.TheVariants as fun
 use Rattle.rawk_parsing.specs.declared.tree.Name.{Name}
-use Rattle.rawk_parsing.specs.declared.tree.Function.{Function}
-use Rattle.rawk_parsing.specs.declared.tree.Function.TheVariants as fun
 use Rattle.rawk_parsing.specs.declared.tree.Expr.{Expr, fold-Expr}
 use Rattle.rawk_parsing.specs.declared.tree.Expr.TheOpen.{Expr-F, Place-F, Link-F}
 use Rattle.rawk_parsing.specs.declared.tree.Expr.TheFolds.{fold-Place, fold-Link}
@@ -42,12 +42,12 @@ every [] = []
 every (ms ∷ mss) = ms ++ every mss
 
 -- a name alone as an argument of a built-in function
-abbrev pub builtin_name : Function → ℕ → Name → Mention
+abbrev pub builtin_name : Builtin → ℕ → Name → Mention
 builtin_name fun.Length i x = Measured x
 builtin_name fun.Split i x = if i == 1 then AsArray x else AsScalar x
 builtin_name _ i x = AsScalar x
 
-abbrev pub builtin_at : Function → ℕ → List Mention → Option Name → List Mention
+abbrev pub builtin_at : Builtin → ℕ → List Mention → Option Name → List Mention
 builtin_at f i ms None = ms
 builtin_at f i ms (Some x) = builtin_name f i x ∷ []
 
@@ -56,7 +56,7 @@ call_at f i ms None = Computed f i ∷ ms
 call_at f i ms (Some x) = Passed x f i ∷ []
 
 -- arguments, the first of which has this number
-abbrev pub builtin_arguments : Function → ℕ → List Seen → List Mention
+abbrev pub builtin_arguments : Builtin → ℕ → List Seen → List Mention
 builtin_arguments f i [] = []
 builtin_arguments f i (e ∷ es) = builtin_at f i e.mentions e.name ++ builtin_arguments f (i + 1) es
 

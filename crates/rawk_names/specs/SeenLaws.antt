@@ -1,8 +1,8 @@
 -- What each kind of expression mentions.
 use Rattle.std.proofs.Common.{◌≡◌, ℕ, ℤ, List, [], ◌∷◌, ◌++◌, length, map, Some, None, refl, sym, ap, ◌∙◌}
 use Rattle.std.proofs.lemmas.List.{length-map}
+use Rattle.rawk_keywords.specs.declared.builtin.Builtin.{Builtin}
 use Rattle.rawk_parsing.specs.declared.tree.Name.{Name}
-use Rattle.rawk_parsing.specs.declared.tree.Function.{Function}
 use Rattle.rawk_parsing.specs.declared.tree.Change.{Change}
 use Rattle.rawk_words.specs.declared.operator.Sign.{Sign}
 use Rattle.rawk_words.specs.declared.operator.Logic.{Logic}
@@ -115,11 +115,11 @@ seen-Assign o p e = ap seen (sym (expr.rolls-Assign o p e)) ∙ fold-roll-Expr S
 pub mentions-Assign : (o : Assignment) (p : Place) (e : Expr) → mentions (expr.Assign o p e) ≡ place_mentions p ++ mentions e
 mentions-Assign o p e = ap (λ (s : Seen). s.mentions) (seen-Assign o p e)
 
-pub seen-Builtin : (f : Function) (es : List Expr) → seen (expr.Builtin f es) ≡ only (builtin_arguments f 0 (map seen es))
+pub seen-Builtin : (f : Builtin) (es : List Expr) → seen (expr.Builtin f es) ≡ only (builtin_arguments f 0 (map seen es))
 unfolding seen place_seen link_mentions
 seen-Builtin f es = ap seen (sym (expr.rolls-Builtin f es)) ∙ fold-roll-Expr Seen Seen (List Mention) expr_step place_step link_step (Expr-F.Builtin f es)
 
-pub mentions-Builtin : (f : Function) (es : List Expr) → mentions (expr.Builtin f es) ≡ builtin_arguments f 0 (map seen es)
+pub mentions-Builtin : (f : Builtin) (es : List Expr) → mentions (expr.Builtin f es) ≡ builtin_arguments f 0 (map seen es)
 mentions-Builtin f es = ap (λ (s : Seen). s.mentions) (seen-Builtin f es)
 
 pub seen-Call : (f : Name) (es : List Expr) → seen (expr.Call f es) ≡ only (Called f (length es) ∷ call_arguments f 0 (map seen es))

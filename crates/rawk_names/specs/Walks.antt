@@ -3,8 +3,8 @@ use Rattle.std.proofs.Common.{◌≡◌, List, [], ◌∷◌, ◌++◌, ◌<◌,
 use Rattle.std.proofs.Common.{append_assoc, append-nil, arith}
 use Rattle.std.proofs.lemmas.Grind.{common_steps}
 use Rattle.std.proofs.lemmas.List.{take_more, map-append}
+use Rattle.rawk_keywords.specs.declared.builtin.Builtin.{Builtin}
 use Rattle.rawk_parsing.specs.declared.tree.Name.{Name}
-use Rattle.rawk_parsing.specs.declared.tree.Function.{Function}
 use Rattle.rawk_parsing.specs.declared.tree.Expr.{Expr}
 use Rattle.rawk_names.specs.declared.usage.Manner.TheVariants.{Array}
 use Rattle.rawk_names.specs.Mentions.{Mention, AsArray, all, every, builtin_arguments, builtin_at, call_arguments, call_at, seen, mentions}
@@ -34,7 +34,7 @@ pub every-push : {X : Type 0} (f : X → List Mention) (xs : List X) (x : X) →
 every-push f [] x = append-nil (f x)
 every-push f (y ∷ xs) x = ap (λ (ms : List Mention). f y ++ ms) (every-push f xs x) ∙ sym (append_assoc (f y) (every (map f xs)) (f x))
 
-pub builtin-push : (f : Function) (i : ℕ) (es : List Expr) (e : Expr) → builtin_arguments f i (map seen (es ++ e ∷ [])) ≡ builtin_arguments f i (map seen es) ++ builtin_at f (i + length es) (seen e).mentions (seen e).name
+pub builtin-push : (f : Builtin) (i : ℕ) (es : List Expr) (e : Expr) → builtin_arguments f i (map seen (es ++ e ∷ [])) ≡ builtin_arguments f i (map seen es) ++ builtin_at f (i + length es) (seen e).mentions (seen e).name
 builtin-push f i [] e =
     let n : i ≡ i + 0 = omega arith in
     append-nil (builtin_at f i (seen e).mentions (seen e).name) ∙ ap (λ (k : ℕ). builtin_at f k (seen e).mentions (seen e).name) n
@@ -53,7 +53,7 @@ call-push f i (x ∷ es) e =
     ∙ (sym (append_assoc (call_at f i (seen x).mentions (seen x).name) (call_arguments f (i + 1) (map seen es)) (call_at f (i + 1 + length es) (seen e).mentions (seen e).name)) ∙ ap (λ (n : ℕ). (call_at f i (seen x).mentions (seen x).name ++ call_arguments f (i + 1) (map seen es)) ++ call_at f n (seen e).mentions (seen e).name) n)
 
 -- the first arguments, and the next
-pub builtin-more : (f : Function) (xs : List Expr) (i : ℕ) (x : Expr) (old mid new : Noted) → i < length xs → x ≡ get_or xs i x
+pub builtin-more : (f : Builtin) (xs : List Expr) (i : ℕ) (x : Expr) (old mid new : Noted) → i < length xs → x ≡ get_or xs i x
     → mid ≡ noted_all (builtin_arguments f 0 (map seen (take i xs))) old → new ≡ noted_all (builtin_at f i (seen x).mentions (seen x).name) mid → new ≡ noted_all (builtin_arguments f 0 (map seen (take (i + 1) xs))) old
 builtin-more f xs i x old mid new h held done more =
     let n : 0 + length (take i xs) ≡ i = grind (arith, common_steps, h) in

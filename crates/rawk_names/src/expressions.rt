@@ -8,7 +8,8 @@ ghost use Rattle.rawk_names.specs.Noted.{Noted, named, noted, noted_all, shown};
 use crate::register::Register;
 use crate::usage::Manner;
 use rawk_items::Boxed;
-use rawk_parsing::tree::{Expr, Function, Link, Name, Place};
+use rawk_keywords::Builtin;
+use rawk_parsing::tree::{Expr, Link, Name, Place};
 use std::alloc::{AllocError, Global};
 
 /// The name that a place is, if it is one alone.
@@ -85,12 +86,12 @@ fn note_arrays(alloc: Global, register: &mut Register, arrays: &[Name]) -> Resul
 }
 
 /// How a built-in function uses a name alone as its argument.
-fn builtin_manner(function: Function, argument: usize) -> Manner
+fn builtin_manner(function: Builtin, argument: usize) -> Manner
     ensures { (x : Name) (n : Noted) → noted (builtin_name function argument x) n ≡ named result x n }
 {
     match function {
-        Function::Length => Manner::Either,
-        Function::Split if argument == 1 => Manner::Array,
+        Builtin::Length => Manner::Either,
+        Builtin::Split if argument == 1 => Manner::Array,
         _ => Manner::Scalar,
     }
 }
@@ -100,7 +101,7 @@ fn builtin_manner(function: Function, argument: usize) -> Manner
 fn note_builtin_argument(
     alloc: Global,
     register: &mut Register,
-    function: Function,
+    function: Builtin,
     argument: usize,
     e: &Expr,
 ) -> Result<(), AllocError>
@@ -116,7 +117,7 @@ fn note_builtin_argument(
 fn note_builtin(
     alloc: Global,
     register: &mut Register,
-    function: Function,
+    function: Builtin,
     arguments: &[Boxed<Expr>],
 ) -> Result<(), AllocError>
     ensures { OnOk result (shown register.new ≡ noted_all (builtin_arguments function 0 (map seen arguments.now)) (shown register.old)) }

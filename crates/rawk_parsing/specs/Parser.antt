@@ -2,8 +2,10 @@
 use Rattle.std.specs.Prelude.{◌≡◌, ◌≢◌, ℕ, zero, suc, ℤ, Bool, ◌&&◌, if◌then◌else◌, ◌==◌, List, Option, Some, None, Result, Ok, Err}
 use denote.Enum.Bare.{sameb}
 use Rattle.rawk_keywords.specs.contracts.token.Kind.{the_type}
+use Rattle.rawk_keywords.specs.declared.builtin.Builtin.{Builtin}
 use Rattle.rawk_keywords.specs.declared.token.Kind.{Kind}
 use Rattle.rawk_keywords.specs.declared.token.Kind.TheVariants as k
+use Rattle.rawk_keywords.specs.Builtins.{builtin_named}
 use Rattle.rawk_lexer.specs.Escape.{unescaped_of, unquoted}
 use Rattle.rawk_lexer.specs.Lex.{kind, next, left, spelling, ere_len, ere_spelling, past_ere}
 use Rattle.rawk_parsing.specs.declared.refusal.RefusalKind.{RefusalKind}
@@ -104,6 +106,14 @@ name = λ i. Ok (name_at i, next i)
 
 unfoldable pub bare_name : Parser Name
 bare_name = λ i. if sees k.Name i then name i else refuse i
+
+abbrev pub function_from : Option Builtin → Parser Builtin
+function_from None = refuse
+function_from (Some f) = λ i. Ok (f, next i)
+
+-- the built-in function that the next token names
+unfoldable pub function : Parser Builtin
+function = λ i. function_from (builtin_named (spelling i)) i
 
 abbrev pub number_from : Option ℤ → Parser ℤ
 number_from None = λ i. Err (Here refused.BadNumber (left i))

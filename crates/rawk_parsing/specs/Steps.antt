@@ -2,8 +2,10 @@
 use Rattle.std.proofs.Common.{◌≡◌, ℕ, zero, suc, ℤ, Bool, true, false, cond, ◌==◌, ◌⊎◌, inl, inr, List, Option, Some, None, Ok, Err, refl, sym, ap, subst, rules}
 use denote.Enum.Bare.{same_true}
 use Rattle.rawk_keywords.specs.contracts.token.Kind.{the_type}
+use Rattle.rawk_keywords.specs.declared.builtin.Builtin.{Builtin}
 use Rattle.rawk_keywords.specs.declared.token.Kind.{Kind}
 use Rattle.rawk_keywords.specs.declared.token.Kind.TheVariants as k
+use Rattle.rawk_keywords.specs.Builtins.{builtin_named}
 use Rattle.rawk_lexer.specs.Lex.{kind, next, spelling, left, ere_len, ere_spelling, past_ere}
 use Rattle.rawk_parsing.specs.declared.parse_error.ParseError.{ParseError}
 use Rattle.rawk_lexer.specs.Escape.{unquoted}
@@ -11,7 +13,7 @@ use Rattle.rawk_parsing.specs.Constant.{constant}
 use Rattle.rawk_parsing.specs.declared.refusal.RefusalKind.TheVariants as refused
 use Rattle.rawk_parsing.specs.declared.parse_error.ParseError.TheVariants.{Here}
 use Rattle.rawk_parsing.specs.declared.tree.Name.{Name}
-use Rattle.rawk_parsing.specs.Parser.{Input, Outcome, Parser, and_then, same_kind, sees, after, expect, refuse, newlines, newlines_from, name_at, name, bare_name, ere, number, number_from}
+use Rattle.rawk_parsing.specs.Parser.{Input, Outcome, Parser, and_then, same_kind, sees, after, expect, refuse, newlines, newlines_from, name_at, name, bare_name, ere, function, function_from, number, number_from}
 use Rattle.rawk_parsing.specs.Tokens.{Spells, SpellsEre, Newlines, none, more}
 
 pub and_then_ok : {A B : Type 0} (o : Outcome A) (f : A → Parser B) (r : B × Input) → and_then o f ≡ Ok r → (p : A × Input) × (o ≡ Ok p) × (f p.0 p.1 ≡ Ok r)
@@ -86,6 +88,14 @@ ere_ok i r at h = go (ere_len i == 0) refl h
     go : (b : Bool) → (ere_len i == 0) ≡ b → cond b (Err (Here refused.Unterminated (left i))) (Ok (unquoted (ere_spelling i), past_ere i)) ≡ Ok r → SpellsEre r.0 i r.1
     go true e h = not_ok _ r h
     go false e h = at_ok (λ w j. SpellsEre w i j) _ _ r (record { begins = at; ends = search (rules, e); is_word = refl; is_next = refl }) h
+
+pub function_ok : (i : Input) (r : Builtin × Input) → function i ≡ Ok r → (builtin_named (spelling i) ≡ Some r.0) × (next i ≡ r.1)
+unfolding function
+function_ok i r h = go (builtin_named (spelling i)) refl h
+  where
+    go : (o : Option Builtin) → builtin_named (spelling i) ≡ o → function_from o i ≡ Ok r → (builtin_named (spelling i) ≡ Some r.0) × (next i ≡ r.1)
+    go None e h = not_ok _ r h
+    go (Some f) e h = at_ok (λ g j. (builtin_named (spelling i) ≡ Some g) × (next i ≡ j)) f (next i) r (e, refl) h
 
 pub number_ok : (i : Input) (r : ℤ × Input) → number i ≡ Ok r → (constant (spelling i) ≡ Some r.0) × (next i ≡ r.1)
 unfolding number

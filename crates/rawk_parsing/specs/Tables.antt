@@ -1,7 +1,10 @@
--- The tokens that are operators, signs and functions (POSIX awk, "Expressions in awk" and "Grammar"); grammar and parser share them.
+-- The tokens that are operators and signs, and what functions take (POSIX awk, "Expressions in awk" and "Grammar"); grammar and parser share them.
 use Rattle.std.specs.Prelude.{ℕ, Bool, true, false, not, ◌&&◌, ◌||◌, if◌then◌else◌, ◌==◌, List, ◌∷◌, length, Option, Some, None}
+use Rattle.rawk_keywords.specs.declared.builtin.Builtin.{Builtin}
+use Rattle.rawk_keywords.specs.declared.builtin.Builtin.TheVariants as fun
 use Rattle.rawk_keywords.specs.declared.token.Kind.{Kind}
 use Rattle.rawk_keywords.specs.declared.token.Kind.TheVariants as k
+use Rattle.rawk_keywords.specs.Builtins.{takes}
 use Rattle.rawk_value.specs.declared.operator.Arithmetic.TheVariants as arithmetic
 use Rattle.rawk_value.specs.declared.operator.Comparison.TheVariants as comparison
 use Rattle.rawk_parsing.specs.declared.tree.Operator.{Operator}
@@ -14,8 +17,6 @@ use Rattle.rawk_parsing.specs.declared.tree.Change.{Change}
 use Rattle.rawk_parsing.specs.declared.tree.Change.TheVariants as changes
 use Rattle.rawk_parsing.specs.declared.tree.Assignment.{Assignment}
 use Rattle.rawk_parsing.specs.declared.tree.Assignment.TheVariants as setting
-use Rattle.rawk_parsing.specs.declared.tree.Function.{Function}
-use Rattle.rawk_parsing.specs.declared.tree.Function.TheVariants as fun
 use Rattle.rawk_parsing.specs.declared.tree.Expr.{Expr, out-Expr}
 use Rattle.rawk_parsing.specs.declared.tree.Expr.TheOpen.{Expr-F}
 use Rattle.rawk_parsing.specs.declared.tree.Link.{Link}
@@ -62,17 +63,7 @@ begins_joined k.Bang = true
 begins_joined k.Increment = true
 begins_joined k.Decrement = true
 begins_joined k.Getline = true
-begins_joined k.Length = true
-begins_joined k.Index = true
-begins_joined k.Substr = true
-begins_joined k.Split = true
-begins_joined k.Sub = true
-begins_joined k.Gsub = true
-begins_joined k.Match = true
-begins_joined k.Sprintf = true
-begins_joined k.Tolower = true
-begins_joined k.Toupper = true
-begins_joined k.Int = true
+begins_joined k.Builtin = true
 begins_joined _ = false
 
 abbrev pub is_greater : Operator → Bool
@@ -134,32 +125,6 @@ assignment _ = None
 
 -- ---- functions
 
-abbrev pub function : Kind → Option Function
-function k.Length = Some fun.Length
-function k.Index = Some fun.Index
-function k.Substr = Some fun.Substr
-function k.Split = Some fun.Split
-function k.Sub = Some fun.Sub
-function k.Gsub = Some fun.Gsub
-function k.Match = Some fun.Match
-function k.Sprintf = Some fun.Sprintf
-function k.Tolower = Some fun.Tolower
-function k.Toupper = Some fun.Toupper
-function k.Int = Some fun.Int
-function _ = None
-
--- how many arguments a function takes
-abbrev pub takes : Function → ℕ → Bool
-takes fun.Length n = n == 0 || n == 1
-takes fun.Index n = n == 2
-takes fun.Match n = n == 2
-takes fun.Substr n = n == 2 || n == 3
-takes fun.Split n = n == 2 || n == 3
-takes fun.Sub n = n == 2 || n == 3
-takes fun.Gsub n = n == 2 || n == 3
-takes fun.Sprintf n = not (n == 0)
-takes _ n = n == 1
-
 abbrev pub is_name_place : Place → Bool
 is_name_place (spot.Name _) = true
 is_name_place _ = false
@@ -189,12 +154,12 @@ second_is_name (a ∷ b ∷ es) = is_name b
 second_is_name _ = true
 
 -- sub and gsub assign their third argument, split its second
-abbrev pub is_shaped : Function → List Expr → Bool
+abbrev pub is_shaped : Builtin → List Expr → Bool
 is_shaped fun.Sub es = third_is_place es
 is_shaped fun.Gsub es = third_is_place es
 is_shaped fun.Split es = second_is_name es
 is_shaped _ es = true
 
 -- whether the function takes these arguments
-unfoldable pub fits : Function → List Expr → Bool
+unfoldable pub fits : Builtin → List Expr → Bool
 fits f es = takes f (length es) && is_shaped f es

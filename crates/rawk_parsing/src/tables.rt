@@ -1,10 +1,11 @@
-//! The tokens that are operators, signs and functions, as tables that the grammar shares.
+//! The tokens that are operators and signs, and what functions take, as tables that the grammar shares.
 
 ghost use Rattle.std.specs.Prelude.{◌≡◌};
 ghost use Rattle.rawk_parsing.specs.Tables as spec;
 
-use crate::tree::{Assignment, Change, Expr, Function, Operator, Place};
+use crate::tree::{Assignment, Change, Expr, Operator, Place};
 use rawk_items::Boxed;
+use rawk_keywords::{Builtin, takes};
 use rawk_lexer::Kind;
 use rawk_value::{Arithmetic, Comparison};
 use rawk_words::{Logic, Sign};
@@ -60,17 +61,7 @@ pub fn begins_joined(kind: Kind) -> bool
             | Kind::Increment
             | Kind::Decrement
             | Kind::Getline
-            | Kind::Length
-            | Kind::Index
-            | Kind::Substr
-            | Kind::Split
-            | Kind::Sub
-            | Kind::Gsub
-            | Kind::Match
-            | Kind::Sprintf
-            | Kind::Tolower
-            | Kind::Toupper
-            | Kind::Int
+            | Kind::Builtin
     )
 }
 
@@ -170,41 +161,6 @@ pub fn assignment(kind: Kind) -> Option<Assignment>
     }
 }
 
-/// The built-in function that a token names.
-pub fn function(kind: Kind) -> Option<Function>
-    ensures { result ≡ spec.function kind }
-{
-    match kind {
-        Kind::Length => Some(Function::Length),
-        Kind::Index => Some(Function::Index),
-        Kind::Substr => Some(Function::Substr),
-        Kind::Split => Some(Function::Split),
-        Kind::Sub => Some(Function::Sub),
-        Kind::Gsub => Some(Function::Gsub),
-        Kind::Match => Some(Function::Match),
-        Kind::Sprintf => Some(Function::Sprintf),
-        Kind::Tolower => Some(Function::Tolower),
-        Kind::Toupper => Some(Function::Toupper),
-        Kind::Int => Some(Function::Int),
-        _ => None,
-    }
-}
-
-/// Whether a function takes this many arguments.
-pub fn takes(function: Function, count: usize) -> bool
-    ensures { result ≡ spec.takes function count }
-{
-    match function {
-        Function::Length => count == 0 || count == 1,
-        Function::Index | Function::Match => count == 2,
-        Function::Substr | Function::Split | Function::Sub | Function::Gsub => {
-            count == 2 || count == 3
-        }
-        Function::Sprintf => !(count == 0),
-        Function::Tolower | Function::Toupper | Function::Int => count == 1,
-    }
-}
-
 #[tactic(auto, unfolding(crate::specs::Tables::is_place))]
 fn is_place(e: &Expr) -> bool
     ensures { result ≡ spec.is_place e.now }
@@ -239,19 +195,19 @@ fn second_is_name(arguments: &[Boxed<Expr>]) -> bool
     }
 }
 
-fn is_shaped(function: Function, arguments: &[Boxed<Expr>]) -> bool
+fn is_shaped(function: Builtin, arguments: &[Boxed<Expr>]) -> bool
     ensures { result ≡ spec.is_shaped function arguments.now }
 {
     match function {
-        Function::Sub | Function::Gsub => third_is_place(arguments),
-        Function::Split => second_is_name(arguments),
+        Builtin::Sub | Builtin::Gsub => third_is_place(arguments),
+        Builtin::Split => second_is_name(arguments),
         _ => true,
     }
 }
 
 /// Whether a function takes these arguments: their number, and a place or a bare name where it assigns one.
 #[tactic(auto, unfolding(crate::specs::Tables::fits))]
-pub fn fits(function: Function, arguments: &[Boxed<Expr>]) -> bool
+pub fn fits(function: Builtin, arguments: &[Boxed<Expr>]) -> bool
     ensures { result ≡ spec.fits function arguments.now }
 {
     takes(function, arguments.len()) && is_shaped(function, arguments)

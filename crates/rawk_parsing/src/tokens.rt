@@ -8,6 +8,7 @@ ghost use Rattle.rawk_parsing.specs.Parser.{Parses};
 use crate::parse_error::ParseError;
 use crate::refusal::RefusalKind;
 use crate::tree::Name;
+use rawk_keywords::{Builtin, builtin_named};
 use rawk_lexer::{Cursor, Kind, unescaped, unquoted};
 use rawk_value::{Bytes, input_number};
 use std::alloc::Global;
@@ -105,6 +106,20 @@ pub fn bare_name(alloc: Global, tokens: &mut Cursor<'_>) -> Result<Name, ParseEr
         name(alloc, tokens)
     } else {
         Err(refuse(tokens))
+    }
+}
+
+/// The next token as a built-in function; one that names none is refused.
+#[tactic(auto, unfolding(crate::specs::Parser::function))]
+pub fn function(tokens: &mut Cursor<'_>) -> Result<Builtin, ParseError>
+    ensures { Parses (spec.function tokens.old) result tokens.new }
+{
+    match builtin_named(tokens.spelling()) {
+        None => Err(refuse(tokens)),
+        Some(function) => {
+            tokens.take();
+            Ok(function)
+        }
     }
 }
 

@@ -4,6 +4,7 @@
 //! are a list, so that a tree is no deeper than the constructs that are open in the text.
 
 use rawk_items::{Boxed, Items};
+use rawk_keywords::Builtin;
 use rawk_value::{Arithmetic, Bytes, Comparison};
 use rawk_words::{Logic, Sign};
 
@@ -44,22 +45,6 @@ pub enum Assignment {
     Update(Arithmetic),
 }
 
-/// The built-in functions.
-#[derive(Clone, Copy, PartialEq, Eq)]
-pub enum Function {
-    Length,
-    Index,
-    Substr,
-    Split,
-    Sub,
-    Gsub,
-    Match,
-    Sprintf,
-    Tolower,
-    Toupper,
-    Int,
-}
-
 /// An expression.
 #[cycle(trees)]
 #[derive(Drop)]
@@ -89,7 +74,7 @@ pub enum Expr {
     Choice(Boxed<Expr>, Boxed<Expr>, Boxed<Expr>),
     Assign(Assignment, Place, Boxed<Expr>),
     /// as many arguments as the function takes; the third of `sub` and `gsub` is `Of` a place, the second of `split` `Of` a name
-    Builtin(Function, Items<Boxed<Expr>>),
+    Builtin(Builtin, Items<Boxed<Expr>>),
     /// of a function of the program
     Call(Name, Items<Boxed<Expr>>),
     Getline,

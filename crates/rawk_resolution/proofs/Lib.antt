@@ -1,1 +1,2 @@
+pub mod Applications
 pub mod Settlements

@@ -2,6 +2,8 @@
 use Rattle.std.proofs.Common.{◌≡◌, ℕ, ◌+◌, ◌<◌, ◌≤◌, ◌≢◌, suc, List, [], ◌∷◌, ◌++◌, length, take, get_or, slice_get, Option, Some, Result, Ok, Err, IfOk, OnOk, refl, sym, ap, subst, ◌∙◌, arith}
 use Rattle.std.proofs.lemmas.List.{take_more, length-append, length-take-le}
 use Rattle.std.specs.Global.{Box, Vec}
+use Rattle.rawk_keywords.specs.declared.builtin.Builtin.{Builtin}
+use Rattle.rawk_keywords.specs.declared.builtin.Builtin.TheVariants as fun
 use Rattle.rawk_value.specs.declared.operator.Arithmetic.{Arithmetic}
 use Rattle.rawk_value.specs.declared.operator.Arithmetic.TheVariants.{Pow}
 use Rattle.rawk_words.specs.declared.array.Array.{Array}
@@ -9,8 +11,6 @@ use Rattle.rawk_words.specs.declared.operator.Extent.{Extent}
 use Rattle.rawk_words.specs.declared.operator.Sign.{Sign}
 use Rattle.rawk_words.specs.declared.operator.Logic.{Logic}
 use Rattle.rawk_parsing.specs.declared.tree.Change.{Change}
-use Rattle.rawk_parsing.specs.declared.tree.Function.{Function}
-use Rattle.rawk_parsing.specs.declared.tree.Function.TheVariants as fun
 use Rattle.rawk_parsing.specs.declared.tree.Name as word
 use Rattle.rawk_parsing.specs.declared.tree.Expr as parsed
 use Rattle.rawk_parsing.specs.declared.tree.Expr.TheVariants as from
@@ -32,7 +32,7 @@ use Rattle.rawk_tree.specs.declared.tree.Kind.{Kind}
 use Rattle.rawk_tree.specs.declared.tree.Kind.TheVariants as kind
 use Rattle.rawk_tree.specs.declared.tree.Separation.{Separation}
 use Rattle.rawk_tree.specs.declared.tree.Separation.TheVariants as separation
-use Rattle.rawk_builtin_trees.specs.Calls.{Applies}
+use Rattle.rawk_resolution.specs.Calls.{Applies}
 use Rattle.rawk_resolution.specs.Settled as spec
 use Rattle.rawk_resolution.specs.Meant.{Sense}
 use Rattle.rawk_resolution.specs.Settled.{AnExpr, APlace, ASought, ASeparator, SomeArguments, IsIn, IsMatchOf, IsMember, IsRecord, SomeLinks, SomeTests, SomeExprs, Settles, joiner_of, operator_of, right_of, extent_of, scalar_place}
@@ -196,7 +196,7 @@ pub same_count : (m : Sense) {es : List parsed.Expr} {ss : List Expr} → Settle
 same_count m spec.no_exprs = refl
 same_count m (spec.an_expr {es = es} {ss = ss} {e = e} {s = s} h g) = length-append ss (s ∷ []) ∙ ap (λ n. n + 1) (same_count m h) ∙ sym (length-append es (e ∷ []))
 
-pub builtin_settles : (m : Sense) {E : Type 0} (r : Result Expr E) (f : Function) (xs : List parsed.Expr) (ss : List Expr)
+pub builtin_settles : (m : Sense) {E : Type 0} (r : Result Expr E) (f : Builtin) (xs : List parsed.Expr) (ss : List Expr)
     → Settles m (SomeExprs xs ss) → IfOk r (λ s. Applies f ss s) → IfOk r (λ s. Settles m (AnExpr (from.Builtin f xs) s))
 builtin_settles m (Ok s) f xs ss h applies = spec.builtin h applies
 builtin_settles m (Err d) f xs ss h applies = tt
@@ -211,11 +211,11 @@ pub found_settles : (m : Sense) (xs : List parsed.Expr) (x y : parsed.Expr) (s t
 found_settles m xs x y s t u is h made g = rw is (spec.found s t h (subst (λ (v : Expr). Settles m (ASought y v)) (sym made) g))
 
 -- a replacement of matches, in a place or in the record
-pub replaced_settles : (m : Sense) (f : Function) (extent : Extent) (xs : List parsed.Expr) (x y z : parsed.Expr) (s t : Box Expr) (q : Place)
+pub replaced_settles : (m : Sense) (f : Builtin) (extent : Extent) (xs : List parsed.Expr) (x y z : parsed.Expr) (s t : Box Expr) (q : Place)
     → extent_of f ≡ Some extent → xs ≡ x ∷ y ∷ z ∷ [] → Settles m (ASought x s.value) → Settles m (AnExpr y t.value) → (p : spot.Place) × (z ≡ from.Of p) × Settles m (APlace p q) → Settles m (AnExpr (from.Builtin f xs) (tree.Replace extent s t q))
 replaced_settles m f extent xs x y z s t q which is h g place = rw (is, place.1) (spec.replaced s t which h g place.2)
 
-pub record_settles : (m : Sense) (f : Function) (extent : Extent) (xs : List parsed.Expr) (x y : parsed.Expr) (s t : Box Expr) (q : Place)
+pub record_settles : (m : Sense) (f : Builtin) (extent : Extent) (xs : List parsed.Expr) (x y : parsed.Expr) (s t : Box Expr) (q : Place)
     → extent_of f ≡ Some extent → xs ≡ x ∷ y ∷ [] → Settles m (ASought x s.value) → Settles m (AnExpr y t.value) → spec.IsRecordPlace q → Settles m (AnExpr (from.Builtin f xs) (tree.Replace extent s t q))
 record_settles m f extent xs x y s t q which is h g whole = rw is (spec.replaced_record s t which h g whole)
 

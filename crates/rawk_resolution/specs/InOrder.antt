@@ -1,10 +1,10 @@
 -- Which parts of the parser's tree are in order: their names stand for what they are used as, and their calls have the arguments that the functions take.
 use Rattle.std.specs.Prelude.{ℕ, suc, Bool, true, false, ◌&&◌, ◌||◌, List, [], ◌∷◌, length, Option, Some, None}
+use Rattle.rawk_keywords.specs.declared.builtin.Builtin.{Builtin}
+use Rattle.rawk_keywords.specs.declared.builtin.Builtin.TheVariants as fun
 use Rattle.rawk_parsing.specs.declared.tree.Expr.{Expr, fold-Expr}
 use Rattle.rawk_parsing.specs.declared.tree.Expr.TheOpen as expr
 use Rattle.rawk_parsing.specs.declared.tree.Expr.TheOpen.{Expr-F, Place-F, Link-F}
-use Rattle.rawk_parsing.specs.declared.tree.Function.{Function}
-use Rattle.rawk_parsing.specs.declared.tree.Function.TheVariants as fun
 use Rattle.rawk_parsing.specs.declared.tree.Link.{Link, fold-Link}
 use Rattle.rawk_parsing.specs.declared.tree.Name.{Name}
 use Rattle.rawk_parsing.specs.declared.tree.Place.{Place, out-Place, fold-Place}
@@ -25,7 +25,7 @@ use Rattle.rawk_grammar.specs.declared.tree.Item.{Item}
 use Rattle.rawk_grammar.specs.declared.tree.Item.TheVariants as part
 use Rattle.rawk_tree.specs.declared.tree.Kind.{Kind}
 use Rattle.rawk_tree.specs.declared.tree.Kind.TheVariants as kind
-use Rattle.rawk_builtin_trees.specs.Calls.{has_builtin}
+use Rattle.rawk_resolution.specs.Calls.{has_builtin}
 use Rattle.rawk_resolution.specs.Meant.{Sense, is_there}
 
 -- a test holds of each
@@ -77,7 +77,7 @@ counts (e ∷ []) = e.array
 counts _ = false
 
 -- whether a built-in function takes these arguments; `length` takes the name of an array too (POSIX awk, "String Functions")
-abbrev pub builtin_step : Function → List Use → Bool
+abbrev pub builtin_step : Builtin → List Use → Bool
 builtin_step fun.Match es = finds es
 builtin_step fun.Sub es = replaces es
 builtin_step fun.Gsub es = replaces es

@@ -2,12 +2,12 @@
 use Rattle.std.proofs.Common.{◌≡◌, ℕ, ◌<◌, ◌≤◌, suc, Bool, true, false, ◌&&◌, ◌||◌, List, [], ◌∷◌, ◌++◌, length, take, drop, map, get_or, slice_get, Option, Some, None, refl, sym, ap, subst, ◌∙◌, arith}
 use Rattle.std.proofs.lemmas.List.{take-append-drop, length-map, length-take-le, map-append}
 use Rattle.std.proofs.Math.Seq.{drop-cons}
+use Rattle.rawk_keywords.specs.declared.builtin.Builtin.{Builtin}
+use Rattle.rawk_keywords.specs.declared.builtin.Builtin.TheVariants as fun
 use Rattle.rawk_parsing.specs.declared.tree.Assignment.{Assignment}
 use Rattle.rawk_words.specs.declared.operator.Sign.{Sign}
 use Rattle.rawk_words.specs.declared.operator.Logic.{Logic}
 use Rattle.rawk_parsing.specs.declared.tree.Change.{Change}
-use Rattle.rawk_parsing.specs.declared.tree.Function.{Function}
-use Rattle.rawk_parsing.specs.declared.tree.Function.TheVariants as fun
 use Rattle.rawk_parsing.specs.declared.tree.Name as word
 use Rattle.rawk_parsing.specs.declared.tree.Expr.{Expr, out-Expr, roll-Expr, roll-out-Expr, map-Expr, fold-roll-Expr, fold_out-Expr}
 use Rattle.rawk_parsing.specs.declared.tree.Expr.TheVariants as tree
@@ -19,7 +19,7 @@ use Rattle.rawk_parsing.specs.declared.tree.Place.{Place, out-Place, roll-Place,
 use Rattle.rawk_parsing.specs.declared.tree.Place.TheVariants as spot
 use Rattle.rawk_parsing.specs.declared.tree.Place.TheVariants.{rolls-Name, rolls-Field, rolls-Element}
 use Rattle.rawk_tree.specs.declared.tree.Kind.{Kind}
-use Rattle.rawk_builtin_trees.specs.Calls.{has_builtin}
+use Rattle.rawk_resolution.specs.Calls.{has_builtin}
 use Rattle.rawk_words.specs.declared.array.Array.{Array}
 use Rattle.rawk_words.specs.declared.operator.Extent.{Extent}
 use Rattle.rawk_resolution.specs.Meant.{Sense, is_there}
@@ -177,7 +177,7 @@ list_in_is m n xs = ap (in_order m) (sym (rolls-ListIn xs n)) ∙ in_order_roll 
 -- ---- calls of built-in functions
 
 -- a call of a built-in function, by its arguments
-pub builtin_is : (m : Sense) (f : Function) (xs : List Expr) → in_order m (tree.Builtin f xs) ≡ builtin_step f (map (use_of m) xs)
+pub builtin_is : (m : Sense) (f : Builtin) (xs : List Expr) → in_order m (tree.Builtin f xs) ≡ builtin_step f (map (use_of m) xs)
 builtin_is m f xs = ap (in_order m) (sym (rolls-Builtin f xs)) ∙ in_order_roll m (expr.Builtin f xs)
 
 -- two items, and three
@@ -199,7 +199,7 @@ pub match_is : (m : Sense) (xs : List Expr) (x y : Expr) → xs ≡ x ∷ y ∷ 
 match_is m xs x y is = ap (λ l. in_order m (tree.Builtin fun.Match l)) is ∙ builtin_is m fun.Match (x ∷ y ∷ [])
 
 -- `sub` and `gsub` of an expression and a replacement, with a place or without
-replacing : (f : Function) (extent : Extent) (es : List Use) → extent_of f ≡ Some extent → builtin_step f es ≡ replaces es
+replacing : (f : Builtin) (extent : Extent) (es : List Use) → extent_of f ≡ Some extent → builtin_step f es ≡ replaces es
 replacing fun.Sub extent es is = refl
 replacing fun.Gsub extent es is = refl
 replacing fun.Length extent es is = cc
@@ -212,13 +212,13 @@ replacing fun.Split extent es is = cc
 replacing fun.Match extent es is = cc
 replacing fun.Sprintf extent es is = cc
 
-replace_is : (m : Sense) (f : Function) (extent : Extent) (xs : List Expr) → extent_of f ≡ Some extent → in_order m (tree.Builtin f xs) ≡ replaces (map (use_of m) xs)
+replace_is : (m : Sense) (f : Builtin) (extent : Extent) (xs : List Expr) → extent_of f ≡ Some extent → in_order m (tree.Builtin f xs) ≡ replaces (map (use_of m) xs)
 replace_is m f extent xs is = builtin_is m f xs ∙ replacing f extent (map (use_of m) xs) is
 
-pub record_is : (m : Sense) (f : Function) (extent : Extent) (xs : List Expr) (x y : Expr) → extent_of f ≡ Some extent → xs ≡ x ∷ y ∷ [] → in_order m (tree.Builtin f xs) ≡ (in_order m x && in_order m y)
+pub record_is : (m : Sense) (f : Builtin) (extent : Extent) (xs : List Expr) (x y : Expr) → extent_of f ≡ Some extent → xs ≡ x ∷ y ∷ [] → in_order m (tree.Builtin f xs) ≡ (in_order m x && in_order m y)
 record_is m f extent xs x y is two = replace_is m f extent xs is ∙ ap (λ l. replaces (map (use_of m) l)) two
 
-pub changed_is : (m : Sense) (f : Function) (extent : Extent) (xs : List Expr) (x y z : Expr) → extent_of f ≡ Some extent → xs ≡ x ∷ y ∷ z ∷ [] → in_order m (tree.Builtin f xs) ≡ ((in_order m x && in_order m y) && changes m z)
+pub changed_is : (m : Sense) (f : Builtin) (extent : Extent) (xs : List Expr) (x y z : Expr) → extent_of f ≡ Some extent → xs ≡ x ∷ y ∷ z ∷ [] → in_order m (tree.Builtin f xs) ≡ ((in_order m x && in_order m y) && changes m z)
 changed_is m f extent xs x y z is three = replace_is m f extent xs is ∙ ap (λ l. replaces (map (use_of m) l)) three
 
 -- `split` of a text into an array, with a separator or without
@@ -229,7 +229,7 @@ pub separated_is : (m : Sense) (xs : List Expr) (x y z : Expr) → xs ≡ x ∷ 
 separated_is m xs x y z is = ap (λ l. in_order m (tree.Builtin fun.Split l)) is ∙ builtin_is m fun.Split (x ∷ y ∷ z ∷ [])
 
 -- any other function is one of its values
-applied : (f : Function) (es : List Use) → (f ≡ fun.Length → ⊥) → (f ≡ fun.Match → ⊥) → (f ≡ fun.Sub → ⊥) → (f ≡ fun.Gsub → ⊥) → (f ≡ fun.Split → ⊥) → builtin_step f es ≡ (has_builtin f (length es) && all_in_order es)
+applied : (f : Builtin) (es : List Use) → (f ≡ fun.Length → ⊥) → (f ≡ fun.Match → ⊥) → (f ≡ fun.Sub → ⊥) → (f ≡ fun.Gsub → ⊥) → (f ≡ fun.Split → ⊥) → builtin_step f es ≡ (has_builtin f (length es) && all_in_order es)
 applied fun.Length es length_not match_not sub_not gsub_not split_not = absurd (length_not refl)
 applied fun.Match es length_not match_not sub_not gsub_not split_not = absurd (match_not refl)
 applied fun.Sub es length_not match_not sub_not gsub_not split_not = absurd (sub_not refl)
@@ -237,14 +237,14 @@ applied fun.Gsub es length_not match_not sub_not gsub_not split_not = absurd (gs
 applied fun.Split es length_not match_not sub_not gsub_not split_not = absurd (split_not refl)
 applied _ es length_not match_not sub_not gsub_not split_not = refl
 
-values_in_order : (m : Sense) (f : Function) (xs : List Expr) → (has_builtin f (length (map (use_of m) xs)) && all_in_order (map (use_of m) xs)) ≡ (has_builtin f (length xs) && each (in_order m) xs)
+values_in_order : (m : Sense) (f : Builtin) (xs : List Expr) → (has_builtin f (length (map (use_of m) xs)) && all_in_order (map (use_of m) xs)) ≡ (has_builtin f (length xs) && each (in_order m) xs)
 values_in_order m f xs =
     ap (λ n. has_builtin f n && all_in_order (map (use_of m) xs)) (length-map xs (use_of m)) ∙ ap (λ b. has_builtin f (length xs) && b) (each_mapped (λ (c : Use). c.fit) (use_of m) xs)
 
-pub applied_is : (m : Sense) (f : Function) (xs : List Expr) → (f ≡ fun.Length → ⊥) → (f ≡ fun.Match → ⊥) → (f ≡ fun.Sub → ⊥) → (f ≡ fun.Gsub → ⊥) → (f ≡ fun.Split → ⊥) → in_order m (tree.Builtin f xs) ≡ (has_builtin f (length xs) && each (in_order m) xs)
+pub applied_is : (m : Sense) (f : Builtin) (xs : List Expr) → (f ≡ fun.Length → ⊥) → (f ≡ fun.Match → ⊥) → (f ≡ fun.Sub → ⊥) → (f ≡ fun.Gsub → ⊥) → (f ≡ fun.Split → ⊥) → in_order m (tree.Builtin f xs) ≡ (has_builtin f (length xs) && each (in_order m) xs)
 applied_is m f xs length_not match_not sub_not gsub_not split_not = builtin_is m f xs ∙ applied f (map (use_of m) xs) length_not match_not sub_not gsub_not split_not ∙ values_in_order m f xs
 
-pub applied_parts : (m : Sense) (f : Function) (xs : List Expr) → (f ≡ fun.Length → ⊥) → (f ≡ fun.Match → ⊥) → (f ≡ fun.Sub → ⊥) → (f ≡ fun.Gsub → ⊥) → (f ≡ fun.Split → ⊥) → builtin_step f (map (use_of m) xs) ≡ true
+pub applied_parts : (m : Sense) (f : Builtin) (xs : List Expr) → (f ≡ fun.Length → ⊥) → (f ≡ fun.Match → ⊥) → (f ≡ fun.Sub → ⊥) → (f ≡ fun.Gsub → ⊥) → (f ≡ fun.Split → ⊥) → builtin_step f (map (use_of m) xs) ≡ true
     → (has_builtin f (length xs) ≡ true) × (each (in_order m) xs ≡ true)
 applied_parts m f xs length_not match_not sub_not gsub_not split_not h =
     parts (has_builtin f (length xs)) (each (in_order m) xs) (builtin_step f (map (use_of m) xs)) (applied f (map (use_of m) xs) length_not match_not sub_not gsub_not split_not ∙ values_in_order m f xs) h

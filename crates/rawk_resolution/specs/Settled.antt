@@ -1,6 +1,8 @@
 -- How the settled tree of an expression comes from the parser's.
 use Rattle.std.specs.Prelude.{◌≡◌, ℕ, ℤ, pos, List, [], ◌∷◌, ◌++◌, Option, None, Some}
 use Rattle.std.specs.Global.{Box, Vec}
+use Rattle.rawk_keywords.specs.declared.builtin.Builtin.{Builtin}
+use Rattle.rawk_keywords.specs.declared.builtin.Builtin.TheVariants as fun
 use Rattle.rawk_value.specs.declared.operator.Arithmetic.{Arithmetic}
 use Rattle.rawk_value.specs.declared.operator.Arithmetic.TheVariants.{Pow}
 use Rattle.rawk_parsing.specs.declared.tree.Assignment.TheVariants as setting
@@ -11,8 +13,6 @@ use Rattle.rawk_words.specs.declared.operator.Extent.TheVariants as extent
 use Rattle.rawk_words.specs.declared.operator.Sign.{Sign}
 use Rattle.rawk_words.specs.declared.operator.Logic.{Logic}
 use Rattle.rawk_parsing.specs.declared.tree.Change.{Change}
-use Rattle.rawk_parsing.specs.declared.tree.Function.{Function}
-use Rattle.rawk_parsing.specs.declared.tree.Function.TheVariants as fun
 use Rattle.rawk_parsing.specs.declared.tree.Name as word
 use Rattle.rawk_parsing.specs.declared.tree.Expr as parsed
 use Rattle.rawk_parsing.specs.declared.tree.Expr.TheVariants as from
@@ -34,8 +34,8 @@ use Rattle.rawk_tree.specs.declared.tree.Kind.{Kind}
 use Rattle.rawk_tree.specs.declared.tree.Kind.TheVariants as kind
 use Rattle.rawk_tree.specs.declared.tree.Separation.{Separation}
 use Rattle.rawk_tree.specs.declared.tree.Separation.TheVariants as separation
-use Rattle.rawk_builtin_trees.specs.Calls.{Applies}
-pub use Rattle.rawk_builtin_trees.specs.Nodes.{joiner_of, scalar_place, IsRecordPlace, IsRecord, IsMatchOf, operator_of, neutral}
+use Rattle.rawk_resolution.specs.Calls.{Applies}
+pub use Rattle.rawk_resolution.specs.Nodes.{joiner_of, scalar_place, IsRecordPlace, IsRecord, IsMatchOf, operator_of, neutral}
 use Rattle.rawk_special.specs.declared.special.TheConstants.{FS}
 use Rattle.rawk_resolution.specs.Meant.{Sense}
 
@@ -60,7 +60,7 @@ right_of joiner.NotMatches e s = ASought e s
 right_of j e s = AnExpr e s
 
 -- which matches a function replaces, if it does
-abbrev pub extent_of : Function → Option Extent
+abbrev pub extent_of : Builtin → Option Extent
 extent_of fun.Sub = Some extent.First
 extent_of fun.Gsub = Some extent.All
 extent_of _ = None
@@ -116,13 +116,13 @@ pub data Settles (means : Sense) : Pair → Type 0 where
       → means.array n.word ≡ Some a → Settles means (SomeExprs es ss.items) → Settles means (AnExpr (from.ListIn es n) (tree.Has a ss))
   call : {n : word.Name} {es : List parsed.Expr} {f : ℕ} (ss : Vec Expr) (rs : Vec Array)
       → means.function n.word ≡ Some f → Settles means (SomeArguments (means.kinds f) es ss.items rs.items) → Settles means (AnExpr (from.Call n es) (tree.Call f ss rs))
-  builtin : {f : Function} {es : List parsed.Expr} {ss : List Expr} {s : Expr} → Settles means (SomeExprs es ss) → Applies f ss s → Settles means (AnExpr (from.Builtin f es) s)
+  builtin : {f : Builtin} {es : List parsed.Expr} {ss : List Expr} {s : Expr} → Settles means (SomeExprs es ss) → Applies f ss s → Settles means (AnExpr (from.Builtin f es) s)
   -- `length` of the name of an array alone counts its elements (POSIX awk, "String Functions")
   counted : {a : Array} (n : word.Name) → means.array n.word ≡ Some a → Settles means (AnExpr (from.Builtin fun.Length (from.Of (from_place.Name n) ∷ [])) (tree.Count a))
   -- the first argument of `sub` and `gsub` is sought, and the third is a place that is changed; a missing one is the record
-  replaced : {f : Function} {extent : Extent} {e g : parsed.Expr} {p : spot.Place} {q : Place} (s t : Box Expr)
+  replaced : {f : Builtin} {extent : Extent} {e g : parsed.Expr} {p : spot.Place} {q : Place} (s t : Box Expr)
       → extent_of f ≡ Some extent → Settles means (ASought e s.value) → Settles means (AnExpr g t.value) → Settles means (APlace p q) → Settles means (AnExpr (from.Builtin f (e ∷ g ∷ from.Of p ∷ [])) (tree.Replace extent s t q))
-  replaced_record : {f : Function} {extent : Extent} {e g : parsed.Expr} {q : Place} (s t : Box Expr)
+  replaced_record : {f : Builtin} {extent : Extent} {e g : parsed.Expr} {q : Place} (s t : Box Expr)
       → extent_of f ≡ Some extent → Settles means (ASought e s.value) → Settles means (AnExpr g t.value) → IsRecordPlace q → Settles means (AnExpr (from.Builtin f (e ∷ g ∷ [])) (tree.Replace extent s t q))
   -- the second argument of `match` is sought in the first
   found : {e f : parsed.Expr} (s t : Box Expr)

@@ -8,8 +8,8 @@ ghost use Rattle.rawk_resolution.specs.InOrder as order;
 ghost use Rattle.rawk_resolution.specs.Meant.{is_there, sense_of};
 ghost use Rattle.rawk_resolution.specs.Settled.{IsIn, IsMember};
 
+use crate::growth::push;
 use crate::scope::{Scope, array_of, the_array};
-use rawk_builtin_trees::growth::push;
 use rawk_items::Boxed;
 use rawk_parsing::tree as parsed;
 use rawk_tree::{Array, Expr};

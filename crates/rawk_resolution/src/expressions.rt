@@ -2,29 +2,30 @@
 
 ghost use Rattle.std.specs.Prelude.{◌≡◌, List, [], ◌∷◌, ◌++◌, IfOk, IsTrue, OnOk, Some, length, map, slice_get};
 ghost use Rattle.rawk_parsing.specs.declared.tree.Expr.TheVariants as from;
-ghost use Rattle.rawk_parsing.specs.declared.tree.Function.TheVariants as fun;
+ghost use Rattle.rawk_keywords.specs.declared.builtin.Builtin.TheVariants as fun;
 ghost use Rattle.rawk_parsing.specs.declared.tree.Expr as parsed_expr;
 ghost use Rattle.rawk_parsing.specs.declared.tree.Name as word;
 ghost use Rattle.rawk_parsing.specs.declared.tree.Place as parsed_place;
 ghost use Rattle.rawk_parsing.specs.declared.tree.Place.TheVariants as from_place;
 ghost use Rattle.rawk_tree.specs.declared.tree.Kind as tree_kind;
-ghost use Rattle.rawk_builtin_trees.specs.Calls.{Applies, has_builtin};
+ghost use Rattle.rawk_resolution.specs.Calls.{Applies, has_builtin};
 ghost use Rattle.rawk_resolution.specs.InOrder as order;
 ghost use Rattle.rawk_resolution.specs.Meant.{sense_of};
 ghost use Rattle.rawk_resolution.specs.Settled.{Settles, AnExpr, APlace, ASought, ASeparator, SomeArguments, SomeLinks, SomeTests, SomeExprs, Prints, right_of, extent_of};
 
 use crate::arrays::{array_named, counted, members_of};
+use crate::calls::{apply, format_and_arguments};
+use crate::growth::{boxed, push};
 use crate::kinds::kind_at;
-use crate::scope::{Scope, the_array, the_function, the_scalar};
-use rawk_builtin_trees::growth::{boxed, push};
-use rawk_builtin_trees::nodes::{
+use crate::nodes::{
     field_separator, joiner_of, neutral, number, operator_of, record, record_place, scalar_place,
     settle_ere, settle_number, settle_text,
 };
-use rawk_builtin_trees::{apply, format_and_arguments};
+use crate::scope::{Scope, the_array, the_function, the_scalar};
 use rawk_items::Boxed;
+use rawk_keywords::Builtin;
 use rawk_parsing::tree as parsed;
-use rawk_parsing::tree::{Assignment, Change, Function};
+use rawk_parsing::tree::{Assignment, Change};
 use rawk_tree::{Array, Expr, Joiner, Kind, Link, Place, Separation, Unary};
 use rawk_value::Arithmetic;
 use rawk_words::{Extent, Logic};
@@ -120,11 +121,7 @@ fn settle_right(
 }
 
 /// A call of a built-in function that takes this many arguments.
-fn apply_builtin(
-    alloc: Global,
-    function: Function,
-    arguments: Vec<Expr>,
-) -> Result<Expr, AllocError>
+fn apply_builtin(alloc: Global, function: Builtin, arguments: Vec<Expr>) -> Result<Expr, AllocError>
     requires { IsTrue (has_builtin function (length arguments.items)) }
     ensures { IfOk result (λ s. Applies function arguments.items s) }
 {
@@ -404,7 +401,7 @@ fn settle_changed(alloc: Global, scope: &Scope<'_>, e: &parsed::Expr) -> Result<
 fn settle_replace(
     alloc: Global,
     scope: &Scope<'_>,
-    function: Function,
+    function: Builtin,
     extent: Extent,
     arguments: &[Boxed<parsed::Expr>],
 ) -> Result<Expr, AllocError>
@@ -497,7 +494,7 @@ fn settle_split(
 fn settle_applied(
     alloc: Global,
     scope: &Scope<'_>,
-    function: Function,
+    function: Builtin,
     arguments: &[Boxed<parsed::Expr>],
 ) -> Result<Expr, AllocError>
     requires count { IsTrue (has_builtin function (length arguments.now)) }
@@ -520,7 +517,7 @@ fn settle_length(
 {
     match counted(scope, arguments) {
         Some(array) => Ok(Expr::Count(array)),
-        None => settle_applied(alloc, scope, Function::Length, arguments),
+        None => settle_applied(alloc, scope, Builtin::Length, arguments),
     }
 }
 
@@ -529,18 +526,18 @@ fn settle_length(
 fn settle_builtin(
     alloc: Global,
     scope: &Scope<'_>,
-    function: Function,
+    function: Builtin,
     arguments: &[Boxed<parsed::Expr>],
 ) -> Result<Expr, AllocError>
     requires { IsTrue (order.builtin_step function (map (order.use_of (sense_of scope.now)) arguments.now)) }
     ensures { IfOk result (λ s. Settles (sense_of scope.now) (AnExpr (from.Builtin function arguments.now) s)) }
 {
     match function {
-        Function::Length => settle_length(alloc, scope, arguments),
-        Function::Match => settle_match(alloc, scope, arguments),
-        Function::Sub => settle_replace(alloc, scope, function, Extent::First, arguments),
-        Function::Gsub => settle_replace(alloc, scope, function, Extent::All, arguments),
-        Function::Split => settle_split(alloc, scope, arguments),
+        Builtin::Length => settle_length(alloc, scope, arguments),
+        Builtin::Match => settle_match(alloc, scope, arguments),
+        Builtin::Sub => settle_replace(alloc, scope, function, Extent::First, arguments),
+        Builtin::Gsub => settle_replace(alloc, scope, function, Extent::All, arguments),
+        Builtin::Split => settle_split(alloc, scope, arguments),
         _ => settle_applied(alloc, scope, function, arguments),
     }
 }

@@ -2,8 +2,11 @@
 #![tactic(auto)]
 
 mod arrays;
+mod calls;
 mod expressions;
+pub mod growth;
 mod kinds;
+mod nodes;
 pub mod scope;
 
 pub use expressions::{settle_expr, settle_formatted, settle_list, settle_printed};

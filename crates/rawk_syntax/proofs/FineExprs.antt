@@ -1,6 +1,9 @@
 -- What the grammar derives is in order, where names stand for what its mentions ask: expressions.
-use Rattle.std.proofs.Common.{◌≡◌, ℕ, ◌≤◌, suc, zero, Bool, true, false, not, ◌&&◌, ◌||◌, ◌==◌, ◌⊎◌, inl, inr, List, [], ◌∷◌, ◌++◌, length, map, Option, Some, None, refl, sym, ap, subst, ◌∙◌, arith}
+use Rattle.std.proofs.Common.{◌≡◌, ◌≢◌, ℕ, ◌≤◌, suc, zero, Bool, true, false, nat_le, eq-eqb, ◌&&◌, ◌||◌, ◌==◌, ◌⊎◌, inl, inr, List, [], ◌∷◌, ◌++◌, length, map, Option, Some, None, refl, sym, ap, subst, ◌∙◌, rules, arith}
 use Rattle.std.proofs.lemmas.Bool.Decides.{nat_tests}
+use Rattle.rawk_keywords.specs.declared.builtin.Builtin.{Builtin}
+use Rattle.rawk_keywords.specs.declared.builtin.Builtin.TheVariants as fun
+use Rattle.rawk_keywords.specs.Builtins.{is_within, takes}
 use Rattle.rawk_lexer.specs.Escape.{unescaped_of, unquoted}
 use Rattle.rawk_lexer.specs.Lex.{left}
 use Rattle.rawk_parsing.specs.declared.tree.Expr.{Expr, out-Expr, roll-Expr, roll-out-Expr}
@@ -8,22 +11,21 @@ use Rattle.rawk_parsing.specs.declared.tree.Expr.TheOpen as expr
 use Rattle.rawk_parsing.specs.declared.tree.Expr.TheOpen.{Expr-F}
 use Rattle.rawk_parsing.specs.declared.tree.Expr.TheVariants as tree
 use Rattle.rawk_parsing.specs.declared.tree.Expr.TheVariants.{rolls-Of}
-use Rattle.rawk_parsing.specs.declared.tree.Function.{Function}
-use Rattle.rawk_parsing.specs.declared.tree.Function.TheVariants as fun
 use Rattle.rawk_parsing.specs.declared.tree.Link.{Link}
 use Rattle.rawk_parsing.specs.declared.tree.Name.{Name}
 use Rattle.rawk_parsing.specs.declared.tree.Operator.{Operator}
 use Rattle.rawk_parsing.specs.declared.tree.Place.{Place}
 use Rattle.rawk_parsing.specs.declared.tree.Place.TheVariants as spot
 use Rattle.rawk_parsing.specs.Parser.{Input, name_at}
-use Rattle.rawk_parsing.specs.Tables.{takes, is_shaped, is_open_place, is_open_name, is_name_place, fits}
+use Rattle.rawk_parsing.specs.Tables.{is_shaped, is_open_place, is_open_name, is_name_place, fits}
 use Rattle.rawk_parsing.specs.Tables as table
 use Rattle.rawk_expression.specs.Expression.{link, chained, contained}
 use Rattle.rawk_expression.specs.Grammar.{Phrase, Whole, Test, Further, Member, Level, Links, Unary, Power, Postfix, Dollar, Primary, APlace, Arguments, Listed, PrintList, Derives}
 use Rattle.rawk_expression.specs.Grammar as by
+use Rattle.rawk_expression.specs.Operands.{bare_fits}
 use Rattle.rawk_words.specs.declared.operator.Extent.{Extent}
 use Rattle.rawk_words.specs.declared.operator.Extent.TheVariants as extent
-use Rattle.rawk_builtin_trees.specs.Calls.{has_builtin}
+use Rattle.rawk_resolution.specs.Calls.{has_builtin}
 use Rattle.rawk_names.specs.Mentions.{AsScalar, AsArray, Measured, Called, Pattern, Seen, all, every, builtin_name, builtin_at, builtin_arguments, call_arguments, seen, place_seen, link_mentions, mentions, place_mentions}
 use Rattle.rawk_names.specs.SeenLaws.{seen-Number, seen-Text, seen-Ere, seen-Group, seen-Before, seen-After, seen-Power, seen-Signed, seen-Chain, seen-In, seen-ListIn, seen-Logic, seen-Choice, seen-Assign, seen-Builtin, seen-Call, seen-Getline, seen-GetlineTo, seen-Of, place_seen-Name, place_seen-Element, place_seen-Field, link_mentions-is, name-Of, place_name-Name}
 use Rattle.rawk_resolution.specs.Meant.{Sense}
@@ -41,18 +43,32 @@ split_or false b h = inr h
 is_same : (a b : ℕ) → (a == b) ≡ true → a ≡ b
 is_same a b h = search (arith, nat_tests, h)
 
-fits_parts : (f : Function) (es : List Expr) → fits f es ≡ true → (takes f (length es) ≡ true) × (is_shaped f es ≡ true)
+fits_parts : (f : Builtin) (es : List Expr) → fits f es ≡ true → (takes f (length es) ≡ true) × (is_shaped f es ≡ true)
 unfolding fits
 fits_parts f es h = split (takes f (length es)) (is_shaped f es) h
 
-bare_fits : fits fun.Length [] ≡ true
-unfolding fits
-bare_fits = refl
+within : (n least most : ℕ) → is_within n least (Some most) ≡ true → (least ≤ n) × (n ≤ most)
+within n least most h =
+    let both = split (nat_le least n) (nat_le n most) h in
+    (search (arith, nat_tests, both.0), search (arith, nat_tests, both.1))
 
-has_one : (f : Function) (n : ℕ) → has_builtin f 1 ≡ true → (n == 1) ≡ true → has_builtin f n ≡ true
-has_one f n one h = ap (has_builtin f) (is_same n 1 h) ∙ one
+exactly : (n k : ℕ) → is_within n k (Some k) ≡ true → n ≡ k
+exactly n k h = let w = within n k k h in omega arith
 
-has_some : (n : ℕ) → not (n == 0) ≡ true → has_builtin fun.Sprintf n ≡ true
+one_of : (n k : ℕ) → is_within n k (Some (suc k)) ≡ true → (n == k) ≡ true ⊎ (n == suc k) ≡ true
+one_of n k h = go (n == k) refl
+  where
+    go : (b : Bool) → (n == k) ≡ b → (n == k) ≡ true ⊎ (n == suc k) ≡ true
+    go true e = inl e
+    go false e =
+        let w = within n k (suc k) h in
+        let ne : n ≢ k = search (rules, e) in
+        inr (eq-eqb n (suc k) (omega arith))
+
+has_one : (f : Builtin) (n : ℕ) → has_builtin f 1 ≡ true → n ≡ 1 → has_builtin f n ≡ true
+has_one f n one h = ap (has_builtin f) h ∙ one
+
+has_some : (n : ℕ) → is_within n 1 None ≡ true → has_builtin fun.Sprintf n ≡ true
 has_some zero h = cc
 has_some (suc n) h = refl
 
@@ -83,7 +99,7 @@ of_name e h = go (out-Expr e) (sym (roll-out-Expr e)) h
 -- ---- calls of built-in functions
 
 -- the values of all arguments
-values_fine : (m : Sense) (f : Function) (es : List Expr) → (f ≡ fun.Length → ⊥) → (f ≡ fun.Match → ⊥) → (f ≡ fun.Sub → ⊥) → (f ≡ fun.Gsub → ⊥) → (f ≡ fun.Split → ⊥) → ((j : ℕ) (x : Name) → builtin_name f j x ≡ AsScalar x)
+values_fine : (m : Sense) (f : Builtin) (es : List Expr) → (f ≡ fun.Length → ⊥) → (f ≡ fun.Match → ⊥) → (f ≡ fun.Sub → ⊥) → (f ≡ fun.Gsub → ⊥) → (f ≡ fun.Split → ⊥) → ((j : ℕ) (x : Name) → builtin_name f j x ≡ AsScalar x)
     → has_builtin f (length es) ≡ true → FineExprs m es → AllMeet m (builtin_arguments f 0 (map seen es)) → in_order m (tree.Builtin f es) ≡ true
 values_fine m f es length_not match_not sub_not gsub_not split_not plain has h g =
     applied_is m f es length_not match_not sub_not gsub_not split_not ∙ both (has_builtin f (length es)) (each (in_order m) es) has (scalars_fit m f 0 es plain h g)
@@ -99,7 +115,7 @@ match_fine m (x ∷ y ∷ []) two h =
     match_is m (x ∷ y ∷ []) x y refl ∙ both (in_order m x) (in_order m y) a.0 (split (in_order m y) true a.1).0
 match_fine m (x ∷ y ∷ z ∷ xs) two h = absurd (too_many 2 x y z xs two (omega arith))
 
-replace_fine : (m : Sense) (f : Function) (extent : Extent) (es : List Expr) → extent_of f ≡ Some extent → (length es == 2) ≡ true ⊎ (length es == 3) ≡ true → table.third_is_place es ≡ true → each (in_order m) es ≡ true → in_order m (tree.Builtin f es) ≡ true
+replace_fine : (m : Sense) (f : Builtin) (extent : Extent) (es : List Expr) → extent_of f ≡ Some extent → (length es == 2) ≡ true ⊎ (length es == 3) ≡ true → table.third_is_place es ≡ true → each (in_order m) es ≡ true → in_order m (tree.Builtin f es) ≡ true
 replace_fine m f extent [] is count shape h = elim count [ inl a ↦ absurd cc | inr a ↦ absurd cc ]
 replace_fine m f extent (x ∷ []) is count shape h = elim count [ inl a ↦ absurd cc | inr a ↦ absurd cc ]
 replace_fine m f extent (x ∷ y ∷ []) is count shape h =
@@ -169,20 +185,21 @@ length_fine m (x ∷ y ∷ xs) count h g =
     let no : length (x ∷ y ∷ xs) ≡ suc (suc (length xs)) = refl in
     elim count [ inl a ↦ absurd (omega (arith, is_same (length (x ∷ y ∷ xs)) 0 a, no)) | inr a ↦ absurd (omega (arith, is_same (length (x ∷ y ∷ xs)) 1 a, no)) ]
 
-builtin_met : (m : Sense) (f : Function) (es : List Expr) → takes f (length es) ≡ true → is_shaped f es ≡ true → FineExprs m es → AllMeet m (builtin_arguments f 0 (map seen es)) → in_order m (tree.Builtin f es) ≡ true
-builtin_met m fun.Length es count shape h g = length_fine m es (split_or (length es == 0) (length es == 1) count) h g
-builtin_met m fun.Index es count shape h g = values_fine m fun.Index es (λ q. cc) (λ q. cc) (λ q. cc) (λ q. cc) (λ q. cc) (λ j x. refl) (ap (has_builtin fun.Index) (is_same (length es) 2 count)) h g
-builtin_met m fun.Substr es count shape h g = values_fine m fun.Substr es (λ q. cc) (λ q. cc) (λ q. cc) (λ q. cc) (λ q. cc) (λ j x. refl) (has_substr (length es) (split_or (length es == 2) (length es == 3) count)) h g
-builtin_met m fun.Split es count shape h g = split_fine m es (split_or (length es == 2) (length es == 3) count) shape h g
-builtin_met m fun.Sub es count shape h g = replace_fine m fun.Sub extent.First es refl (split_or (length es == 2) (length es == 3) count) shape (scalars_fit m fun.Sub 0 es (λ j x. refl) h g)
-builtin_met m fun.Gsub es count shape h g = replace_fine m fun.Gsub extent.All es refl (split_or (length es == 2) (length es == 3) count) shape (scalars_fit m fun.Gsub 0 es (λ j x. refl) h g)
-builtin_met m fun.Match es count shape h g = match_fine m es (is_same (length es) 2 count) (scalars_fit m fun.Match 0 es (λ j x. refl) h g)
+builtin_met : (m : Sense) (f : Builtin) (es : List Expr) → takes f (length es) ≡ true → is_shaped f es ≡ true → FineExprs m es → AllMeet m (builtin_arguments f 0 (map seen es)) → in_order m (tree.Builtin f es) ≡ true
+unfolding takes
+builtin_met m fun.Length es count shape h g = length_fine m es (one_of (length es) 0 count) h g
+builtin_met m fun.Index es count shape h g = values_fine m fun.Index es (λ q. cc) (λ q. cc) (λ q. cc) (λ q. cc) (λ q. cc) (λ j x. refl) (ap (has_builtin fun.Index) (exactly (length es) 2 count)) h g
+builtin_met m fun.Substr es count shape h g = values_fine m fun.Substr es (λ q. cc) (λ q. cc) (λ q. cc) (λ q. cc) (λ q. cc) (λ j x. refl) (has_substr (length es) (one_of (length es) 2 count)) h g
+builtin_met m fun.Split es count shape h g = split_fine m es (one_of (length es) 2 count) shape h g
+builtin_met m fun.Sub es count shape h g = replace_fine m fun.Sub extent.First es refl (one_of (length es) 2 count) shape (scalars_fit m fun.Sub 0 es (λ j x. refl) h g)
+builtin_met m fun.Gsub es count shape h g = replace_fine m fun.Gsub extent.All es refl (one_of (length es) 2 count) shape (scalars_fit m fun.Gsub 0 es (λ j x. refl) h g)
+builtin_met m fun.Match es count shape h g = match_fine m es (exactly (length es) 2 count) (scalars_fit m fun.Match 0 es (λ j x. refl) h g)
 builtin_met m fun.Sprintf es count shape h g = values_fine m fun.Sprintf es (λ q. cc) (λ q. cc) (λ q. cc) (λ q. cc) (λ q. cc) (λ j x. refl) (has_some (length es) count) h g
-builtin_met m fun.Tolower es count shape h g = values_fine m fun.Tolower es (λ q. cc) (λ q. cc) (λ q. cc) (λ q. cc) (λ q. cc) (λ j x. refl) (has_one fun.Tolower (length es) refl count) h g
-builtin_met m fun.Toupper es count shape h g = values_fine m fun.Toupper es (λ q. cc) (λ q. cc) (λ q. cc) (λ q. cc) (λ q. cc) (λ j x. refl) (has_one fun.Toupper (length es) refl count) h g
-builtin_met m fun.Int es count shape h g = values_fine m fun.Int es (λ q. cc) (λ q. cc) (λ q. cc) (λ q. cc) (λ q. cc) (λ j x. refl) (has_one fun.Int (length es) refl count) h g
+builtin_met m fun.Tolower es count shape h g = values_fine m fun.Tolower es (λ q. cc) (λ q. cc) (λ q. cc) (λ q. cc) (λ q. cc) (λ j x. refl) (has_one fun.Tolower (length es) refl (exactly (length es) 1 count)) h g
+builtin_met m fun.Toupper es count shape h g = values_fine m fun.Toupper es (λ q. cc) (λ q. cc) (λ q. cc) (λ q. cc) (λ q. cc) (λ j x. refl) (has_one fun.Toupper (length es) refl (exactly (length es) 1 count)) h g
+builtin_met m fun.Int es count shape h g = values_fine m fun.Int es (λ q. cc) (λ q. cc) (λ q. cc) (λ q. cc) (λ q. cc) (λ j x. refl) (has_one fun.Int (length es) refl (exactly (length es) 1 count)) h g
 
-builtin_fine : (m : Sense) (f : Function) (es : List Expr) → fits f es ≡ true → FineExprs m es → FineExpr m (tree.Builtin f es)
+builtin_fine : (m : Sense) (f : Builtin) (es : List Expr) → fits f es ≡ true → FineExprs m es → FineExpr m (tree.Builtin f es)
 builtin_fine m f es fit h =
     let parts = fits_parts f es fit in
     fine_only m (seen (tree.Builtin f es)) (use_of m (tree.Builtin f es)) (builtin_arguments f 0 (map seen es)) (in_order m (tree.Builtin f es)) (seen-Builtin f es) refl (builtin_met m f es parts.0 parts.1 h)
@@ -316,7 +333,7 @@ fine m (by.ere {w = w} {i = i} s) = fine_only m (seen (tree.Ere (left i) w)) (us
 fine m (by.group {e = e} s g t) = (let h = fine m g in fine_only m (seen (tree.Group e)) (use_of m (tree.Group e)) (mentions e) (in_order m e) (seen-Group e) (group_is m e) h.fit)
 fine m (by.call {es = es} {i = i} s g) = call_fine m (name_at i) es (fine m g)
 fine m (by.builtin {f = f} {es = es} s a g fit) = builtin_fine m f es fit (fine m g)
-fine m (by.bare_length s ne) = builtin_fine m fun.Length [] bare_fits tt
+fine m (by.bare_length s e ne) = builtin_fine m fun.Length [] bare_fits tt
 fine m (by.no_argument s t) = tt
 fine m (by.some_arguments s g t) = fine m g
 fine m (by.getline s a b) = fine_only m (seen tree.Getline) (use_of m tree.Getline) [] true seen-Getline (getline_is m) (λ g. refl)

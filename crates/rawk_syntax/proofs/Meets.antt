@@ -1,9 +1,9 @@
 -- What names have to stand for where they are mentioned, and the arguments of calls then.
 use Rattle.std.proofs.Common.{◌≡◌, ℕ, ◌+◌, ◌≤◌, suc, Bool, true, ◌||◌, List, [], ◌∷◌, ◌++◌, length, map, slice_get, Option, Some, None, refl, sym, ap, subst, ◌∙◌, arith}
 use Rattle.std.proofs.lemmas.Grind.{common_steps}
+use Rattle.rawk_keywords.specs.declared.builtin.Builtin.{Builtin}
 use Rattle.rawk_parsing.specs.declared.tree.Expr.{Expr}
 use Rattle.rawk_parsing.specs.declared.tree.Expr.TheOpen as expr
-use Rattle.rawk_parsing.specs.declared.tree.Function.{Function}
 use Rattle.rawk_parsing.specs.declared.tree.Link.{Link}
 use Rattle.rawk_parsing.specs.declared.tree.Name.{Name}
 use Rattle.rawk_parsing.specs.declared.tree.Place.{Place}
@@ -150,7 +150,7 @@ call_fits m f es h g = at (m.function f.word) refl
 -- ---- arguments of a built-in function
 
 -- of one that takes only scalars
-pub scalar_fit : (m : Sense) (f : Function) (i : ℕ) (s : Seen) (c : Use) → ((x : Name) → builtin_name f i x ≡ AsScalar x) → Fine m s c → AllMeet m (builtin_at f i s.mentions s.name) → c.fit ≡ true
+pub scalar_fit : (m : Sense) (f : Builtin) (i : ℕ) (s : Seen) (c : Use) → ((x : Name) → builtin_name f i x ≡ AsScalar x) → Fine m s c → AllMeet m (builtin_at f i s.mentions s.name) → c.fit ≡ true
 scalar_fit m f i s c plain h g = by_name s.name refl
   where
     by_name : (o : Option Name) → s.name ≡ o → c.fit ≡ true
@@ -159,7 +159,7 @@ scalar_fit m f i s c plain h g = by_name s.name refl
         let met : AllMeet m (builtin_name f i x ∷ []) = subst (λ (o : Option Name). AllMeet m (builtin_at f i s.mentions o)) e g in
         ap (λ (z : Use). z.fit) (subst (λ (o : Option Name). Named m o c) e h.named) ∙ subst (Meets m) (plain x) met.0
 
-pub scalars_fit : (m : Sense) (f : Function) (i : ℕ) (es : List Expr) → ((j : ℕ) (x : Name) → builtin_name f j x ≡ AsScalar x) → FineExprs m es → AllMeet m (builtin_arguments f i (map seen es)) → each (in_order m) es ≡ true
+pub scalars_fit : (m : Sense) (f : Builtin) (i : ℕ) (es : List Expr) → ((j : ℕ) (x : Name) → builtin_name f j x ≡ AsScalar x) → FineExprs m es → AllMeet m (builtin_arguments f i (map seen es)) → each (in_order m) es ≡ true
 scalars_fit m f i [] plain h g = refl
 scalars_fit m f i (e ∷ es) plain h g =
     let here = builtin_at f i (seen e).mentions (seen e).name in

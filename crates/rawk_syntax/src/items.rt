@@ -14,12 +14,12 @@ ghost use Rattle.rawk_syntax.specs.Texts.{IsText};
 
 use crate::lines::Sites;
 use crate::statements::settle_statements;
-use rawk_builtin_trees::growth::push;
 use rawk_grammar::tree as parsed;
 use rawk_grammar::tree::{Action, Item, Pattern};
 use rawk_items::Boxed;
 use rawk_names::Names;
 use rawk_parsing::tree::Name;
+use rawk_resolution::growth::push;
 use rawk_resolution::{Scope, global_kinds, parameter_kinds, settle_expr, settle_printed};
 use rawk_tree::{Expr, Function, Guard, Kind, Program, Rule, Stmt};
 use rawk_value::Bytes;

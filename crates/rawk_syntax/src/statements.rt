@@ -12,11 +12,11 @@ ghost use Rattle.rawk_syntax.specs.Laid.{sited, Simply, Exits, Returns, Jumps, T
 
 use crate::deletion::settle_delete;
 use crate::lines::Sites;
-use rawk_builtin_trees::growth::{boxed, push};
 use rawk_grammar::tree as parsed;
 use rawk_grammar::tree::{Act, Condition, Jump, Simple};
 use rawk_items::Boxed;
 use rawk_parsing::tree::Name;
+use rawk_resolution::growth::{boxed, push};
 use rawk_resolution::{
     Scope, settle_expr, settle_formatted, settle_printed, the_array, the_scalar,
 };

@@ -1,7 +1,8 @@
 //! Expressions as answers show them: each operator before its operands, in parentheses, behind a blank.
 
 use rawk_items::Boxed;
-use rawk_parsing::tree::{Assignment, Change, Expr, Function, Link, Name, Operator, Place};
+use rawk_keywords::Builtin;
+use rawk_parsing::tree::{Assignment, Change, Expr, Link, Name, Operator, Place};
 use rawk_value::{Arithmetic, Comparison, push_number};
 use rawk_words::{Logic, Sign};
 use std::alloc::AllocError;
@@ -94,19 +95,19 @@ fn change(change: Change) -> &'static [u8] {
     }
 }
 
-fn function(function: Function) -> &'static [u8] {
+fn function(function: Builtin) -> &'static [u8] {
     match function {
-        Function::Length => b"length",
-        Function::Index => b"index",
-        Function::Substr => b"substr",
-        Function::Split => b"split",
-        Function::Sub => b"sub",
-        Function::Gsub => b"gsub",
-        Function::Match => b"match",
-        Function::Sprintf => b"sprintf",
-        Function::Tolower => b"tolower",
-        Function::Toupper => b"toupper",
-        Function::Int => b"int",
+        Builtin::Length => b"length",
+        Builtin::Index => b"index",
+        Builtin::Substr => b"substr",
+        Builtin::Split => b"split",
+        Builtin::Sub => b"sub",
+        Builtin::Gsub => b"gsub",
+        Builtin::Match => b"match",
+        Builtin::Sprintf => b"sprintf",
+        Builtin::Tolower => b"tolower",
+        Builtin::Toupper => b"toupper",
+        Builtin::Int => b"int",
     }
 }
 

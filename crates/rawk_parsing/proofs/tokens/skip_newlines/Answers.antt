@@ -1,4 +1,4 @@
-use Rattle.std.proofs.Common.{rules, arith}
+use Rattle.std.proofs.Common.{arith}
 use Rattle.std.proofs.lemmas.Grind.{common_steps}
 use Rattle.rawk_parsing.specs.Parser.{newlines, newlines_from}
 use Rattle.rawk_parsing.specs.Turns.{one_more, no_more}

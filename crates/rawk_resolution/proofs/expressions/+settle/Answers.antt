@@ -3,7 +3,7 @@ use Rattle.rawk_parsing.specs.declared.tree.Expr.TheViews.{size_is-Link, the_lem
 use Rattle.rawk_parsing.proofs.tree.Expr.TheLaws as expr
 use Rattle.rawk_parsing.proofs.tree.Link.TheLaws as link
 use Rattle.std.proofs.Common.{◌≡◌, max, ◌+◌, ◌*◌, ◌<◌, ◌≤◌, ◌&&◌, ◌∙◌, sym, ap, map, get_or, [], ◌∷◌, Some, arith, rules}
-use Rattle.rawk_builtin_trees.specs.Calls.{has_builtin}
+use Rattle.rawk_resolution.specs.Calls.{has_builtin}
 use Rattle.rawk_tree.specs.declared.tree.Kind.TheVariants as kind
 use Rattle.rawk_tree.specs.declared.tree.Separation.TheVariants as separation
 use Rattle.rawk_resolution.specs.InOrder.{builtin_step, calls, each, in_order, link_in_order, names_array, place_in_order, use_of}

@@ -1,5 +1,5 @@
-use Rattle.rawk_builtin_trees.proofs.Applications.{one_applies}
-use Rattle.rawk_builtin_trees.proofs.calls.apply_one.Goals as goal
+use Rattle.rawk_resolution.proofs.Applications.{one_applies}
+use Rattle.rawk_resolution.proofs.calls.apply_one.Goals as goal
 
 pub returns-in-Some-clause-applies : goal.returns-in-Some-clause-applies
 returns-in-Some-clause-applies c =

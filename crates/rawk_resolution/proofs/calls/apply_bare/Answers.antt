@@ -1,5 +1,5 @@
-use Rattle.rawk_builtin_trees.proofs.Applications.{bare_applies}
-use Rattle.rawk_builtin_trees.proofs.calls.apply_bare.Goals as goal
+use Rattle.rawk_resolution.proofs.Applications.{bare_applies}
+use Rattle.rawk_resolution.proofs.calls.apply_bare.Goals as goal
 
 pub returns-clause-applies : goal.returns-clause-applies
 returns-clause-applies c =

@@ -3,7 +3,7 @@
 ghost use Rattle.std.specs.Prelude.{◌≡◌, IfOk};
 ghost use Rattle.rawk_tree.specs.declared.tree.Expr.TheVariants as tree;
 ghost use Rattle.rawk_tree.specs.declared.tree.Place.TheVariants as tree_place;
-ghost use Rattle.rawk_builtin_trees.specs.Nodes.{IsMatchOf, IsRecord, IsRecordPlace, joiner_of, operator_of, neutral, scalar_place};
+ghost use Rattle.rawk_resolution.specs.Nodes.{IsMatchOf, IsRecord, IsRecordPlace, joiner_of, operator_of, neutral, scalar_place};
 
 use crate::growth::{boxed, push};
 use rawk_parsing::tree::{Change, Operator};

@@ -1,5 +1,5 @@
-use Rattle.rawk_builtin_trees.proofs.Applications.{format_applies}
-use Rattle.rawk_builtin_trees.proofs.calls.apply_format.Goals as goal
+use Rattle.rawk_resolution.proofs.Applications.{format_applies}
+use Rattle.rawk_resolution.proofs.calls.apply_format.Goals as goal
 
 pub returns-clause-applies : goal.returns-clause-applies
 returns-clause-applies c =

@@ -3,8 +3,8 @@ use Rattle.rawk_tree.specs.declared.tree.Expr.{Expr}
 use Rattle.rawk_tree.specs.declared.tree.Expr.TheVariants as tree
 use Rattle.rawk_tree.specs.declared.tree.Joiner.TheVariants as joiner
 use Rattle.rawk_tree.specs.declared.tree.Link.TheVariants as tree_link
-use Rattle.rawk_builtin_trees.specs.Nodes.{IsRecord}
-use Rattle.rawk_builtin_trees.proofs.nodes.settle_ere.Goals as goal
+use Rattle.rawk_resolution.specs.Nodes.{IsRecord}
+use Rattle.rawk_resolution.proofs.nodes.settle_ere.Goals as goal
 
 pub returns : goal.returns
 returns c = record {

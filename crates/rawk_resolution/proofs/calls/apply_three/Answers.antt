@@ -1,7 +1,7 @@
 use Rattle.std.proofs.Common.{refl}
 use Rattle.rawk_tree.specs.declared.tree.Expr.TheVariants as tree
-use Rattle.rawk_builtin_trees.proofs.Applications.{part_applies}
-use Rattle.rawk_builtin_trees.proofs.calls.apply_three.Goals as goal
+use Rattle.rawk_resolution.proofs.Applications.{part_applies}
+use Rattle.rawk_resolution.proofs.calls.apply_three.Goals as goal
 
 pub returns : goal.returns
 returns c = (

@@ -1,5 +1,5 @@
-use Rattle.rawk_builtin_trees.proofs.Applications.{two_applies}
-use Rattle.rawk_builtin_trees.proofs.calls.apply_two.Goals as goal
+use Rattle.rawk_resolution.proofs.Applications.{two_applies}
+use Rattle.rawk_resolution.proofs.calls.apply_two.Goals as goal
 
 pub returns-in_ok-links-in-Some-clause-applies : goal.returns-in_ok-links-in-Some-clause-applies
 returns-in_ok-links-in-Some-clause-applies c =

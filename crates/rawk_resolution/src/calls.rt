@@ -1,55 +1,55 @@
 //! Calls of built-in functions (POSIX awk, Arithmetic Functions, String Functions), by the number of their arguments.
 
 ghost use Rattle.std.specs.Prelude.{◌≡◌, ◌≢◌, ◌+◌, [], ◌∷◌, ◌++◌, IfOk, IfSome, MatchOption, Some, is_some, length};
-ghost use Rattle.rawk_parsing.specs.declared.tree.Function.TheVariants.{Sprintf, Substr};
+ghost use Rattle.rawk_keywords.specs.declared.builtin.Builtin.TheVariants.{Sprintf, Substr};
 ghost use Rattle.rawk_tree.specs.declared.tree.Expr.{Expr};
 ghost use Rattle.rawk_tree.specs.declared.tree.Link.TheVariants.{Combine};
-ghost use Rattle.rawk_builtin_trees.specs.Calls.{Applies, bare_of, binary_of, has_builtin, unary_of};
+ghost use Rattle.rawk_resolution.specs.Calls.{Applies, bare_of, binary_of, has_builtin, unary_of};
 
-use rawk_parsing::tree::Function;
+use rawk_keywords::Builtin;
 use rawk_tree::{Expr, Joiner, Link, Place, Unary};
 use std::alloc::{AllocError, Global};
 
 /// What a function without an argument is, of the record.
-fn bare_of(function: Function) -> Option<Unary>
+fn bare_of(function: Builtin) -> Option<Unary>
     ensures { result ≡ bare_of function }
 {
     match function {
-        Function::Length => Some(Unary::Length),
-        Function::Tolower | Function::Toupper | Function::Int => None,
-        Function::Index | Function::Substr | Function::Split | Function::Match => None,
-        Function::Sub | Function::Gsub | Function::Sprintf => None,
+        Builtin::Length => Some(Unary::Length),
+        Builtin::Tolower | Builtin::Toupper | Builtin::Int => None,
+        Builtin::Index | Builtin::Substr | Builtin::Split | Builtin::Match => None,
+        Builtin::Sub | Builtin::Gsub | Builtin::Sprintf => None,
     }
 }
 
 /// What a function of one argument is.
-fn unary_of(function: Function) -> Option<Unary>
+fn unary_of(function: Builtin) -> Option<Unary>
     ensures { result ≡ unary_of function }
 {
     match function {
-        Function::Length => Some(Unary::Length),
-        Function::Tolower => Some(Unary::ToLower),
-        Function::Toupper => Some(Unary::ToUpper),
-        Function::Int => Some(Unary::Int),
-        Function::Index | Function::Substr | Function::Split | Function::Match => None,
-        Function::Sub | Function::Gsub | Function::Sprintf => None,
+        Builtin::Length => Some(Unary::Length),
+        Builtin::Tolower => Some(Unary::ToLower),
+        Builtin::Toupper => Some(Unary::ToUpper),
+        Builtin::Int => Some(Unary::Int),
+        Builtin::Index | Builtin::Substr | Builtin::Split | Builtin::Match => None,
+        Builtin::Sub | Builtin::Gsub | Builtin::Sprintf => None,
     }
 }
 
 /// What a function of two arguments is.
-fn binary_of(function: Function) -> Option<Joiner>
+fn binary_of(function: Builtin) -> Option<Joiner>
     ensures { result ≡ binary_of function }
 {
     match function {
-        Function::Index => Some(Joiner::Index),
-        Function::Substr => Some(Joiner::Substr),
-        Function::Length | Function::Tolower | Function::Toupper | Function::Int => None,
-        Function::Split | Function::Match => None,
-        Function::Sub | Function::Gsub | Function::Sprintf => None,
+        Builtin::Index => Some(Joiner::Index),
+        Builtin::Substr => Some(Joiner::Substr),
+        Builtin::Length | Builtin::Tolower | Builtin::Toupper | Builtin::Int => None,
+        Builtin::Split | Builtin::Match => None,
+        Builtin::Sub | Builtin::Gsub | Builtin::Sprintf => None,
     }
 }
 
-fn apply_bare(alloc: Global, function: Function) -> Result<Option<Expr>, AllocError>
+fn apply_bare(alloc: Global, function: Builtin) -> Result<Option<Expr>, AllocError>
     ensures applies { IfOk result (λ o. IfSome o (λ s. Applies function [] s)) }
     ensures has { IfOk result (λ o. is_some o ≡ is_some (bare_of function)) }
 {
@@ -61,7 +61,7 @@ fn apply_bare(alloc: Global, function: Function) -> Result<Option<Expr>, AllocEr
     Ok(Some(Expr::Unary(unary, record)))
 }
 
-fn apply_one(alloc: Global, function: Function, argument: Expr) -> Result<Option<Expr>, AllocError>
+fn apply_one(alloc: Global, function: Builtin, argument: Expr) -> Result<Option<Expr>, AllocError>
     ensures applies { IfOk result (λ o. IfSome o (λ s. Applies function (argument ∷ []) s)) }
     ensures has { IfOk result (λ o. is_some o ≡ is_some (unary_of function)) }
 {
@@ -109,7 +109,7 @@ fn link_of(alloc: Global, joiner: Joiner, operand: Expr) -> Result<Vec<Link>, Al
 
 fn apply_two(
     alloc: Global,
-    function: Function,
+    function: Builtin,
     first: Expr,
     second: Expr,
 ) -> Result<Option<Expr>, AllocError>
@@ -145,7 +145,7 @@ fn apply_three(
 /// A function of three arguments or more, of which the last two are these.
 fn apply_more(
     alloc: Global,
-    function: Function,
+    function: Builtin,
     arguments: Vec<Expr>,
     second: Expr,
     last: Expr,
@@ -158,7 +158,7 @@ fn apply_more(
     let Some(first) = rest.pop() else {
         return apply_two(alloc, function, second, last);
     };
-    if function == Function::Substr && rest.is_empty() {
+    if function == Builtin::Substr && rest.is_empty() {
         return apply_three(alloc, first, second, last);
     }
     drop(first);
@@ -170,7 +170,7 @@ fn apply_more(
 /// A function of one argument or more, of which the last is this.
 fn apply_some(
     alloc: Global,
-    function: Function,
+    function: Builtin,
     arguments: Vec<Expr>,
     last: Expr,
 ) -> Result<Option<Expr>, AllocError>
@@ -188,7 +188,7 @@ fn apply_some(
 /// A function of this many arguments.
 fn apply_counted(
     alloc: Global,
-    function: Function,
+    function: Builtin,
     arguments: Vec<Expr>,
 ) -> Result<Option<Expr>, AllocError>
     requires { function ≢ Sprintf }
@@ -228,14 +228,14 @@ fn apply_format(alloc: Global, arguments: Vec<Expr>) -> Result<Option<Expr>, All
 /// The call of a function with these arguments, if the tree has it.
 pub fn apply(
     alloc: Global,
-    function: Function,
+    function: Builtin,
     arguments: Vec<Expr>,
 ) -> Result<Option<Expr>, AllocError>
     ensures applies { IfOk result (λ o. IfSome o (λ s. Applies function arguments.items s)) }
     ensures has { IfOk result (λ o. is_some o ≡ has_builtin function (length arguments.items)) }
 {
     match function {
-        Function::Sprintf => apply_format(alloc, arguments),
+        Builtin::Sprintf => apply_format(alloc, arguments),
         _ => apply_counted(alloc, function, arguments),
     }
 }
