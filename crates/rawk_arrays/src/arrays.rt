@@ -209,7 +209,7 @@ impl Arrays {
         Ok(())
     }
 
-    /// Assigns to an element; a number that has no array changes nothing. It fails where memory is refused, and then no element has changed.
+    /// Assigns to an element; a number that has no array changes nothing. Keys that are assigned in the order in which they came need no hash. It fails where memory is refused, and then no element has changed.
     pub fn set<const SAVES: bool>(
         &mut self,
         alloc: Global,
@@ -221,7 +221,7 @@ impl Arrays {
         ensures err { OnErr result (arrays_of self.new.now ≡ arrays_of self.old.now) }
         ensures start { OnTrue SAVES (GrownArrays self.old.start self.new.start) }
     {
-        match self.place(alloc, array, key)? {
+        match self.place_by::<true>(alloc, array, key)? {
             Some(place) => self.set_at::<SAVES>(place, value),
             None => Ok(()),
         }
@@ -240,10 +240,26 @@ impl Arrays {
         ensures same { arrays_of self.new.now ≡ arrays_of self.old.now }
         ensures start { GrownArrays self.old.start self.new.start }
     {
+        let place = self.place_by::<false>(alloc, array, key)?;
+        Ok(place)
+    }
+
+    // The same; of keys that are sought in turn the next one is looked at first.
+    #[inline(always)]
+    fn place_by<const IN_TURN: bool>(
+        &mut self,
+        alloc: Global,
+        array: usize,
+        key: &[u8],
+    ) -> Result<Option<usize>, AllocError>
+        ensures place { IfOk result (λ found. MatchOption found (length (arrays_of self.old.now) ≤ array) (λ p. IsPlaceOf array key.now p self.new.now)) }
+        ensures same { arrays_of self.new.now ≡ arrays_of self.old.now }
+        ensures start { GrownArrays self.old.start self.new.start }
+    {
         if array >= self.live {
             return Ok(None);
         }
-        let place = slot_for(
+        let place = slot_for::<IN_TURN>(
             alloc,
             &mut self.index,
             &mut self.cells,

@@ -1,11 +1,11 @@
 //! Slots of elements, and the keys that they belong to.
 
 ghost use Rattle.std.specs.Bool.{OnTrue};
-ghost use Rattle.std.specs.Prelude.{◌≡◌, ℕ, ◌<◌, ◌≤◌, ◌++◌, ◌∷◌, [], IfOk, OnErr, OnOk, None, Some, if◌then◌else◌, is_some, length, slice_get, slice_set};
+ghost use Rattle.std.specs.Prelude.{◌≡◌, ℕ, ◌<◌, ◌≤◌, ◌++◌, ◌∷◌, [], IfOk, MatchOption, OnErr, OnOk, None, Some, if◌then◌else◌, is_some, length, slice_get, slice_set};
 ghost use Rattle.std.specs.Option.{option_copied};
 ghost use Rattle.std.specs.FinMap.{get};
 ghost use Rattle.rawk_slots.specs.Journaled.{Longer, at_rest};
-ghost use Rattle.rawk_keys.specs.ArrayKey.{ArrayKey, array_key};
+ghost use Rattle.rawk_keys.specs.ArrayKey.{ArrayKey, IsAbsent, array_key};
 ghost use Rattle.rawk_arrays.specs.Elements.{map_keys, put};
 ghost use Rattle.rawk_arrays.specs.Laid.{AreDistinct, AreLaid, IsCovered, IsEmptied, IsLaid, IsPacked, IsPut, IsSpread, elements_of, slot};
 ghost use Rattle.rawk_arrays.specs.Counted.{AreCounted, IsAddedTo};
@@ -46,14 +46,32 @@ pub(crate) fn element<'a>(
     }
 }
 
+// The number of a name, if it is there; of names that are sought in turn the next one is looked at first.
+#[inline(always)]
+fn found_by<const IN_TURN: bool>(index: &mut Keys, array: usize, key: &[u8]) -> Option<usize>
+    ensures found { MatchOption result (IsAbsent (array_key array key.now) index.old) (λ i. slice_get index.old i ≡ Some (array_key array key.now)) }
+    ensures same { index.new ≡ index.old }
+{
+    if IN_TURN {
+        return index.find_next(array, key);
+    }
+    index.find(array, key)
+}
+
 // The number of a name, which is added where it is missing.
-fn number_of(alloc: Global, index: &mut Keys, array: usize, key: &[u8]) -> Result<usize, AllocError>
+#[inline(always)]
+fn number_of<const IN_TURN: bool>(
+    alloc: Global,
+    index: &mut Keys,
+    array: usize,
+    key: &[u8],
+) -> Result<usize, AllocError>
     ensures there { IfOk result (λ i. slice_get index.new i ≡ Some (array_key array key.now)) }
     ensures more { Longer index.old index.new }
     ensures added { IsAddedTo array index.old index.new }
     ensures distinct { AreDistinct index.old → AreDistinct index.new }
 {
-    if let Some(number) = index.find_next(array, key) {
+    if let Some(number) = found_by::<IN_TURN>(index, array, key) {
         return Ok(number);
     }
     let number = index.len();
@@ -74,7 +92,7 @@ fn cover(cells: &mut ElementSlots, count: usize) -> Result<(), AllocError>
 
 /// The slot of a key, which is added, and empty, where it is missing. It fails where memory is refused; what was added stays.
 #[inline(always)]
-pub(crate) fn slot_for(
+pub(crate) fn slot_for<const IN_TURN: bool>(
     alloc: Global,
     index: &mut Keys,
     cells: &mut ElementSlots,
@@ -93,7 +111,7 @@ pub(crate) fn slot_for(
     ensures start { IsSpread cells.old.start cells.new.start }
 {
     reach(counts, array)?;
-    let number = number_of(alloc, index, array, key)?;
+    let number = number_of::<IN_TURN>(alloc, index, array, key)?;
     let _count = index.len();
     cover(cells, number + 1)?;
     Ok(number)
@@ -148,7 +166,7 @@ pub(crate) fn put<const SAVES: bool>(
     ensures more { Longer index.old index.new }
     ensures start { OnTrue SAVES (IsSpread cells.old.start cells.new.start) }
 {
-    let number = slot_for(alloc, index, cells, counts, array, key)?;
+    let number = slot_for::<false>(alloc, index, cells, counts, array, key)?;
     set_slot::<SAVES>(index, cells, counts, number, value)?;
     Ok(())
 }
