@@ -30,7 +30,7 @@ pub struct Keys {
     spans: Vec<KeyRange>,
     by_hash: Chains,
     by_array: Chains,
-    // The number of the entry behind the one that was found last. No contract sees it, since no answer depends on it.
+    // The number of the entry behind the one that `find_next` found last. No contract sees it, since no answer depends on it.
     guess: usize,
 }
 
@@ -100,7 +100,7 @@ impl Keys {
         )
     }
 
-    /// The same. The entry behind the one that was found last is looked at first, so that keys that are sought in the order in which they were added need no hash.
+    /// The same. The entry behind the one that this found last is looked at first, so that keys that are sought in the order in which they were added need no hash.
     pub fn find_next(&mut self, array: usize, key: &[u8]) -> Option<usize>
         ensures found { let entry = array_key array key.now in MatchOption result (IsAbsent entry self.old) (λ i. slice_get self.old i ≡ Some entry) }
         ensures same { self.new ≡ self.old }
