@@ -1,10 +1,10 @@
 -- The keys of an array, as a walk finds them.
 use Rattle.std.proofs.Common.{◌≡◌, ◌≢◌, ℕ, ◌+◌, ◌<◌, ◌≤◌, suc, Bool, true, false, cond, ◌&&◌, subst, add-one, nat_lt, add-zero, zero-add, List, [], ◌∷◌, ◌++◌, inl, inr, length, map, refl, sym, ap, ◌∙◌, arith, get_or, slice_get, Option, None, Some}
-use Rattle.std.specs.Prelude.{is_some, T}
+use Rattle.std.specs.Prelude.{All, is_some, T}
 use Rattle.std.specs.List.{sum_by}
 use Rattle.std.specs.List.Sorted.{IsPermutation, IsSorted}
-use Rattle.std.specs.Global.{Vec}
-use Rattle.std.proofs.lemmas.List.Sorted.{sum_by-IsPermutation}
+use Rattle.std.proofs.lemmas.List.Sorted.{All-permutation, sum_by-IsPermutation}
+use Rattle.std.proofs.lemmas.List.Elements.{All-get_or}
 use Rattle.std.proofs.lemmas.Bool.{cases_lt, false≢true}
 use Rattle.std.proofs.lemmas.List.Sums.{sum_by_push, sum_by-cons}
 use Rattle.std.proofs.lemmas.Bool.Decides.{Decides-ltb}
@@ -24,10 +24,13 @@ use Rattle.rawk_value.specs.Values.{Bytes}
 use Rattle.rawk_value.specs.declared.value.Value.{Value}
 use Rattle.rawk_keys.specs.ArrayKey.{ArrayKey, array_key, IsLastOf}
 use Rattle.rawk_keys.specs.Found.{left}
+use Rattle.rawk_arrays.specs.declared.heads.HeadedKey.{HeadedKey}
+use Rattle.rawk_arrays.specs.Heads.{IsHeaded, headed_keys}
 use Rattle.rawk_arrays.specs.Place.{same_key, place}
 use Rattle.rawk_arrays.specs.Laid.{AreDistinct, elements_of, slot}
-use Rattle.rawk_arrays.specs.Walks.{IsWalking, IsFinding, IsEach, is_seen, one, times, texts}
+use Rattle.rawk_arrays.specs.Walks.{IsWalking, IsFinding, IsEach, is_seen, one, times}
 use Rattle.rawk_arrays.specs.PlaceLaws.{place_there, place_is, get_at, key_is, key_itself}
+use Rattle.rawk_arrays.proofs.Heading.{headed_cmp, not_less_by_key}
 use Rattle.rawk_arrays.proofs.Emptying.{walk_name, walk_in, last_left}
 
 pub times_push : (q k : Bytes) (ks : List Bytes) → times q (ks ++ k ∷ []) ≡ times q ks + one (same_key q k)
@@ -255,25 +258,30 @@ keys_are m ks each up =
     let same : from_sorted (pairs m ks) ≡ m = same_map nat_list_cmp_total exact_bytes (from_sorted (pairs m ks)) m (λ q. get-from_sorted (slice_cmp nat_cmp) (pairs m ks) q sorted ∙ (find_pairs m q ks ∙ found_value m q (times q ks) (each q))) in
     sym (keys_of_pairs m ks) ∙ (ap (λ (es : List (Bytes × Value)). map (λ e. e.0) es) (sym (entries-from_sorted (slice_cmp nat_cmp) (pairs m ks) sorted)) ∙ ap map_keys same)
 
-times_texts : (q : Bytes) (vs : List (Vec ℕ)) → times q (texts vs) ≡ sum_by (λ (v : Vec ℕ). one (same_key q v.items)) vs
-times_texts q [] = refl
-times_texts q (v ∷ vs) = times_cons q v.items (texts vs) ∙ (ap (λ n. one (same_key q v.items) + n) (times_texts q vs) ∙ sym (sum_by-cons (λ (v : Vec ℕ). one (same_key q v.items)) v vs))
+times_headed : (q : Bytes) (hs : List HeadedKey) → times q (headed_keys hs) ≡ sum_by (λ (h : HeadedKey). one (same_key q h.key.now)) hs
+times_headed q [] = refl
+times_headed q (h ∷ hs) = times_cons q h.key.now (headed_keys hs) ∙ (ap (λ n. one (same_key q h.key.now) + n) (times_headed q hs) ∙ sym (sum_by-cons (λ (h : HeadedKey). one (same_key q h.key.now)) h hs))
 
-rising : (d : Vec ℕ) (ys : List (Vec ℕ)) (i : ℕ) → suc i < length ys → is_lt (slice_cmp nat_cmp (get_or ys (i + 1) d).items (get_or ys i d).items) ≡ false → is_lt (slice_cmp nat_cmp (get_or (texts ys) (suc i) []) (get_or (texts ys) i [])) ≡ false
-rising d ys i lt up =
-    let next : get_or (texts ys) (suc i) [] ≡ (get_or ys (i + 1) d).items = get_or-map (λ (v : Vec ℕ). v.items) ys (suc i) d [] lt ∙ ap (λ j. (get_or ys j d).items) (sym (add-one i)) in
-    let here : get_or (texts ys) i [] ≡ (get_or ys i d).items = get_or-map (λ (v : Vec ℕ). v.items) ys i d [] (omega (arith, lt)) in
-    ap (λ (x : Bytes). is_lt (slice_cmp nat_cmp x (get_or (texts ys) i []))) next ∙ (ap (λ (x : Bytes). is_lt (slice_cmp nat_cmp (get_or ys (i + 1) d).items x)) here ∙ up)
+rising : (d : HeadedKey) (ys : List HeadedKey) (i : ℕ) → suc i < length ys → All IsHeaded ys → is_lt (headed_cmp (get_or ys (i + 1) d) (get_or ys i d)) ≡ false →
+    is_lt (slice_cmp nat_cmp (get_or (headed_keys ys) (suc i) []) (get_or (headed_keys ys) i [])) ≡ false
+rising d ys i lt all up =
+    let next : get_or (headed_keys ys) (suc i) [] ≡ (get_or ys (i + 1) d).key.now = get_or-map (λ (h : HeadedKey). h.key.now) ys (suc i) d [] lt ∙ ap (λ j. (get_or ys j d).key.now) (sym (add-one i)) in
+    let here : get_or (headed_keys ys) i [] ≡ (get_or ys i d).key.now = get_or-map (λ (h : HeadedKey). h.key.now) ys i d [] (omega (arith, lt)) in
+    let apart : is_lt (slice_cmp nat_cmp (get_or ys (i + 1) d).key.now (get_or ys i d).key.now) ≡ false =
+    not_less_by_key (get_or ys (i + 1) d) (get_or ys i d) (All-get_or IsHeaded ys (i + 1) d (omega (arith, lt)) all) (All-get_or IsHeaded ys i d (omega (arith, lt)) all) up in
+    ap (λ (x : Bytes). is_lt (slice_cmp nat_cmp x (get_or (headed_keys ys) i []))) next ∙ (ap (λ (x : Bytes). is_lt (slice_cmp nat_cmp (get_or ys (i + 1) d).key.now x)) here ∙ apart)
 
-rising_all : (ys : List (Vec ℕ)) → IsSorted (λ x y. slice_cmp nat_cmp x.items y.items) ys → (i : ℕ) → suc i < length (texts ys) → is_lt (slice_cmp nat_cmp (get_or (texts ys) (suc i) []) (get_or (texts ys) i [])) ≡ false
-rising_all [] up i lt = absurd (omega (arith, lt))
-rising_all (v ∷ vs) up i lt =
-    let size : length (texts (v ∷ vs)) ≡ length (v ∷ vs) = length-map (v ∷ vs) (λ (w : Vec ℕ). w.items) in
-    rising v (v ∷ vs) i (omega (arith, lt, size)) (up i v (omega arith) (omega (arith, lt, size)))
+rising_all : (ys : List HeadedKey) → All IsHeaded ys → IsSorted headed_cmp ys → (i : ℕ) → suc i < length (headed_keys ys) → is_lt (slice_cmp nat_cmp (get_or (headed_keys ys) (suc i) []) (get_or (headed_keys ys) i [])) ≡ false
+rising_all [] all up i lt = absurd (omega (arith, lt))
+rising_all (h ∷ hs) all up i lt =
+    let size : length (headed_keys (h ∷ hs)) ≡ length (h ∷ hs) = length-map (h ∷ hs) (λ (k : HeadedKey). k.key.now) in
+    rising h (h ∷ hs) i (omega (arith, lt, size)) all (up i h (omega arith) (omega (arith, lt, size)))
 
 -- a sorted permutation of the keys
-pub sorted_keys : (m : Elements) (xs ys : List (Vec ℕ)) → IsEach (texts xs) m → IsPermutation xs ys → IsSorted (λ x y. slice_cmp nat_cmp x.items y.items) ys → texts ys ≡ map_keys m
-sorted_keys m xs ys each moved up = keys_are m (texts ys) (λ q. times_texts q ys ∙ (sum_by-IsPermutation (λ (v : Vec ℕ). one (same_key q v.items)) xs ys moved ∙ (sym (times_texts q xs) ∙ each q))) (rising_all ys up)
+pub sorted_keys : (m : Elements) (xs ys : List HeadedKey) → IsEach (headed_keys xs) m → All IsHeaded xs → IsPermutation xs ys → IsSorted headed_cmp ys → headed_keys ys ≡ map_keys m
+sorted_keys m xs ys each all moved up = keys_are m (headed_keys ys)
+    (λ q. times_headed q ys ∙ (sum_by-IsPermutation (λ (h : HeadedKey). one (same_key q h.key.now)) xs ys moved ∙ (sym (times_headed q xs) ∙ each q)))
+    (rising_all ys (All-permutation IsHeaded xs ys moved all) up)
 
 pub no_keys : map_keys no_elements ≡ []
 no_keys = sym (keys_are no_elements [] (λ q. sym (ap (λ (o : Option Value). one (is_some o)) (get-empty (slice_cmp nat_cmp) q))) (λ i lt. absurd (omega (arith, lt))))

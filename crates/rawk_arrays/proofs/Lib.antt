@@ -1,4 +1,5 @@
 pub mod Counting
 pub mod Emptying
 pub mod Finding
+pub mod Heading
 pub mod Packing

@@ -3,6 +3,7 @@ pub mod Laid
 pub mod Counted
 pub mod Place
 pub mod Walks
+pub mod Heads
 pub mod ArraysBack
 pub mod PlaceLaws
 pub mod ListLaws

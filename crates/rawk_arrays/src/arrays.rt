@@ -179,7 +179,8 @@ impl Arrays {
         if array >= self.live {
             return Ok(Vec::new(alloc));
         }
-        let found = keys(alloc, &self.index, &self.cells, array)?;
+        let count = count(&self.counts, array);
+        let found = keys(alloc, &self.index, &self.cells, array, count)?;
         Ok(found)
     }
 

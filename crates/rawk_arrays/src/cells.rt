@@ -1,7 +1,7 @@
 //! Slots of elements, and the keys that they belong to.
 
 ghost use Rattle.std.specs.Bool.{OnTrue};
-ghost use Rattle.std.specs.Prelude.{◌≡◌, ℕ, ◌<◌, ◌≤◌, ◌++◌, ◌∷◌, [], IfOk, MatchOption, OnErr, OnOk, None, Some, if◌then◌else◌, is_some, length, slice_get, slice_set};
+ghost use Rattle.std.specs.Prelude.{◌≡◌, ℕ, ◌<◌, ◌≤◌, ◌++◌, ◌∷◌, [], All, IfOk, MatchOption, OnErr, OnOk, None, Some, if◌then◌else◌, is_some, length, slice_get, slice_set};
 ghost use Rattle.std.specs.Option.{option_copied};
 ghost use Rattle.std.specs.FinMap.{get};
 ghost use Rattle.rawk_slots.specs.Journaled.{Longer, at_rest};
@@ -9,9 +9,11 @@ ghost use Rattle.rawk_keys.specs.ArrayKey.{ArrayKey, IsAbsent, array_key};
 ghost use Rattle.rawk_arrays.specs.Elements.{map_keys, put};
 ghost use Rattle.rawk_arrays.specs.Laid.{AreDistinct, AreLaid, IsCovered, IsEmptied, IsLaid, IsPacked, IsPut, IsSpread, elements_of, slot};
 ghost use Rattle.rawk_arrays.specs.Counted.{AreCounted, IsAddedTo};
+ghost use Rattle.rawk_arrays.specs.Heads.{IsHeaded, headed_keys};
 ghost use Rattle.rawk_arrays.specs.Walks.{IsEach, IsSlotEmptied, texts};
 
 use crate::counts::{reach, recount};
+use crate::heads::{HeadedKey, copies, headed};
 use rawk_keys::Keys;
 use rawk_slots::Slots;
 use rawk_value::Value;
@@ -227,56 +229,60 @@ pub(crate) fn is_filled(cells: &ElementSlots, number: usize) -> bool
     filled(cells, number).is_some()
 }
 
-// The keys of an array's elements, the newest first.
-fn keys_unsorted(
+// The keys of an array's elements, the newest first. Room for `count` of them is taken at once.
+fn keys_unsorted<'a>(
     alloc: Global,
-    index: &Keys,
+    index: &'a Keys,
     cells: &ElementSlots,
     array: usize,
-) -> Result<Vec<Vec<u8>>, AllocError>
+    count: usize,
+) -> Result<Vec<HeadedKey<'a>>, AllocError>
     requires { IsLaid index.now cells.now.now }
-    ensures { IfOk result (λ found. IsEach (texts found.items) (elements_of array index.now cells.now.now)) }
+    ensures each { IfOk result (λ found. IsEach (headed_keys found.items) (elements_of array index.now cells.now.now)) }
+    ensures headed { IfOk result (λ found. All IsHeaded found.items) }
 {
-    let mut found = Vec::new(alloc);
+    let mut found = Vec::with_capacity(alloc, count)?;
     let mut at = index.latest(array);
     let _names = index.len();
     while let Some(number) = at {
-        push_filled(alloc, index, cells, number, &mut found)?;
+        push_filled(index, cells, number, &mut found)?;
         at = index.earlier(number);
     }
     Ok(found)
 }
 
 // Adds the key of a slot that is filled.
-fn push_filled(
-    alloc: Global,
-    index: &Keys,
+fn push_filled<'a>(
+    index: &'a Keys,
     cells: &ElementSlots,
     number: usize,
-    found: &mut Vec<Vec<u8>>,
+    found: &mut Vec<HeadedKey<'a>>,
 ) -> Result<(), AllocError>
-    requires { number < length index.now }
-    ensures { OnOk result ((name : ArrayKey) → slice_get index.now number ≡ Some name → texts found.new.items ≡ texts found.old.items ++ (if is_some (slot cells.now.now number) then name.key ∷ [] else [])) }
+    requires there { number < length index.now }
+    requires headed { All IsHeaded found.old.items }
+    ensures did { OnOk result ((name : ArrayKey) → slice_get index.now number ≡ Some name → headed_keys found.new.items ≡ headed_keys found.old.items ++ (if is_some (slot cells.now.now number) then name.key ∷ [] else [])) }
+    ensures headed { OnOk result (All IsHeaded found.new.items) }
 {
     if is_filled(cells, number) {
-        found.push(Vec::from_slice(alloc, index.key(number))?)?;
+        found.push(headed(index.key(number)))?;
     }
     Ok(())
 }
 
-/// The keys of an array's elements, in byte order.
+/// The keys of an array's elements, in byte order. Room for `count` of them is taken at once.
 pub(crate) fn keys(
     alloc: Global,
     index: &Keys,
     cells: &ElementSlots,
     array: usize,
+    count: usize,
 ) -> Result<Vec<Vec<u8>>, AllocError>
     requires { IsLaid index.now cells.now.now }
     ensures { IfOk result (λ found. texts found.items ≡ map_keys (elements_of array index.now cells.now.now)) }
 {
-    let mut found = keys_unsorted(alloc, index, cells, array)?;
+    let mut found = keys_unsorted(alloc, index, cells, array, count)?;
     found.sort_unstable();
-    Ok(found)
+    copies(alloc, &found)
 }
 
 // What one slot is of the arrays below `live`, put into others.

@@ -4,5 +4,6 @@
 pub mod arrays;
 mod cells;
 mod counts;
+mod heads;
 
 pub use arrays::{Arrays, ArraysChange, ArraysGroup};

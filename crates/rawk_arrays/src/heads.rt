@@ -1,0 +1,69 @@
+//! Keys behind their first bytes as numbers, by which most of them are told apart.
+
+ghost use Rattle.std.specs.Prelude.{◌≡◌, ◌≤◌, IfOk, slice_index_or};
+ghost use Rattle.rawk_arrays.specs.Heads.{IsHeaded, headed_keys, number_with};
+ghost use Rattle.rawk_arrays.specs.Walks.{texts};
+
+use std::alloc::{AllocError, Global};
+
+/// A key behind its first eight bytes and its next eight, each as a number.
+/// In the derived order these are compared first, and whole keys only where both are the same.
+#[derive(Clone, Copy, PartialEq, Eq, PartialOrd, Ord)]
+pub(crate) struct HeadedKey<'a> {
+    first: u64,
+    second: u64,
+    key: &'a [u8],
+}
+
+// A byte of a key, and 0 past its end.
+fn byte_or_zero(key: &[u8], place: usize) -> u8
+    ensures { result ≡ slice_index_or key.now place 0 }
+{
+    match key.get(place) {
+        Some(byte) => *byte,
+        None => 0,
+    }
+}
+
+// Eight bytes of a key from a place on as a number, the first of them the highest; zeros follow where the key ends.
+fn word(key: &[u8], place: usize) -> u64
+    requires { place ≤ 8 }
+    ensures { result ≡ number_with 0 8 place key.now }
+{
+    if key.len() <= place {
+        return 0;
+    }
+    u64::from_be_bytes([
+        byte_or_zero(key, place),
+        byte_or_zero(key, place + 1),
+        byte_or_zero(key, place + 2),
+        byte_or_zero(key, place + 3),
+        byte_or_zero(key, place + 4),
+        byte_or_zero(key, place + 5),
+        byte_or_zero(key, place + 6),
+        byte_or_zero(key, place + 7),
+    ])
+}
+
+/// A key behind its first bytes.
+pub(crate) fn headed(key: &[u8]) -> HeadedKey<'_>
+    ensures key { result.key.now ≡ key.now }
+    ensures headed { IsHeaded result }
+{
+    HeadedKey {
+        first: word(key, 0),
+        second: word(key, 8),
+        key,
+    }
+}
+
+/// Copies of the keys alone.
+pub(crate) fn copies(alloc: Global, found: &[HeadedKey<'_>]) -> Result<Vec<Vec<u8>>, AllocError>
+    ensures { IfOk result (λ copied. texts copied.items ≡ headed_keys found.now) }
+{
+    let mut copied = Vec::with_capacity(alloc, found.len())?;
+    for headed in found {
+        copied.push(Vec::from_slice(alloc, headed.key)?)?;
+    }
+    Ok(copied)
+}
