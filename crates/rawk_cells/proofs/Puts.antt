@@ -1,5 +1,5 @@
 -- Values that are put into a slot and taken out of it again.
-use Rattle.std.proofs.Common.{◌≡◌, ◌≤◌, ◌<◌, ◌+◌, ◌++◌, ◌∙◌, ℕ, List, ap, sym, subst, refl, inl, inr, length, get_or, set, Some, None, Option, take, arith}
+use Rattle.std.proofs.Common.{◌≡◌, ◌≤◌, ◌<◌, ◌+◌, ◌++◌, ◌∙◌, ℕ, List, ap, sym, subst, inl, inr, length, Some, None, Result, Ok, Err, OnErr, take, arith}
 use Rattle.std.specs.Prelude.{slice_get, slice_set, slice_index_or}
 use Rattle.std.proofs.lemmas.List.{set-set, set-get_or, set_past, get_or-set_same, take-append-le, take_all, take_at, length-append, length-set}
 use Rattle.std.proofs.lemmas.Option.{get_or_from_slice_get, slice_get_cases}
@@ -25,16 +25,22 @@ pub same_again : (slots mid new : Journaled (List Value)) (p : ℕ) (v u : Value
 same_again slots mid new p v u h rest m n =
     n ∙ (ap (λ (j : Journaled (List Value)). at_rest (slice_set j.now p v)) m ∙ (ap (λ (xs : List Value). at_rest xs) (put_again slots.now p v u h) ∙ rested slots rest))
 
+pub on_err : {T E : Type 0} (r : Result T E) (P : Type 0) → P → OnErr r P
+on_err (Ok x) P p = tt
+on_err (Err x) P p = p
+
+-- what stood there still stands there
+pub same_there : (slots new : Journaled (List Value)) (p : ℕ) (v : Value) → slice_get slots.now p ≡ Some v → slots.start ≡ slots.now → new ≡ at_rest (slice_set slots.now p v) → new ≡ slots
+same_there slots new p v h rest e = e ∙ (ap (λ (xs : List Value). at_rest xs) (same_set slots.now p v h) ∙ rested slots rest)
+
 -- a longer text stands there
-pub grew : (slots mid new : Journaled (List Value)) (p n : ℕ) (text text2 more : Bytes) → slice_get slots.now p ≡ Some (String text) → mid ≡ at_rest (slice_set slots.now p Uninitialized) →
-    new ≡ at_rest (slice_set mid.now p (String text2)) → text2 ≡ text ++ more → n ≡ length text → Grew p more slots.now new (Some n)
-grew slots mid new p n text text2 more h m e t k =
+pub grew : (slots new : Journaled (List Value)) (p n : ℕ) (text longer more : Bytes) → slice_get slots.now p ≡ Some (String text) → new ≡ at_rest (slice_set slots.now p (String longer)) →
+    longer ≡ text ++ more → n ≡ length text → Grew p more slots.now new (Some n)
+grew slots new p n text longer more h e t k =
     let v : slice_index_or slots.now p Uninitialized ≡ String text = get_or_from_slice_get slots.now p (String text) Uninitialized h in
     let is : new ≡ at_rest (longer_at p more slots.now) =
-    e ∙ (ap (λ (j : Journaled (List Value)). at_rest (slice_set j.now p (String text2))) m
-    ∙ (ap (λ (xs : List Value). at_rest xs) (set-set slots.now p Uninitialized (String text2))
-    ∙ (ap (λ (b : Bytes). at_rest (slice_set slots.now p (String b))) t
-    ∙ ap (λ (w : Value). at_rest (slice_set slots.now p (String (text_of w ++ more)))) (sym v)))) in
+    e ∙ (ap (λ (b : Bytes). at_rest (slice_set slots.now p (String b))) t
+    ∙ ap (λ (w : Value). at_rest (slice_set slots.now p (String (text_of w ++ more)))) (sym v)) in
     (ap (λ j. j.start) is, ap (λ j. j.now) is, ap own_length v ∙ sym k, v ∙ ap (λ (w : Value). String (text_of w)) (sym v))
 
 -- the text of a global that grew again is still as long at least as it was at first, and leads back there

@@ -85,21 +85,13 @@ fn grow(
     ensures did { IfOk result (λ count. Grew place more.now slots.old.now slots.new count) }
     ensures err { OnErr result (slots.new ≡ slots.old) }
 {
-    match slots.replace_at_rest(place, Value::Uninitialized) {
+    match slots.lend(place) {
         Value::String(text) => {
-            let mut text = text;
             let count = text.as_slice().len();
-            let grown = text.append(alloc, more);
-            drop(slots.replace_at_rest(place, Value::String(text)));
-            match grown {
-                Ok(()) => Ok(Some(count)),
-                Err(refused) => Err(refused),
-            }
+            text.append(alloc, more)?;
+            Ok(Some(count))
         }
-        other => {
-            drop(slots.replace_at_rest(place, other));
-            Ok(None)
-        }
+        _ => Ok(None),
     }
 }
 

@@ -1,12 +1,18 @@
 -- Activations, as they lie on two stacks.
-use Rattle.std.proofs.Common.{◌≡◌, ℕ, suc, zero, ◌+◌, ◌-◌, ◌<◌, ◌≤◌, List, [], ◌∷◌, ◌++◌, length, take, drop, set, reverse, refl, sym, ap, ◌∙◌, arith, slice_get, Option, None, Some, MatchOption}
-use Rattle.std.proofs.lemmas.List.{length-reverse, length-drop, take-append-le, drop-append-le, take-set-le, reverse-append, reverse-reverse, set_past}
-use Rattle.std.proofs.lemmas.Option.{same_Some, slice_get_past, none-some}
+use Rattle.std.proofs.Common.{◌≡◌, ℕ, suc, zero, ◌+◌, ◌-◌, ◌<◌, ◌≤◌, List, [], ◌∷◌, ◌++◌, length, take, drop, set, reverse, refl, sym, ap, ◌∙◌, arith, slice_get, Option, None, Some, MatchOption, Bool, true, false, Result, Ok, Err, IfOk, OnErr}
+use Rattle.std.specs.Bool.{OnFalse, OnTrue}
+use Rattle.rawk_value.specs.Values.{Bytes}
+use Rattle.rawk_value.specs.declared.value.Value.{Value}
+use Rattle.rawk_value.specs.declared.value.Value.TheVariants.{String}
+use Rattle.std.proofs.Math.Seq.{take-set-lt}
+use Rattle.std.proofs.lemmas.List.{length-reverse, length-drop, length-take, set-get_or, take-append-le, drop-append-le, take-set-le, reverse-append, reverse-reverse, set_past}
+use Rattle.std.proofs.lemmas.Option.{get_or_from_slice_get, same_Some, slice_get_past, none-some}
 use Rattle.rawk_slots.specs.Journaled.{Journaled}
 use Rattle.rawk_slots.specs.Stacked.{Stacked, live_slots, live_values}
 use Rattle.rawk_frames.specs.declared.frames.Local.{Local}
+use Rattle.rawk_frames.specs.declared.frames.Local.TheVariants.{Holds}
 use Rattle.rawk_frames.specs.declared.frames.Activation.{Activation}
-use Rattle.rawk_frames.specs.Frame.{Frame, IsOf, locals_now, with_local, with_more}
+use Rattle.rawk_frames.specs.Frame.{Frame, HasLonger, HasLongerAt, IsLonger, IsOf, locals_now, with_local, with_more}
 use Rattle.rawk_frames.specs.LaidFrames.{AreFrames, IsNested, IsPlace, frames_from}
 
 pub length_frames : (as1 : List Activation) (ls : List Local) → length (frames_from as1 ls) ≡ length as1
@@ -45,6 +51,42 @@ local_set number as1 ls p v h =
     ∙ (ap (λ (xs : List Local). record { function = a.function; locals = xs; arrays_before = a.arrays_before; called_at = a.called_at; site = a.site } ∷ frames_from h.older (take a.base (set ls (a.base + number) v))) (drop_set ls a.base number v)
     ∙ (ap (λ (xs : List Local). record { function = a.function; locals = set (drop a.base ls) number v; arrays_before = a.arrays_before; called_at = a.called_at; site = a.site } ∷ frames_from h.older xs) (take-set-le a.base ls (a.base + number) v (omega arith))
     ∙ ap (λ (xs : List Activation). with_local number v (frames_from xs ls)) (sym h.is))))
+
+pub local_longer : (number : ℕ) (as1 : List Activation) (old new : List Local) (p : ℕ) (more : Bytes) → IsPlace number as1 old p → {E : Type 0} (r : Result Bool E)
+    → IfOk r (λ done. OnTrue done (HasLongerAt p more old new)) → IfOk r (λ done. OnTrue done (HasLonger number more (frames_from as1 old) (frames_from as1 new)))
+local_longer number as1 old new p more place {E} (Ok true) h =
+    let long : Local = Holds (String (h.text ++ more)) in
+    record { text = h.text; was = sym (local_at number as1 old p place) ∙ h.was; is = ap (λ (ls : List Local). frames_from as1 ls) h.is ∙ local_set number as1 old p long place }
+local_longer number as1 old new p more place {E} (Ok false) h = tt
+local_longer number as1 old new p more place {E} (Err e) h = tt
+
+-- what is lent of the live locals
+pub lent_set : (s : Stacked Local) (p : ℕ) (l : Local) → p < length (live_slots s) → take s.live (set s.slots p l) ≡ set (live_slots s) p l
+lent_set s p l h = take-set-lt s.live s.slots p l (omega (arith, h, length-take s.live s.slots))
+
+pub same_lent : (s : Stacked Local) (p : ℕ) (l : Local) → p < length (live_slots s) → slice_get (live_slots s) p ≡ Some l → take s.live (set s.slots p l) ≡ live_slots s
+same_lent s p l h e = lent_set s p l h ∙ (ap (λ w. set (live_slots s) p w) (sym (get_or_from_slice_get (live_slots s) p l l e)) ∙ set-get_or (live_slots s) p l)
+
+pub longer_lent : (s : Stacked Local) (p : ℕ) (more : Bytes) (l : Local) (old new : Value) → p < length (live_slots s) → slice_get (live_slots s) p ≡ Some l → l ≡ Holds old → {E : Type 0} (r : Result Bool E)
+    → IfOk r (λ done. OnTrue done (IsLonger more old new)) → IfOk r (λ done. OnTrue done (HasLongerAt p more (live_slots s) (take s.live (set s.slots p (Holds new)))))
+longer_lent s p more l old new h e is {E} (Ok true) g =
+    record { text = g.text; was = e ∙ ap (λ (k : Local). Some k) (is ∙ ap Holds g.was); is = lent_set s p (Holds new) h ∙ ap (λ (v : Value). set (live_slots s) p (Holds v)) g.is }
+longer_lent s p more l old new h e is {E} (Ok false) g = tt
+longer_lent s p more l old new h e is {E} (Err x) g = tt
+
+same_held : (s : Stacked Local) (p : ℕ) (l : Local) (old new : Value) → p < length (live_slots s) → slice_get (live_slots s) p ≡ Some l → l ≡ Holds old → new ≡ old → take s.live (set s.slots p (Holds new)) ≡ live_slots s
+same_held s p l old new h e is same = ap (λ (v : Value). take s.live (set s.slots p (Holds v))) same ∙ (ap (λ (k : Local). take s.live (set s.slots p k)) (sym is) ∙ same_lent s p l h e)
+
+pub other_lent : (s : Stacked Local) (p : ℕ) (l : Local) (old new : Value) → p < length (live_slots s) → slice_get (live_slots s) p ≡ Some l → l ≡ Holds old → {E : Type 0} (r : Result Bool E)
+    → IfOk r (λ done. OnFalse done (new ≡ old)) → IfOk r (λ done. OnFalse done (take s.live (set s.slots p (Holds new)) ≡ live_slots s))
+other_lent s p l old new h e is {E} (Ok true) g = tt
+other_lent s p l old new h e is {E} (Ok false) g = same_held s p l old new h e is g
+other_lent s p l old new h e is {E} (Err x) g = tt
+
+pub refused_lent : (s : Stacked Local) (p : ℕ) (l : Local) (old new : Value) → p < length (live_slots s) → slice_get (live_slots s) p ≡ Some l → l ≡ Holds old → {E : Type 0} (r : Result Bool E)
+    → OnErr r (new ≡ old) → OnErr r (take s.live (set s.slots p (Holds new)) ≡ live_slots s)
+refused_lent s p l old new h e is {E} (Ok x) g = tt
+refused_lent s p l old new h e is {E} (Err x) g = same_held s p l old new h e is g
 
 pub no_local : (fs : List Frame) (number : ℕ) (v : Local) → length (locals_now fs) ≤ number → fs ≡ with_local number v fs
 no_local [] number v le = refl

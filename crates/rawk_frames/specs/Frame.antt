@@ -1,6 +1,10 @@
 -- Activations of functions.
-use Rattle.std.specs.Prelude.{◌≡◌, ℕ, List, [], ◌∷◌, ◌++◌, Option, slice_set}
+use Rattle.std.specs.Prelude.{◌≡◌, ℕ, List, [], ◌∷◌, ◌++◌, Option, Some, slice_get, slice_set}
+use Rattle.rawk_value.specs.Values.{Bytes}
+use Rattle.rawk_value.specs.declared.value.Value.{Value}
+use Rattle.rawk_value.specs.declared.value.Value.TheVariants.{String}
 use Rattle.rawk_frames.specs.declared.frames.Local.{Local}
+use Rattle.rawk_frames.specs.declared.frames.Local.TheVariants.{Holds}
 use Rattle.rawk_frames.specs.declared.frames.Activation.{Activation}
 
 -- an activation: its function, its locals, how many arrays there were before it, and its calling point with its site
@@ -41,3 +45,21 @@ pub record IsOf (a : Activation) (f : Frame) : Type 0 where
   pub arrays_before : f.arrays_before ≡ a.arrays_before
   pub called_at : f.called_at ≡ a.called_at
   pub site : f.site ≡ a.site
+
+-- a text that the program made, with bytes behind it
+pub record IsLonger (more : Bytes) (old new : Value) : Type 0 where
+  pub text : Bytes
+  pub was : old ≡ String text
+  pub is : new ≡ String (text ++ more)
+
+-- the local at a place holds a text that the program made, with bytes behind it
+pub record HasLongerAt (place : ℕ) (more : Bytes) (old new : List Local) : Type 0 where
+  pub text : Bytes
+  pub was : slice_get old place ≡ Some (Holds (String text))
+  pub is : new ≡ slice_set old place (Holds (String (text ++ more)))
+
+-- the same of a local of the newest activation
+pub record HasLonger (number : ℕ) (more : Bytes) (old new : List Frame) : Type 0 where
+  pub text : Bytes
+  pub was : slice_get (locals_now old) number ≡ Some (Holds (String text))
+  pub is : new ≡ with_local number (Holds (String (text ++ more))) old

@@ -1,12 +1,12 @@
 //! Activations of functions, with their locals.
 
-ghost use Rattle.std.specs.Prelude.{◌≡◌, ◌<◌, ◌≤◌, ◌∷◌, [], IfNone, IfSome, MatchOption, None, OnErr, OnOk, Some, drop, if◌then◌else◌, length, slice_get};
-ghost use Rattle.std.specs.Bool.{OnTrue};
-ghost use Rattle.std.specs.Option.{is_some, option_copied};
+ghost use Rattle.std.specs.Prelude.{◌≡◌, ◌<◌, ◌≤◌, ◌∷◌, [], IfNone, IfOk, IfSome, MatchOption, None, OnErr, OnOk, Some, drop, length, slice_get};
+ghost use Rattle.std.specs.Bool.{OnFalse, OnTrue};
+ghost use Rattle.std.specs.Option.{option_copied};
 ghost use Rattle.rawk_slots.specs.Journaled.{at_rest};
 ghost use Rattle.rawk_slots.specs.StackGroups.{first_if, rest_if};
 ghost use Rattle.rawk_slots.specs.Stacked.{live_slots, live_values};
-ghost use Rattle.rawk_frames.specs.Frame.{Frame, IsOf, locals_now, new_frame, with_local, with_more};
+ghost use Rattle.rawk_frames.specs.Frame.{Frame, HasLonger, HasLongerAt, IsLonger, IsOf, locals_now, new_frame, with_local, with_more};
 ghost use Rattle.rawk_frames.specs.LaidFrames.{AreFramesLive, AreNested, GrownFrames, IsPlace, frames_from, frames_of, no_frames, returns_of};
 ghost use Rattle.rawk_frames.specs.FramesBack.{FitsFrames, frames_back};
 ghost use Rattle.rawk_frames.specs.FramesChanges.{changed_frames};
@@ -130,16 +130,21 @@ impl Frames {
         set_local_of::<SAVES>(&self.frames, &mut self.locals, number, local)
     }
 
-    /// Puts a local in the place of one of the newest activation, by its number from 0, and gives that, where it need not be saved, since the step has changed it already or
-    /// saves nothing; else `None`, also for a number that is none, and then nothing has changed. It takes no memory.
+    /// Puts bytes behind the text that a local of the newest activation holds, by its number from 0, where it stands, and answers whether one stands there that the program
+    /// made; else nothing has changed. It saves nothing: nothing is said of the step's beginning then. It fails where memory is refused, and then nothing has changed.
     #[inline(always)]
-    pub fn take_local<const SAVES: bool>(&mut self, number: usize, spare: Local) -> Option<Local>
-        ensures value { IfSome result (λ l. slice_get (locals_now (frames_of self.old.now)) number ≡ Some l) }
-        ensures after { frames_of self.new.now ≡ (if is_some result then with_local number spare (frames_of self.old.now) else frames_of self.old.now) }
+    pub fn append_local(
+        &mut self,
+        alloc: Global,
+        number: usize,
+        more: &[u8],
+    ) -> Result<bool, AllocError>
+        ensures did { IfOk result (λ done. OnTrue done (HasLonger number more.now (frames_of self.old.now) (frames_of self.new.now))) }
+        ensures other { IfOk result (λ done. OnFalse done (frames_of self.new.now ≡ frames_of self.old.now)) }
         ensures returns { returns_of self.new.now ≡ returns_of self.old.now }
-        ensures start { OnTrue SAVES (self.new.start ≡ self.old.start) }
+        ensures err { OnErr result (frames_of self.new.now ≡ frames_of self.old.now) }
     {
-        take_local_of::<SAVES>(&self.frames, &mut self.locals, number, spare)
+        append_local_of(&self.frames, &mut self.locals, alloc, number, more)
     }
 
     /// Adds an activation with no locals. It fails where memory is refused.
@@ -473,21 +478,58 @@ fn set_local_of<const SAVES: bool>(
     Ok(())
 }
 
-/// Puts a local in the place of one of the newest activation, and gives that, where it need not be saved.
+/// Puts bytes behind the text that a local of the newest activation holds, and answers whether one stands there that the program made.
 #[inline(always)]
-fn take_local_of<const SAVES: bool>(
+fn append_local_of(
     frames: &Stack<Activation>,
     locals: &mut Stack<Local>,
+    alloc: Global,
     number: usize,
-    spare: Local,
-) -> Option<Local>
-    ensures value { IfSome result (λ l. slice_get (locals_now (frames_from (live_values frames.now.now) (live_slots locals.old.now))) number ≡ Some l) }
-    ensures after { frames_from (live_values frames.now.now) (live_slots locals.new.now) ≡ (if is_some result then with_local number spare (frames_from (live_values frames.now.now) (live_slots locals.old.now)) else frames_from (live_values frames.now.now) (live_slots locals.old.now)) }
-    ensures start { OnTrue SAVES (locals.new.start ≡ locals.old.start) }
+    more: &[u8],
+) -> Result<bool, AllocError>
+    ensures did { IfOk result (λ done. OnTrue done (HasLonger number more.now (frames_from (live_values frames.now.now) (live_slots locals.old.now)) (frames_from (live_values frames.now.now) (live_slots locals.new.now)))) }
+    ensures other { IfOk result (λ done. OnFalse done (live_slots locals.new.now ≡ live_slots locals.old.now)) }
+    ensures err { OnErr result (live_slots locals.new.now ≡ live_slots locals.old.now) }
     ensures size { length (live_slots locals.new.now) ≡ length (live_slots locals.old.now) }
 {
     match place_of(frames, locals, number) {
-        Some(place) => locals.take_oldest::<SAVES>(place, spare),
-        None => None,
+        Some(place) => append_at(locals, alloc, place, more),
+        None => Ok(false),
+    }
+}
+
+/// The same of a local that is counted from the oldest.
+#[inline(always)]
+fn append_at(
+    locals: &mut Stack<Local>,
+    alloc: Global,
+    place: usize,
+    more: &[u8],
+) -> Result<bool, AllocError>
+    requires { place < length (live_slots locals.old.now) }
+    ensures did { IfOk result (λ done. OnTrue done (HasLongerAt place more.now (live_slots locals.old.now) (live_slots locals.new.now))) }
+    ensures other { IfOk result (λ done. OnFalse done (live_slots locals.new.now ≡ live_slots locals.old.now)) }
+    ensures err { OnErr result (live_slots locals.new.now ≡ live_slots locals.old.now) }
+    ensures size { length (live_slots locals.new.now) ≡ length (live_slots locals.old.now) }
+{
+    match locals.lend_oldest(place) {
+        Local::Holds(value) => lengthen(alloc, value, more),
+        Local::Names(_) => Ok(false),
+    }
+}
+
+/// Puts bytes behind a text that the program made, in place where nobody shares it, and answers whether the value is one.
+#[inline(always)]
+fn lengthen(alloc: Global, value: &mut Value, more: &[u8]) -> Result<bool, AllocError>
+    ensures did { IfOk result (λ done. OnTrue done (IsLonger more.now value.old value.new)) }
+    ensures other { IfOk result (λ done. OnFalse done (value.new ≡ value.old)) }
+    ensures err { OnErr result (value.new ≡ value.old) }
+{
+    match value {
+        Value::String(text) => {
+            text.append(alloc, more)?;
+            Ok(true)
+        }
+        _ => Ok(false),
     }
 }

@@ -7,4 +7,3 @@ pub mod Splits
 pub mod Subscripts
 pub mod Visits
 pub mod InPlace
-pub mod Locals

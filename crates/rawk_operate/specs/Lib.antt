@@ -1,3 +1,4 @@
+pub mod Appends
 pub mod Done
 pub mod DoneLaws
 pub mod Line

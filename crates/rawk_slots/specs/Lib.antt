@@ -7,3 +7,5 @@ pub mod StackBack
 pub mod StackChanges
 pub mod StackLaws
 pub mod Saving
+pub mod Lends
+pub mod LendsOldest

@@ -2,6 +2,7 @@
 
 ghost use Rattle.std.specs.Prelude.{◌≡◌, ◌<◌, ◌≤◌, ◌+◌, ◌++◌, ◌∷◌, [], ℕ, IfSome, IsSome, List, OnErr, OnOk, Some, drop, if◌then◌else◌, length, slice_get, slice_range, slice_set, take, vec_len};
 ghost use Rattle.std.specs.Bool.{OnFalse, OnTrue};
+ghost use Rattle.std.specs.Borrow.{sem};
 ghost use Rattle.std.specs.Vec.{vec_capacity};
 ghost use Rattle.std.specs.Option.{is_some, option_copied};
 ghost use Rattle.rawk_slots.specs.Back.{back, AreBelow, AreDistinctFrom, HasAdded};
@@ -53,6 +54,8 @@ fn reserve_one<T>(saved: &mut Vec<Saved<T>>) -> Result<(), AllocError>
 }
 
 impl<T: Drop> Slots<T> {
+    ghost use Rattle.rawk_slots.specs.Lends.{lends_slot};
+
     /// No slots.
     pub fn new(alloc: Global) -> Self
         ensures { result ≡ at_rest [] }
@@ -139,6 +142,18 @@ impl<T: Drop> Slots<T> {
     {
         drop_all(&mut self.saved);
         mem::replace(&mut self.items[place], value)
+    }
+
+    /// Lends what stands in a slot, and forgets what the step changed before: its beginning then has what is written there, too. It takes no memory.
+    #[inline(always)]
+    pub fn lend(&mut self, place: usize) -> &mut T
+        requires { place < length self.old.now }
+        ensures* lends { sem 𝓛 (lends_slot T.row self.entry place result) }
+        ensures value { slice_get self.old.now place ≡ Some result.now }
+        ensures size { length self.old.start ≡ length self.old.now }
+    {
+        drop_all(&mut self.saved);
+        &mut self.items[place]
     }
 
     /// Puts a value into a slot whose content need not be saved, since the step has changed it already or saves nothing, and gives what stands there; `None` where it would

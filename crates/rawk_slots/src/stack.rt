@@ -1,9 +1,10 @@
 //! A stack whose values can be put back as they stood when the step began.
 
-ghost use Rattle.std.specs.Prelude.{◌≡◌, ◌≤◌, ◌+◌, ◌∷◌, [], IfSome, OnErr, OnOk, Some, drop, if◌then◌else◌, length, reverse, slice_get, slice_set, take, vec_len};
+ghost use Rattle.std.specs.Prelude.{◌≡◌, ◌<◌, ◌≤◌, ◌+◌, ◌∷◌, [], IfSome, OnErr, OnOk, Some, drop, if◌then◌else◌, length, reverse, slice_get, slice_set, take, vec_len};
 ghost use Rattle.std.specs.Vec.{vec_capacity};
 ghost use Rattle.std.specs.Option.{is_some, option_copied};
 ghost use Rattle.std.specs.Bool.{OnTrue};
+ghost use Rattle.std.specs.Borrow.{sem};
 ghost use Rattle.rawk_slots.specs.Journaled.{at_rest};
 ghost use Rattle.rawk_slots.specs.Stacked.{GrownStack, IsLive, empty_stack, live_slots, live_values};
 ghost use Rattle.rawk_slots.specs.Back.{back, AreBelow, AreDistinctFrom, HasAdded};
@@ -58,6 +59,8 @@ impl<T> Model for StackGroup<T> {
 }
 
 impl<T: Drop> Stack<T> {
+    ghost use Rattle.rawk_slots.specs.LendsOldest.{lends_oldest};
+
     /// No values.
     pub fn new(alloc: Global) -> Self
         ensures { result ≡ at_rest empty_stack }
@@ -162,17 +165,14 @@ impl<T: Drop> Stack<T> {
         None
     }
 
-    /// The same of a value that is counted from the oldest; `None` also for a number that has none.
-    #[inline]
-    pub fn take_oldest<const SAVES: bool>(&mut self, number: usize, spare: T) -> Option<T>
-        ensures value { IfSome result (λ v. slice_get (live_slots self.old.now) number ≡ Some v) }
-        ensures after { live_slots self.new.now ≡ (if is_some result then slice_set (live_slots self.old.now) number spare else live_slots self.old.now) }
-        ensures start { OnTrue SAVES (self.new.start ≡ self.old.start) }
+    /// Lends a value, counted from the oldest, and forgets what the step changed in values before: its beginning then has what is written there, too. It takes no memory.
+    #[inline(always)]
+    pub fn lend_oldest(&mut self, number: usize) -> &mut T
+        requires { number < length (live_slots self.old.now) }
+        ensures* lends { sem 𝓛 (lends_oldest T.row self.entry number result) }
+        ensures value { slice_get (live_slots self.old.now) number ≡ Some result.now }
     {
-        if number < self.live {
-            return self.slots.take_changed::<SAVES>(number, spare);
-        }
-        None
+        self.slots.lend(number)
     }
 
     /// Drops the newest values, as many as there are at most.

@@ -1,5 +1,5 @@
 use Rattle.std.specs.Prelude.{not}
-use Rattle.std.proofs.Common.{◌≡◌, ◌<◌, ◌∙◌, ℕ, nat_eq, ap, sym, subst, List, length, Option, Some, None, arith}
+use Rattle.std.proofs.Common.{◌≡◌, ◌<◌, ◌∙◌, ℕ, nat_eq, ap, sym, subst, length, Option, Some, arith}
 use Rattle.rawk_cells.specs.declared.cells.Grown.{Grown}
 use Rattle.rawk_cells.specs.Cells.{before_growth, Grew, GrewAlone, HasGrown}
 use Rattle.rawk_cells.proofs.Puts.{before_on, grew_first}
