@@ -1,5 +1,5 @@
 -- Compiled code goes back only to points.
-use Rattle.std.proofs.Common.{◌≡◌, ℕ, pos, zero, suc, ◌+◌, ◌-◌, ◌*◌, ◌<◌, ◌≤◌, ◌⊎◌, inl, inr, Bool, true, false, not, List, [], ◌∷◌, ◌++◌, length, map, Option, Some, None, refl, sym, ap, ◌∙◌, subst, arith, length-append}
+use Rattle.std.proofs.Common.{◌≡◌, ℕ, pos, zero, suc, ◌+◌, ◌-◌, ◌*◌, ◌<◌, ◌≤◌, ◌⊎◌, inl, inr, Bool, true, false, not, List, [], ◌∷◌, ◌++◌, length, map, Option, Some, None, if◌then◌else◌, refl, sym, ap, ◌∙◌, subst, arith, length-append}
 use Rattle.std.specs.Prelude.{slice_get, nat_lt, ◌||◌}
 use Rattle.std.proofs.lemmas.Option.{slice_get_past}
 use Rattle.std.proofs.lemmas.Bool.{cases_lt, lt-ltb}
@@ -40,7 +40,7 @@ use Rattle.rawk_selection.specs.Conditions.{Fork, agrees, leap_on, deciding, log
 use Rattle.rawk_selection.specs.Added.{appending, added, added_to}
 use Rattle.rawk_selection.specs.Readings.{part_dropped, missing_code, getline_to_code}
 use Rattle.rawk_selection.specs.Jumps.{over}
-use Rattle.rawk_compiler.specs.Code.{unless_constant, separator_operand, right_operand, unless_ready, unless_one, pushed, joined, key_code, key_operand, forks_code, joined_fork, deciders, forks_by, fork_by, forks, link_fork, link_forks, fork_of, choice_code, decide_code, expr_code, expr_codes, effect_code, place_code, parts_code, link_code, link_codes, front_of, simples_behind, Piece, nowhere, always, in_turn, when_code, Arm, then_to, branch_to, if_code, step_around, body_around, loop_code, keys_around, keys_code, scalar_destination, jump_code, test_code, condition_code, condition_leap, stmt_code, stmt_codes, arms_of, or_else, closing_code, opened_code, guard_code, rule_code, records_code, main_code, begin_code, record_at_of, end_at_of, functions_at_of, function_code, functions_code, entries_of, program_code, HasAt}
+use Rattle.rawk_compiler.specs.Code.{unless_constant, separator_operand, right_operand, unless_ready, unless_one, pushed, joined, key_code, key_operand, forks_code, joined_fork, deciders, forks_by, fork_by, forks, link_fork, link_forks, fork_of, choice_code, decide_code, expr_code, expr_codes, effect_code, place_code, parts_code, link_code, link_codes, front_of, simples_behind, Piece, nowhere, always, in_turn, when_code, Arm, then_to, branch_to, if_code, step_around, body_around, loop_code, keys_around, keys_code, scalar_destination, jump_code, test_code, condition_code, condition_leap, stmt_code, stmt_codes, arms_of, or_else, closing_code, opened_code, guard_code, rule_code, records_code, main_code, begin_code, record_at_of, end_at_of, functions_at_of, function_code, functions_code, entries_of, program_code, HasAt, behind_point}
 use Rattle.rawk_code.specs.Valid.{rank_of, rank, IsEntry, Descends, IsValid}
 use Rattle.rawk_compiler.proofs.Follows.{has_front, has_back, has_all}
 use Rattle.rawk_compiler.proofs.Statements.{branches_length}
@@ -531,8 +531,11 @@ module _ (code : List Instr) where
   all_fine (s ∷ ss) = (stmt_fine s, all_fine ss)
 
   guard_fine : (g : Guard) (site : ℕ) (piece : Piece) → FinePiece piece → FinePiece (guard_code g site piece)
-  guard_fine (When e) site piece f =
-      when_fine (condition_code site e) (condition_leap e) piece (fine_cons (instr.Point (Some site)) _ (λ pc. tt) (fork_fine e false).front) (fork_fine e false).leap f
+  guard_fine (When e) site piece f = by_constant (is_neutral false e)
+    where
+      by_constant : (b : Bool) → FinePiece (if b then behind_point site piece else when_code (condition_code site e) (condition_leap e) piece)
+      by_constant true = record { by = λ w pc to has le safe. (tt, f.by w (pc + 1) to has.1 (omega (arith, le)) safe) }
+      by_constant false = when_fine (condition_code site e) (condition_leap e) piece (fine_cons (instr.Point (Some site)) _ (λ pc. tt) (fork_fine e false).front) (fork_fine e false).leap f
   guard_fine (Between range first last) site piece f =
       let closes = closing_code range last in
       let closes_fine = fine_append (fork_of last false).front _ (fork_fine last false).front (fine_cons (over 1 (condition_leap last)) _ (λ pc. (fork_fine last false).leap pc 1) (fine_cons (instr.Do (does.SetRange range false)) [] (λ pc. tt) fine_none)) in

@@ -1,7 +1,7 @@
 // The whole program.
 
 ghost use Rattle.std.specs.Prelude.{◌≡◌, [], ◌∷◌, ◌++◌, ◌+◌, IfOk, OnOk, false, map, length};
-ghost use Rattle.rawk_compiler.specs.Code.{fork_of, condition_leap, in_turn, nowhere, when_code, closing_code, opened_code, guard_code, rule_code, function_code, functions_code, entries_from, records_code, main_code, stmt_code, IsCompiled, HasPlaces};
+ghost use Rattle.rawk_compiler.specs.Code.{behind_point, condition_code, fork_of, condition_leap, in_turn, nowhere, when_code, closing_code, opened_code, guard_code, rule_code, function_code, functions_code, entries_from, records_code, main_code, stmt_code, IsCompiled, HasPlaces};
 ghost use Rattle.rawk_code.specs.Correct.{CodeOf};
 ghost use Rattle.rawk_code.specs.Trace.{reads};
 
@@ -12,6 +12,7 @@ use rawk_code::{Code, Entry, Instr, Operand, Simple};
 use rawk_selection::instructions::{
     items_of, pass_rest, patch, put, put_go_to, put_point, put_range,
 };
+use rawk_selection::logic::is_neutral;
 use rawk_tree::{Expr, Function, Guard, Program, Rule, Stmt};
 use rawk_value::Bytes;
 use std::alloc::{AllocError, Global};
@@ -147,7 +148,7 @@ fn emit_guarded(
     }
 }
 
-// A test, and its action where the test holds.
+// A test, and its action where the test holds; a constant that is true needs no test.
 fn emit_when(
     alloc: Global,
     code: &mut Vec<Instr>,
@@ -156,6 +157,37 @@ fn emit_when(
     action: &Stmt,
 ) -> Result<(), AllocError>
     ensures { OnOk result (code.new.items ≡ code.old.items ++ guard_code (Guard.When test.now) site (stmt_code action.now) nowhere (length code.old.items)) }
+{
+    if is_neutral(false, test) {
+        emit_behind(alloc, code, site, action)
+    } else {
+        emit_tested(alloc, code, site, test, action)
+    }
+}
+
+// An action behind its point.
+fn emit_behind(
+    alloc: Global,
+    code: &mut Vec<Instr>,
+    site: usize,
+    action: &Stmt,
+) -> Result<(), AllocError>
+    ensures { OnOk result (code.new.items ≡ code.old.items ++ behind_point site (stmt_code action.now) nowhere (length code.old.items)) }
+{
+    put_point(code, site)?;
+    emit_stmt(alloc, code, NOWHERE, action)?;
+    Ok(())
+}
+
+// A test, and its action behind the test's jump.
+fn emit_tested(
+    alloc: Global,
+    code: &mut Vec<Instr>,
+    site: usize,
+    test: &Expr,
+    action: &Stmt,
+) -> Result<(), AllocError>
+    ensures { OnOk result (code.new.items ≡ code.old.items ++ when_code (condition_code site test.now) (condition_leap test.now) (stmt_code action.now) nowhere (length code.old.items)) }
 {
     let test_end = emit_condition(alloc, code, site, test)?;
     emit_stmt(alloc, code, NOWHERE, action)?;

@@ -1,7 +1,7 @@
 use Rattle.std.proofs.Common.{◌∙◌}
 use Rattle.rawk_compiler.specs.Code.{condition_code, condition_leap, stmt_code, nowhere}
 use Rattle.rawk_compiler.proofs.Patch.{patch_when}
-use Rattle.rawk_compiler.proofs.compiler.emit_when.Goals as goal
+use Rattle.rawk_compiler.proofs.compiler.emit_tested.Goals as goal
 
 pub returns : goal.returns
 returns c =
