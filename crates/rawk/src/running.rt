@@ -58,8 +58,10 @@ fn refused(program: &Program, point: u64, site: Option<usize>) -> Report
 }
 
 /// Hands on the output that a run did not give yet, and, where the step left any, lets go what it needs no more of its input. Where the sink fails, the run stands
-/// at its point.
-fn give_on<R: Source + Drop, W: Sink>(
+/// at its point. A call of its own, out of the way of steps that need none of this.
+#[cold]
+#[inline(never)]
+fn hand_on<R: Source + Drop, W: Sink>(
     alloc: Global,
     runner: &mut Runner<R>,
     buffer: &mut Vec<u8>,
@@ -82,29 +84,6 @@ fn give_on<R: Source + Drop, W: Sink>(
     }
     runner.drop_consumed(alloc);
     Ok(())
-}
-
-/// Hands on the output that a run did not give yet, and lets go what it needs no more of its input, where there may be any of these. Where the sink fails,
-/// the run stands at its point. A call of its own, out of the way of steps that need none of this.
-#[cold]
-#[inline(never)]
-fn hand_on<R: Source + Drop, W: Sink>(
-    alloc: Global,
-    runner: &mut Runner<R>,
-    buffer: &mut Vec<u8>,
-    sink: &mut W,
-    eventful: bool,
-) -> Result<(), DeviceFault>
-    ensures ok { OnOk result (HandsOn R.may_give W.may_hold runner.old sink.old runner.new sink.new) }
-    ensures err { OnErr result (IsCut W.may_hold runner.old.state.output sink.old sink.new) }
-    ensures point { runner.new.point ≡ runner.old.point }
-    ensures source { runner.new.tape.source ≡ runner.old.tape.source }
-    ensures failures { CountsUp (W.failures sink.old) (W.failures sink.new) (failures_of result) }
-{
-    if !runner.has_news() {
-        return Ok(());
-    }
-    give_on(alloc, runner, buffer, sink, eventful)
 }
 
 /// Goes on with a run to its end, and writes the output of each step before the next one.
