@@ -4,4 +4,3 @@
 pub mod act;
 pub mod at_once;
 mod popped;
-mod variables;
