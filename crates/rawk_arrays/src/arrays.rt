@@ -5,7 +5,7 @@ ghost use Rattle.std.specs.FinMap.{len};
 ghost use Rattle.rawk_arrays.specs.Walks.{texts};
 ghost use Rattle.std.specs.Bool.{OnTrue};
 ghost use Rattle.std.specs.Option.{option_copied};
-ghost use Rattle.rawk_value.specs.Values.{Bytes};
+ghost use Rattle.rawk_value.specs.Values.{Bytes, text_of};
 ghost use Rattle.rawk_slots.specs.Journaled.{at_rest};
 ghost use Rattle.rawk_slots.specs.Back.{back};
 ghost use Rattle.rawk_arrays.specs.Elements.{array_at, changed_arrays, cleared, element_at, is_element, keys_at, no_elements, touched, with_element, with_put, without_element};
@@ -15,6 +15,7 @@ ghost use Rattle.rawk_arrays.specs.Slotted.{IsSlotOf};
 
 use crate::cells::{
     ElementSlots, element, empty, filled, is_filled, keys, pack, put, set_slot, slot_for,
+    slot_for_number,
 };
 use crate::counts::{count, recount_back};
 use rawk_keys::Keys;
@@ -210,7 +211,7 @@ impl Arrays {
         Ok(())
     }
 
-    /// Assigns to an element; a number that has no array changes nothing. Keys that are assigned in the order in which they came need no hash. It fails where memory is refused, and then no element has changed.
+    /// Assigns to an element; a number that has no array changes nothing. It fails where memory is refused, and then no element has changed.
     pub fn set<const SAVES: bool>(
         &mut self,
         alloc: Global,
@@ -222,10 +223,30 @@ impl Arrays {
         ensures err { OnErr result (arrays_of self.new.now ≡ arrays_of self.old.now) }
         ensures start { OnTrue SAVES (GrownArrays self.old.start self.new.start) }
     {
-        match self.place_by::<true>(alloc, array, key)? {
+        match self.place(alloc, array, key)? {
             Some(place) => self.set_at::<SAVES>(place, value),
             None => Ok(()),
         }
+    }
+
+    /// Assigns to the element at the key of a number, without a search where the keys from 1 to it came one behind another; a number that has no array changes nothing.
+    /// It fails where memory is refused, and then no element has changed.
+    #[inline(always)]
+    pub fn set_numbered<const SAVES: bool>(
+        &mut self,
+        alloc: Global,
+        array: usize,
+        key: i64,
+        value: Value,
+    ) -> Result<(), AllocError>
+        ensures did { OnOk result (arrays_of self.new.now ≡ with_element array (text_of (Value.Number key)) value (arrays_of self.old.now)) }
+        ensures err { OnErr result (arrays_of self.new.now ≡ arrays_of self.old.now) }
+        ensures start { OnTrue SAVES (GrownArrays self.old.start self.new.start) }
+    {
+        if let Some(place) = self.place_numbered(alloc, array, key)? {
+            return self.set_at::<SAVES>(place, value);
+        }
+        Ok(())
     }
 
     /// The place of an element, to read it and to write it with one search, until the step ends; `None` for a number that has no array.
@@ -241,26 +262,41 @@ impl Arrays {
         ensures same { arrays_of self.new.now ≡ arrays_of self.old.now }
         ensures start { GrownArrays self.old.start self.new.start }
     {
-        let place = self.place_by::<false>(alloc, array, key)?;
-        Ok(place)
+        if array >= self.live {
+            return Ok(None);
+        }
+        let place = slot_for(
+            alloc,
+            &mut self.index,
+            &mut self.cells,
+            &mut self.counts,
+            array,
+            key,
+        )?;
+        Ok(Some(place))
     }
 
-    // The same; of keys that are sought in turn the next one is looked at first.
+    // The same of the key of a number.
     #[inline(always)]
-    fn place_by<const IN_TURN: bool>(
+    fn place_numbered(
         &mut self,
         alloc: Global,
         array: usize,
-        key: &[u8],
+        key: i64,
     ) -> Result<Option<usize>, AllocError>
-        ensures place { IfOk result (λ found. MatchOption found (length (arrays_of self.old.now) ≤ array) (λ p. IsPlaceOf array key.now p self.new.now)) }
+        ensures place { IfOk result (λ found. MatchOption found (length (arrays_of self.old.now) ≤ array) (λ p. IsPlaceOf array (text_of (Value.Number key)) p self.new.now)) }
         ensures same { arrays_of self.new.now ≡ arrays_of self.old.now }
         ensures start { GrownArrays self.old.start self.new.start }
     {
         if array >= self.live {
             return Ok(None);
         }
-        let place = slot_for::<IN_TURN>(
+        if let Some(place) = self.index.in_series(array, key) {
+            if place < self.cells.len() {
+                return Ok(Some(place));
+            }
+        }
+        let place = slot_for_number(
             alloc,
             &mut self.index,
             &mut self.cells,

@@ -1,11 +1,12 @@
 //! Slots of elements, and the keys that they belong to.
 
 ghost use Rattle.std.specs.Bool.{OnTrue};
-ghost use Rattle.std.specs.Prelude.{◌≡◌, ℕ, ◌<◌, ◌≤◌, ◌++◌, ◌∷◌, [], All, IfOk, MatchOption, OnErr, OnOk, None, Some, if◌then◌else◌, is_some, length, slice_get, slice_set};
+ghost use Rattle.std.specs.Prelude.{◌≡◌, ℕ, ◌<◌, ◌≤◌, ◌++◌, ◌∷◌, [], All, IfOk, OnErr, OnOk, None, Some, if◌then◌else◌, is_some, length, slice_get, slice_set};
 ghost use Rattle.std.specs.Option.{option_copied};
 ghost use Rattle.std.specs.FinMap.{get};
+ghost use Rattle.rawk_value.specs.Values.{text_of};
 ghost use Rattle.rawk_slots.specs.Journaled.{Longer, at_rest};
-ghost use Rattle.rawk_keys.specs.ArrayKey.{ArrayKey, IsAbsent, array_key};
+ghost use Rattle.rawk_keys.specs.ArrayKey.{ArrayKey, array_key};
 ghost use Rattle.rawk_arrays.specs.Elements.{map_keys, put};
 ghost use Rattle.rawk_arrays.specs.Laid.{AreDistinct, AreLaid, IsCovered, IsEmptied, IsLaid, IsPacked, IsPut, IsSpread, elements_of, slot};
 ghost use Rattle.rawk_arrays.specs.Counted.{AreCounted, IsAddedTo};
@@ -14,9 +15,11 @@ ghost use Rattle.rawk_arrays.specs.Walks.{IsEach, IsSlotEmptied, texts};
 
 use crate::counts::{reach, recount};
 use crate::heads::{HeadedKey, copies, headed};
+use itoa::Buffer;
 use rawk_keys::Keys;
 use rawk_slots::Slots;
 use rawk_value::Value;
+use rawk_value::order::digits_in;
 use std::alloc::{AllocError, Global};
 
 /// Slots of elements, filled or empty.
@@ -48,32 +51,15 @@ pub(crate) fn element<'a>(
     }
 }
 
-// The number of a name, if it is there; of names that are sought in turn the next one is looked at first.
-#[inline(always)]
-fn found_by<const IN_TURN: bool>(index: &mut Keys, array: usize, key: &[u8]) -> Option<usize>
-    ensures found { MatchOption result (IsAbsent (array_key array key.now) index.old) (λ i. slice_get index.old i ≡ Some (array_key array key.now)) }
-    ensures same { index.new ≡ index.old }
-{
-    if IN_TURN {
-        return index.find_next(array, key);
-    }
-    index.find(array, key)
-}
-
 // The number of a name, which is added where it is missing.
 #[inline(always)]
-fn number_of<const IN_TURN: bool>(
-    alloc: Global,
-    index: &mut Keys,
-    array: usize,
-    key: &[u8],
-) -> Result<usize, AllocError>
+fn number_of(alloc: Global, index: &mut Keys, array: usize, key: &[u8]) -> Result<usize, AllocError>
     ensures there { IfOk result (λ i. slice_get index.new i ≡ Some (array_key array key.now)) }
     ensures more { Longer index.old index.new }
     ensures added { IsAddedTo array index.old index.new }
     ensures distinct { AreDistinct index.old → AreDistinct index.new }
 {
-    if let Some(number) = found_by::<IN_TURN>(index, array, key) {
+    if let Some(number) = index.find(array, key) {
         return Ok(number);
     }
     let number = index.len();
@@ -94,7 +80,7 @@ fn cover(cells: &mut ElementSlots, count: usize) -> Result<(), AllocError>
 
 /// The slot of a key, which is added, and empty, where it is missing. It fails where memory is refused; what was added stays.
 #[inline(always)]
-pub(crate) fn slot_for<const IN_TURN: bool>(
+pub(crate) fn slot_for(
     alloc: Global,
     index: &mut Keys,
     cells: &mut ElementSlots,
@@ -113,9 +99,42 @@ pub(crate) fn slot_for<const IN_TURN: bool>(
     ensures start { IsSpread cells.old.start cells.new.start }
 {
     reach(counts, array)?;
-    let number = number_of::<IN_TURN>(alloc, index, array, key)?;
+    let number = number_of(alloc, index, array, key)?;
     let _count = index.len();
     cover(cells, number + 1)?;
+    Ok(number)
+}
+
+/// The same of a number's key, whose slot is noted, so that it is found without a search where it stands in a series.
+#[inline(never)]
+pub(crate) fn slot_for_number(
+    alloc: Global,
+    index: &mut Keys,
+    cells: &mut ElementSlots,
+    counts: &mut Vec<usize>,
+    array: usize,
+    key: i64,
+) -> Result<usize, AllocError>
+    requires laid { AreLaid index.old cells.old }
+    requires counted { AreCounted index.old cells.old.now counts.old.items }
+    ensures laid { AreLaid index.new cells.new }
+    ensures counted { AreCounted index.new cells.new.now counts.new.items }
+    ensures there { IfOk result (λ i. slice_get index.new i ≡ Some (array_key array (text_of (Value.Number key)))) }
+    ensures within { IfOk result (λ i. i < length cells.new.now) }
+    ensures more { Longer index.old index.new }
+    ensures now { IsSpread cells.old.now cells.new.now }
+    ensures start { IsSpread cells.old.start cells.new.start }
+{
+    let mut digits = Buffer::new();
+    let number = slot_for(
+        alloc,
+        index,
+        cells,
+        counts,
+        array,
+        digits_in(key, &mut digits),
+    )?;
+    index.note(array, key, number);
     Ok(number)
 }
 
@@ -168,7 +187,7 @@ pub(crate) fn put<const SAVES: bool>(
     ensures more { Longer index.old index.new }
     ensures start { OnTrue SAVES (IsSpread cells.old.start cells.new.start) }
 {
-    let number = slot_for::<false>(alloc, index, cells, counts, array, key)?;
+    let number = slot_for(alloc, index, cells, counts, array, key)?;
     set_slot::<SAVES>(index, cells, counts, number, value)?;
     Ok(())
 }

@@ -4,3 +4,4 @@ pub mod ArrayKey
 pub mod Hash
 pub mod KeysLaid
 pub mod Found
+pub mod Series

@@ -1,14 +1,16 @@
 //! A list of keys of arrays, in which one is found by its bytes.
 
-ghost use Rattle.std.specs.Prelude.{◌≡◌, ◌<◌, ◌≤◌, ◌++◌, ◌∷◌, [], IfOk, IsTrue, ◌↔◌, MatchOption, OnErr, OnOk, Some, length, slice_get, slice_range};
-ghost use Rattle.std.specs.Bool.{OnTrue};
+ghost use Rattle.std.specs.Prelude.{◌≡◌, ◌<◌, ◌≤◌, ◌++◌, ◌∷◌, [], IfOk, IfSome, IsTrue, ◌↔◌, MatchOption, OnErr, OnOk, Some, length, slice_get, slice_range};
 ghost use Rattle.std.proofs.Common.{get_or};
+ghost use Rattle.rawk_value.specs.Values.{text_of};
+ghost use Rattle.rawk_value.specs.declared.value.Value.TheVariants.{Number};
 ghost use Rattle.rawk_keys.specs.declared.keys.KeyRange.{KeyRange};
 ghost use Rattle.rawk_keys.specs.ArrayKey.{IsAbsent, IsLastOf, ArrayKey, array_key};
 ghost use Rattle.rawk_keys.specs.KeysLaid.{AreWithin, AreLaid, keys_of};
 
 use crate::chains::{Chains, short};
 use crate::hash::{hash, seeded_basis};
+use crate::series::{Series, entry_of, note_entry};
 use std::alloc::{AllocError, Global};
 use std::marker::Model;
 
@@ -30,8 +32,8 @@ pub struct Keys {
     spans: Vec<KeyRange>,
     by_hash: Chains,
     by_array: Chains,
-    // The number of the entry behind the one that `find_next` found last. No contract sees it, since no answer depends on it.
-    guess: usize,
+    // A series of each array, by its number; an array that has none is past the end, or has one of no entries.
+    series: Vec<Series>,
 }
 
 impl Model for Keys {
@@ -40,11 +42,12 @@ impl Model for Keys {
 
     ghost Value = { List ArrayKey };
 
-    ghost use Rattle.rawk_keys.specs.KeysLaid.{AreLaid, keys_of};
+    ghost use Rattle.rawk_keys.specs.KeysLaid.{keys_of};
+    ghost use Rattle.rawk_keys.specs.Series.{AreKept};
 
     ghost view = { λ n. keys_of n.text.items n.by_array n.spans.items };
 
-    ghost invariant = { λ n. AreLaid n.basis n.text.items n.spans.items n.by_hash n.by_array };
+    ghost invariant = { λ n. AreKept n.basis n.text.items n.spans.items n.by_hash n.by_array n.series.items };
 }
 
 impl Keys {
@@ -100,21 +103,21 @@ impl Keys {
         )
     }
 
-    /// The same. The entry behind the one that this found last is looked at first, so that keys that are sought in the order in which they were added need no hash.
-    pub fn find_next(&mut self, array: usize, key: &[u8]) -> Option<usize>
-        ensures found { let entry = array_key array key.now in MatchOption result (IsAbsent entry self.old) (λ i. slice_get self.old i ≡ Some entry) }
-        ensures same { self.new ≡ self.old }
+    /// The number of the entry of a number's key, where it stands in the array's series: no search, and `None` says nothing of the keys.
+    #[inline(always)]
+    pub fn in_series(&self, array: usize, key: i64) -> Option<usize>
+        ensures { IfSome result (λ i. slice_get self.now i ≡ Some (array_key array (text_of (Number key)))) }
     {
-        let guess = self.guess;
-        let found = if is_at(&self.text, &self.spans, &self.by_array, guess, array, key) {
-            Some(guess)
-        } else {
-            self.find(array, key)
-        };
-        if let Some(number) = found {
-            self.guess = number.saturating_add(1);
-        }
-        found
+        entry_of(&self.series, array, key)
+    }
+
+    /// Notes the entry of a number's key: key 1 begins the array's series anew, and the key behind the last one of the series, at the entry behind the last one, lengthens it.
+    /// Nothing is seen of it; where memory is refused, nothing is noted.
+    pub fn note(&mut self, array: usize, key: i64, entry: usize)
+        requires { slice_get self.old entry ≡ Some (array_key array (text_of (Number key))) }
+        ensures { self.new ≡ self.old }
+    {
+        note_entry(&mut self.series, array, key, entry);
     }
 
     /// The last entry of an array.
@@ -161,7 +164,7 @@ fn none_from(alloc: Global, basis: usize) -> Keys
         spans: Vec::new(alloc),
         by_hash: Chains::new(alloc),
         by_array: Chains::new(alloc),
-        guess: 0,
+        series: Vec::new(alloc),
     }
 }
 
@@ -298,26 +301,6 @@ fn is_key(
 {
     if by_array.label(number) == array {
         return same_bytes(key_at(text, spans, number), key);
-    }
-    false
-}
-
-/// Whether a number is that of the entry; one that is past all entries is not.
-#[inline(always)]
-fn is_at(
-    text: &[u8],
-    spans: &[KeyRange],
-    by_array: &Chains,
-    number: usize,
-    array: usize,
-    key: &[u8],
-) -> bool
-    requires within { AreWithin text.now spans.now }
-    requires sizes { length by_array.now ≡ length spans.now }
-    ensures { OnTrue result (slice_get (keys_of text.now by_array.now spans.now) number ≡ Some (array_key array key.now)) }
-{
-    if number < spans.len() {
-        return is_key(text, spans, by_array, number, array, key);
     }
     false
 }

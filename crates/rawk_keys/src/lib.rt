@@ -4,6 +4,7 @@
 pub mod chains;
 mod hash;
 pub mod keys;
+mod series;
 
 pub use chains::Chains;
 pub use keys::Keys;

@@ -142,7 +142,7 @@ fn cut_block<C: Class>(
     Ok(start)
 }
 
-/// Ends a run at each separator, 32 bytes at a time, and gives where the last run begins.
+/// Ends a run at each separator, 32 bytes at a time, and gives where the last run begins. Room for the pieces of a usual line is taken at once.
 fn cut_blocks<C: Class>(
     class: &C,
     empty_too: bool,
@@ -153,6 +153,7 @@ fn cut_blocks<C: Class>(
     requires none { pieces.old.items ≡ [] }
     ensures { IfOk result (λ start. IsCut (C.contains class.now) empty_too text.now pieces.new.items start (length text.now)) }
 {
+    pieces.reserve(64)?;
     let mut start = 0;
     let mut at = 0;
     while at < text.len() {

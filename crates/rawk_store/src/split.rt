@@ -4,17 +4,15 @@ ghost use Rattle.std.specs.Prelude.{◌≡◌, OnOk};
 ghost use Rattle.std.specs.Bool.{OnTrue};
 ghost use Rattle.rawk_value.specs.Values.{text_of};
 ghost use Rattle.rawk_record.specs.Pieces.{AllInRange, texts};
-ghost use Rattle.rawk_arrays.specs.Elements.{with_element};
+ghost use Rattle.rawk_arrays.specs.Elements.{cleared, with_element};
 ghost use Rattle.rawk_arrays.specs.Laid.{GrownArrays, arrays_of};
 ghost use Rattle.rawk_frames.specs.LaidFrames.{frames_of};
 ghost use Rattle.rawk_store.specs.State.{array_in, fill_elements, numbered};
 
 use crate::assign::array_number;
-use itoa::Buffer;
 use rawk_arrays::Arrays;
 use rawk_frames::Frames;
 use rawk_record::Piece;
-use rawk_value::order::digits_in;
 use rawk_value::{Bytes, Value};
 use rawk_words::Array;
 use std::alloc::{AllocError, Global};
@@ -30,9 +28,8 @@ fn put_text<const SAVES: bool>(
     ensures did { OnOk result (arrays_of arrays.new.now ≡ with_element array (text_of (Value.Number key)) (Value.Input text.now) (arrays_of arrays.old.now)) }
     ensures start { OnTrue SAVES (GrownArrays arrays.old.start arrays.new.start) }
 {
-    let mut digits = Buffer::new();
     let value = Value::Input(Bytes::from_slice(alloc, text)?);
-    arrays.set::<SAVES>(alloc, array, digits_in(key, &mut digits), value)
+    arrays.set_numbered::<SAVES>(alloc, array, key, value)
 }
 
 /// Gives the elements at the keys from 1 on the pieces of a text, as texts of an input. It fails where memory is refused; then some have changed.
@@ -54,6 +51,43 @@ fn put_pieces<const SAVES: bool>(
     Ok(())
 }
 
+/// Clears an array that has more than this many elements. It fails where memory is refused; some are deleted then.
+fn clear_larger<const SAVES: bool>(
+    arrays: &mut Arrays,
+    array: usize,
+    count: usize,
+) -> Result<(), AllocError>
+    ensures did { OnOk result (cleared array (arrays_of arrays.new.now) ≡ cleared array (arrays_of arrays.old.now)) }
+    ensures start { OnTrue SAVES (arrays.new.start ≡ arrays.old.start) }
+{
+    if arrays.count(array) > count {
+        return arrays.clear::<SAVES>(array);
+    }
+    Ok(())
+}
+
+/// Gives an array the pieces of a text as its elements at the keys from 1 on, and no others. Elements at these keys are written over where they stand; only where there turn out to be
+/// others is the array cleared before. It fails where memory is refused; then elements may have changed.
+fn fill_array<const SAVES: bool>(
+    alloc: Global,
+    arrays: &mut Arrays,
+    array: usize,
+    text: &[u8],
+    pieces: &[Piece],
+) -> Result<(), AllocError>
+    requires { AllInRange text.now pieces.now }
+    ensures did { OnOk result (arrays_of arrays.new.now ≡ numbered array 1 (texts text.now pieces.now) (cleared array (arrays_of arrays.old.now))) }
+    ensures start { OnTrue SAVES (GrownArrays arrays.old.start arrays.new.start) }
+{
+    clear_larger::<SAVES>(arrays, array, pieces.len())?;
+    put_pieces::<SAVES>(alloc, arrays, array, text, pieces)?;
+    if arrays.count(array) == pieces.len() {
+        return Ok(());
+    }
+    arrays.clear::<SAVES>(array)?;
+    put_pieces::<SAVES>(alloc, arrays, array, text, pieces)
+}
+
 /// An array takes the pieces of a text as its elements at the keys from 1 on, as texts of an input, and has no others then; an array that is not there stays away
 /// (POSIX awk, String Functions, `split`). It fails where memory is refused; then elements may have changed.
 pub fn fill_elements<const SAVES: bool>(
@@ -69,10 +103,7 @@ pub fn fill_elements<const SAVES: bool>(
     ensures start { OnTrue SAVES (GrownArrays arrays.old.start arrays.new.start) }
 {
     match array_number(frames, array) {
-        Some(number) => {
-            arrays.clear::<SAVES>(number)?;
-            put_pieces::<SAVES>(alloc, arrays, number, text, pieces)
-        }
+        Some(number) => fill_array::<SAVES>(alloc, arrays, number, text, pieces),
         None => Ok(()),
     }
 }
