@@ -61,6 +61,7 @@ fn op_asks(op: &Op) -> bool {
         | Op::Replace(_, from, to) => destination_asks(*to) || operand_asks(from),
         Op::Print(_, simples) => any_asks(simples),
         Op::Pop
+        | Op::AppendPopped(_)
         | Op::Key(_)
         | Op::Count(_)
         | Op::Clear(_)

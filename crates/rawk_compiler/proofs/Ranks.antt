@@ -37,10 +37,10 @@ use Rattle.rawk_code.specs.declared.code.Instr.TheVariants as instr
 use Rattle.rawk_code.specs.Trace.{reads}
 use Rattle.rawk_selection.specs.Operands.{constant_field, simple_field, simple_of, term_of, computing_op, part_op, destination_of, operand_of, sought_operand, constant_operand}
 use Rattle.rawk_selection.specs.Conditions.{Fork, agrees, leap_on, deciding, logic_of, is_neutral, against}
-use Rattle.rawk_selection.specs.Added.{appending, added, added_to}
+use Rattle.rawk_selection.specs.Added.{appending, added, added_op, appending_made, or_else, added_to}
 use Rattle.rawk_selection.specs.Readings.{part_dropped, missing_code, getline_to_code}
 use Rattle.rawk_selection.specs.Jumps.{over}
-use Rattle.rawk_compiler.specs.Code.{unless_constant, separator_operand, right_operand, unless_ready, unless_one, pushed, joined, key_code, key_operand, forks_code, joined_fork, deciders, forks_by, fork_by, forks, link_fork, link_forks, fork_of, choice_code, decide_code, expr_code, expr_codes, effect_code, place_code, parts_code, link_code, link_codes, front_of, simples_behind, Piece, nowhere, always, in_turn, when_code, Arm, then_to, branch_to, if_code, step_around, body_around, loop_code, keys_around, keys_code, scalar_destination, jump_code, test_code, condition_code, condition_leap, stmt_code, stmt_codes, arms_of, or_else, closing_code, opened_code, guard_code, rule_code, records_code, main_code, begin_code, record_at_of, end_at_of, functions_at_of, function_code, functions_code, entries_of, program_code, HasAt, behind_point}
+use Rattle.rawk_compiler.specs.Code.{unless_constant, separator_operand, right_operand, unless_ready, unless_one, pushed, joined, key_code, key_operand, forks_code, joined_fork, deciders, forks_by, fork_by, forks, link_fork, link_forks, fork_of, choice_code, decide_code, expr_code, expr_codes, effect_code, place_code, parts_code, link_code, link_codes, front_of, simples_behind, Piece, nowhere, always, in_turn, when_code, Arm, then_to, branch_to, if_code, step_around, body_around, loop_code, keys_around, keys_code, scalar_destination, jump_code, test_code, condition_code, condition_leap, stmt_code, stmt_codes, arms_of, closing_code, opened_code, guard_code, rule_code, records_code, main_code, begin_code, record_at_of, end_at_of, functions_at_of, function_code, functions_code, entries_of, program_code, HasAt, behind_point}
 use Rattle.rawk_code.specs.Valid.{rank_of, rank, IsEntry, Descends, IsValid}
 use Rattle.rawk_compiler.proofs.Follows.{has_front, has_back, has_all}
 use Rattle.rawk_compiler.proofs.Statements.{branches_length}
@@ -304,16 +304,20 @@ module _ (code : List Instr) where
   appends_fine x [] = fine_none
   appends_fine x (from ∷ froms) = fine_cons (instr.Do (does.Append x from)) (map (appending x) froms) (λ pc. tt) (appends_fine x froms)
 
-  added_fine : (x : Destination) (e : Expr) → Fine (added_to x e)
-  added_fine (destination.Variable x) e = appends_fine x (added x e)
-  added_fine destination.FieldCount e = fine_none
-  added_fine (destination.Field n) e = fine_none
-  added_fine destination.FieldBelow e = fine_none
-  added_fine (destination.ElementBelow a) e = fine_none
+  made_fine : (x : Variable) (o : Option Op) → Fine (appending_made x o)
+  made_fine x None = fine_none
+  made_fine x (Some o) = fine_cons (instr.Do o) (instr.Do (does.AppendPopped x) ∷ []) (λ pc. tt) (fine_cons (instr.Do (does.AppendPopped x)) [] (λ pc. tt) fine_none)
 
   either_fine : (c other : List Instr) → Fine c → Fine other → Fine (or_else c other)
   either_fine [] other f g = g
   either_fine (i ∷ c) other f g = f
+
+  added_fine : (x : Destination) (e : Expr) → Fine (added_to x e)
+  added_fine (destination.Variable x) e = either_fine (map (appending x) (added x e)) (appending_made x (added_op x e)) (appends_fine x (added x e)) (made_fine x (added_op x e))
+  added_fine destination.FieldCount e = fine_none
+  added_fine (destination.Field n) e = fine_none
+  added_fine destination.FieldBelow e = fine_none
+  added_fine (destination.ElementBelow a) e = fine_none
 
   effect_fine : (e : Expr) → Fine (effect_code e)
   effect_fine (expr.Number n) = fine_last _ (instr.Do does.Pop) (λ pc. tt) (expr_fine (expr.Number n))
