@@ -96,17 +96,17 @@ pub absent_local : (fs : List Frame) (number : ℕ) → length (locals_now fs) �
 absent_local fs number le = sym (slice_get_past (locals_now fs) number le)
 
 -- what the code tests
-pub place_found : (as1 : List Activation) (ls : List Local) (a : Activation) (count number : ℕ) → Some a ≡ slice_get as1 0 → count ≡ length ls → number < count - a.base → IsPlace number as1 ls (a.base + number)
-place_found [] ls a count number e c lt = absurd (none-some a (sym e))
-place_found (x ∷ older) ls a count number e c lt = record {
+pub place_found : (as1 : List Activation) (ls : List Local) (a : Activation) (count number place : ℕ) → Some a ≡ slice_get as1 0 → count ≡ length ls → place ≡ a.base + number → place < count → IsPlace number as1 ls place
+place_found [] ls a count number place e c p lt = absurd (none-some a (sym e))
+place_found (x ∷ older) ls a count number place e c p lt = record {
   newest = x;
   older = older;
   is = refl;
-  there = ap (λ (y : Activation). y.base + number) (same_Some a x e);
+  there = p ∙ ap (λ (y : Activation). y.base + number) (same_Some a x e);
   within = omega (arith, lt, c);
 }
 
-pub place_past : (as1 : List Activation) (ls : List Local) (a : Activation) (count number : ℕ) → Some a ≡ slice_get as1 0 → count ≡ length ls → count - a.base ≤ number → length (locals_now (frames_from as1 ls)) ≤ number
+pub place_past : (as1 : List Activation) (ls : List Local) (a : Activation) (count number : ℕ) → Some a ≡ slice_get as1 0 → count ≡ length ls → count ≤ a.base + number → length (locals_now (frames_from as1 ls)) ≤ number
 place_past [] ls a count number e c h = absurd (none-some a (sym e))
 place_past (x ∷ older) ls a count number e c h =
     let same : a ≡ x = same_Some a x e in

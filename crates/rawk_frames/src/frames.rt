@@ -432,13 +432,15 @@ fn place_of(frames: &Stack<Activation>, locals: &Stack<Local>, number: usize) ->
 {
     let count = locals.len();
     match frames.newest(0) {
-        Some(newest) => {
-            let own = count.saturating_sub(newest.base);
-            if number < own {
-                return Some(newest.base + number);
+        Some(newest) => match newest.base.checked_add(number) {
+            Some(place) => {
+                if place < count {
+                    return Some(place);
+                }
+                None
             }
-            None
-        }
+            None => None,
+        },
         None => None,
     }
 }

@@ -85,6 +85,15 @@ impl<T: Drop> Slots<T> {
         None
     }
 
+    /// What stands in a slot.
+    #[inline(always)]
+    pub fn at(&self, place: usize) -> &T
+        requires { place < length self.now.now }
+        ensures { slice_get self.now.now place ≡ Some result.now }
+    {
+        &self.items[place]
+    }
+
     /// What stands in the slots from one number on, up to another, which is left out.
     pub fn between(&self, begin: usize, end: usize) -> &[T]
         requires ordered { begin ≤ end }

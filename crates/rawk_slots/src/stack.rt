@@ -85,7 +85,7 @@ impl<T: Drop> Stack<T> {
         ensures { option_copied result ≡ slice_get (live_values self.now.now) number }
     {
         if number < self.live {
-            return self.slots.value(self.live - number - 1);
+            return Some(self.slots.at(self.live - number - 1));
         }
         None
     }
@@ -95,7 +95,7 @@ impl<T: Drop> Stack<T> {
         ensures { option_copied result ≡ slice_get (live_slots self.now.now) number }
     {
         if number < self.live {
-            return self.slots.value(number);
+            return Some(self.slots.at(number));
         }
         None
     }
