@@ -56,6 +56,22 @@ impl Output {
         self.bytes.extend_from_slice(bytes)
     }
 
+    /// Adds bytes; a single one is added without a call. It fails where memory is refused.
+    #[inline(always)]
+    pub fn push_few(&mut self, bytes: &[u8]) -> Result<(), AllocError>
+        ensures did { OnOk result (self.new.now ≡ self.old.now ++ bytes.now) }
+        ensures start { self.new.start ≡ self.old.start }
+        ensures err { OnErr result (self.new.now ≡ self.old.now) }
+    {
+        match bytes {
+            [byte] => {
+                self.bytes.push(*byte)?;
+                Ok(())
+            }
+            _ => self.push(bytes),
+        }
+    }
+
     /// Adds a value's text. It fails where memory is refused.
     pub fn push_value(&mut self, value: &Value) -> Result<(), AllocError>
         ensures did { OnOk result (self.new.now ≡ self.old.now ++ text_of value.now) }
