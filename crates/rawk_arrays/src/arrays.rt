@@ -276,9 +276,9 @@ impl Arrays {
         Ok(Some(place))
     }
 
-    // The same of the key of a number.
+    /// The same of the element at the key of a number, without a search where the keys from 1 to it came one behind another.
     #[inline(always)]
-    fn place_numbered(
+    pub fn place_numbered(
         &mut self,
         alloc: Global,
         array: usize,
