@@ -2,6 +2,7 @@
 #![tactic(auto, using(rawk_store::specs::Growth::grows))]
 
 pub mod borrowed;
+pub mod conditions;
 pub mod formats;
 pub mod formulas;
 pub mod numbers;
