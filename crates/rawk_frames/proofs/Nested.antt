@@ -1,5 +1,5 @@
 -- Activations, as they lie on two stacks.
-use Rattle.std.proofs.Common.{◌≡◌, ℕ, suc, zero, ◌+◌, ◌-◌, ◌<◌, ◌≤◌, List, [], ◌∷◌, ◌++◌, length, take, drop, set, reverse, refl, sym, ap, ◌∙◌, arith, slice_get, Option, None, Some, MatchOption, Bool, true, false, Result, Ok, Err, IfOk, OnErr}
+use Rattle.std.proofs.Common.{◌≡◌, ℕ, suc, zero, ◌+◌, ◌-◌, ◌^◌, ◌<◌, ◌≤◌, List, [], ◌∷◌, ◌++◌, length, take, drop, set, reverse, refl, sym, ap, ◌∙◌, arith, slice_get, Option, None, Some, MatchOption, Bool, true, false, Result, Ok, Err, IfOk, OnErr}
 use Rattle.std.specs.Bool.{OnFalse, OnTrue}
 use Rattle.rawk_value.specs.Values.{Bytes}
 use Rattle.rawk_value.specs.declared.value.Value.{Value}
@@ -13,7 +13,7 @@ use Rattle.rawk_frames.specs.declared.frames.Local.{Local}
 use Rattle.rawk_frames.specs.declared.frames.Local.TheVariants.{Holds}
 use Rattle.rawk_frames.specs.declared.frames.Activation.{Activation}
 use Rattle.rawk_frames.specs.Frame.{Frame, HasLonger, HasLongerAt, IsLonger, IsOf, locals_now, with_local, with_more}
-use Rattle.rawk_frames.specs.LaidFrames.{AreFrames, IsNested, IsPlace, frames_from}
+use Rattle.rawk_frames.specs.LaidFrames.{AreFrames, IsBase, IsNested, IsPlace, frames_from}
 
 pub length_frames : (as1 : List Activation) (ls : List Local) → length (frames_from as1 ls) ≡ length as1
 length_frames [] ls = refl
@@ -95,26 +95,29 @@ no_local (f ∷ fs) number v le = ap (λ (xs : List Local). record f { locals = 
 pub absent_local : (fs : List Frame) (number : ℕ) → length (locals_now fs) ≤ number → None ≡ slice_get (locals_now fs) number
 absent_local fs number le = sym (slice_get_past (locals_now fs) number le)
 
+-- where the newest activation's locals begin, as the code finds it
+pub base_found : (as1 : List Activation) (a : Activation) → Some a ≡ slice_get as1 0 → IsBase a.base as1
+base_found [] a e = absurd (none-some a (sym e))
+base_found (x ∷ older) a e = ap (λ (y : Activation). y.base) (same_Some a x e)
+
+pub base_absent : (as1 : List Activation) → None ≡ slice_get as1 0 → IsBase (2 ^ 64 - 1) as1
+base_absent [] e = refl
+base_absent (x ∷ older) e = absurd (none-some x e)
+
 -- what the code tests
-pub place_found : (as1 : List Activation) (ls : List Local) (a : Activation) (count number place : ℕ) → Some a ≡ slice_get as1 0 → count ≡ length ls → place ≡ a.base + number → place < count → IsPlace number as1 ls place
-place_found [] ls a count number place e c p lt = absurd (none-some a (sym e))
-place_found (x ∷ older) ls a count number place e c p lt = record {
+pub place_found : (base : ℕ) (as1 : List Activation) (ls : List Local) (count number place : ℕ) → IsBase base as1 → count ≡ length ls → count < 2 ^ 64 → place ≡ base + number → place < count → IsPlace number as1 ls place
+place_found base [] ls count number place b c few p lt = absurd (omega (arith, b, c, few, p, lt))
+place_found base (x ∷ older) ls count number place b c few p lt = record {
   newest = x;
   older = older;
   is = refl;
-  there = p ∙ ap (λ (y : Activation). y.base + number) (same_Some a x e);
+  there = p ∙ ap (λ k. k + number) b;
   within = omega (arith, lt, c);
 }
 
-pub place_past : (as1 : List Activation) (ls : List Local) (a : Activation) (count number : ℕ) → Some a ≡ slice_get as1 0 → count ≡ length ls → count ≤ a.base + number → length (locals_now (frames_from as1 ls)) ≤ number
-place_past [] ls a count number e c h = absurd (none-some a (sym e))
-place_past (x ∷ older) ls a count number e c h =
-    let same : a ≡ x = same_Some a x e in
-    rw (← same) (omega (arith, length-drop a.base ls, c, h))
-
-pub no_place : (as1 : List Activation) (ls : List Local) (number : ℕ) → None ≡ slice_get as1 0 → length (locals_now (frames_from as1 ls)) ≤ number
-no_place [] ls number e = omega arith
-no_place (x ∷ older) ls number e = absurd (none-some x e)
+pub place_past : (base : ℕ) (as1 : List Activation) (ls : List Local) (count number : ℕ) → IsBase base as1 → count ≡ length ls → count ≤ base + number → length (locals_now (frames_from as1 ls)) ≤ number
+place_past base [] ls count number b c h = omega arith
+place_past base (x ∷ older) ls count number b c h = omega (arith, length-drop x.base ls, b, c, h)
 
 -- one more local at the end
 pub more_locals : (as1 : List Activation) (ls : List Local) (v : Local) → IsNested as1 (length ls) → frames_from as1 (ls ++ v ∷ []) ≡ with_more v (frames_from as1 ls)
@@ -137,8 +140,8 @@ slots_pushed {T} s t v e = sym (oldest_first t) ∙ (ap (λ (xs : List T). rever
 pub length_values : {T : Type 0} (s : Stacked T) → length (live_values s) ≡ length (live_slots s)
 length_values s = length-reverse (live_slots s)
 
-pub frames_kept : (frames : Journaled (Stacked Activation)) (locals new : Journaled (Stacked Local)) → AreFrames frames locals → length (live_slots locals.now) ≤ length (live_slots new.now) → AreFrames frames new
-frames_kept frames locals new h le = record { now = nested_more (live_values frames.now) (length (live_slots locals.now)) (length (live_slots new.now)) le h.now }
+pub frames_kept : (base : ℕ) (frames : Journaled (Stacked Activation)) (locals new : Journaled (Stacked Local)) → AreFrames base frames locals → length (live_slots locals.now) ≤ length (live_slots new.now) → AreFrames base frames new
+frames_kept base frames locals new h le = record { now = nested_more (live_values frames.now) (length (live_slots locals.now)) (length (live_slots new.now)) le h.now; begins = h.begins }
 
 -- the newest activation, and what is left without it
 pub left_frame : (as1 older : List Activation) (ls rest : List Local) (a : Activation) → Some a ≡ slice_get as1 0 → older ≡ drop 1 as1 → rest ≡ take a.base ls → (f : Frame) × (frames_from as1 ls ≡ f ∷ frames_from older rest) × IsOf a f

@@ -1,5 +1,5 @@
 -- How activations lie: on one stack what is kept of each, on another the locals of all.
-use Rattle.std.specs.Prelude.{◌≡◌, ℕ, ◌+◌, ◌≤◌, ◌<◌, List, [], ◌∷◌, length, map, take, drop}
+use Rattle.std.specs.Prelude.{◌≡◌, ℕ, ◌+◌, ◌-◌, ◌^◌, ◌≤◌, ◌<◌, List, [], ◌∷◌, length, map, take, drop}
 use Rattle.rawk_slots.specs.Journaled.{Journaled}
 use Rattle.rawk_slots.specs.Stacked.{Stacked, GrownStack, IsLive, empty_stack, live_slots, live_values}
 use Rattle.rawk_frames.specs.declared.frames.Local.{Local}
@@ -33,9 +33,15 @@ IsNested (a ∷ older) n = (a.base ≤ n) × IsNested older a.base
 abbrev pub AreNested : LaidFrames → Type 0
 AreNested l = IsNested (live_values l.frames) (length (live_slots l.locals))
 
--- the activations are nested
-pub record AreFrames (frames : Journaled (Stacked Activation)) (locals : Journaled (Stacked Local)) : Type 0 where
+-- where the locals of the newest activation begin: without one, behind any
+abbrev pub IsBase : ℕ → List Activation → Type 0
+IsBase base [] = base ≡ 2 ^ 64 - 1
+IsBase base (a ∷ older) = base ≡ a.base
+
+-- the activations are nested, and it is known where the locals of the newest one begin
+pub record AreFrames (base : ℕ) (frames : Journaled (Stacked Activation)) (locals : Journaled (Stacked Local)) : Type 0 where
   pub now : IsNested (live_values frames.now) (length (live_slots locals.now))
+  pub begins : IsBase base (live_values frames.now)
 
 -- the live lengths are within the slots
 pub record AreFramesLive (l : LaidFrames) : Type 0 where

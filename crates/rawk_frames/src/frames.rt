@@ -7,7 +7,7 @@ ghost use Rattle.rawk_slots.specs.Journaled.{at_rest};
 ghost use Rattle.rawk_slots.specs.StackGroups.{first_if, rest_if};
 ghost use Rattle.rawk_slots.specs.Stacked.{live_slots, live_values};
 ghost use Rattle.rawk_frames.specs.Frame.{Frame, HasLonger, HasLongerAt, IsLonger, IsOf, locals_now, new_frame, with_local, with_more};
-ghost use Rattle.rawk_frames.specs.LaidFrames.{AreFramesLive, AreNested, GrownFrames, IsPlace, frames_from, frames_of, no_frames, returns_of};
+ghost use Rattle.rawk_frames.specs.LaidFrames.{AreFramesLive, AreNested, GrownFrames, IsBase, IsPlace, frames_from, frames_of, no_frames, returns_of};
 ghost use Rattle.rawk_frames.specs.FramesBack.{FitsFrames, frames_back};
 ghost use Rattle.rawk_frames.specs.FramesChanges.{changed_frames};
 
@@ -15,6 +15,9 @@ use rawk_slots::{Reversible, Stack, StackGroup, StackGroups};
 use rawk_value::Value;
 use std::alloc::{AllocError, Global};
 use std::marker::Model;
+
+/// Where locals begin that are not there: behind any.
+const NONE: usize = usize::MAX;
 
 /// A local of an activation (POSIX awk, User-Defined Functions): a value, or the number of an array.
 #[derive(Drop)]
@@ -40,6 +43,8 @@ pub struct Activation {
 pub struct Frames {
     frames: Stack<Activation>,
     locals: Stack<Local>,
+    // where the locals of the newest activation begin; past all of them where there is none
+    base: usize,
 }
 
 impl Model for Frames {
@@ -53,7 +58,7 @@ impl Model for Frames {
       start = record { frames = f.frames.start; locals = f.locals.start };
     } };
 
-    ghost invariant = { λ f. AreFrames f.frames f.locals };
+    ghost invariant = { λ f. AreFrames f.base f.frames f.locals };
 }
 
 /// What a step changed in the activations and in their locals, in each if it changed anything there.
@@ -90,6 +95,7 @@ impl Frames {
         Frames {
             frames: Stack::new(alloc),
             locals: Stack::new(alloc),
+            base: NONE,
         }
     }
 
@@ -112,7 +118,7 @@ impl Frames {
     pub fn local(&self, number: usize) -> Option<&Local>
         ensures { option_copied result ≡ slice_get (locals_now (frames_of self.now.now)) number }
     {
-        local_of(&self.frames, &self.locals, number)
+        local_of(self.base, &self.frames, &self.locals, number)
     }
 
     /// Writes a local of the newest activation; a number that is none changes nothing. It fails where memory is refused, and then nothing has changed.
@@ -127,7 +133,7 @@ impl Frames {
         ensures start { OnTrue SAVES (self.new.start ≡ self.old.start) }
         ensures err { OnErr result (self.new.now ≡ self.old.now) }
     {
-        set_local_of::<SAVES>(&self.frames, &mut self.locals, number, local)
+        set_local_of::<SAVES>(self.base, &self.frames, &mut self.locals, number, local)
     }
 
     /// Puts bytes behind the text that a local of the newest activation holds, by its number from 0, where it stands, and answers whether one stands there that the program
@@ -144,7 +150,14 @@ impl Frames {
         ensures returns { returns_of self.new.now ≡ returns_of self.old.now }
         ensures err { OnErr result (frames_of self.new.now ≡ frames_of self.old.now) }
     {
-        append_local_of(&self.frames, &mut self.locals, alloc, number, more)
+        append_local_of(
+            self.base,
+            &self.frames,
+            &mut self.locals,
+            alloc,
+            number,
+            more,
+        )
     }
 
     /// Adds an activation with no locals. It fails where memory is refused.
@@ -169,7 +182,9 @@ impl Frames {
             called_at,
             site,
             return_to,
-        })
+        })?;
+        self.base = base;
+        Ok(())
     }
 
     /// Adds a local to the newest activation. It fails where memory is refused.
@@ -194,6 +209,7 @@ impl Frames {
         let activation = *self.frames.newest(0)?;
         self.frames.drop_newest(1);
         self.locals.truncate(activation.base);
+        self.base = newest_base(&self.frames);
         Some(activation)
     }
 
@@ -205,6 +221,7 @@ impl Frames {
     {
         self.frames.clear();
         self.locals.clear();
+        self.base = NONE;
     }
 
     /// Ends the step, and gives what it changed. It takes no memory.
@@ -278,6 +295,7 @@ impl Frames {
     {
         frames.put_back(&mut self.frames, has_frames);
         locals.put_back(&mut self.locals, has_locals);
+        self.base = newest_base(&self.frames);
     }
 
     /// Whether the step has changed nothing yet.
@@ -317,6 +335,7 @@ impl Frames {
     {
         self.frames.undo_step();
         self.locals.undo_step();
+        self.base = newest_base(&self.frames);
     }
 
     /// Puts back what a step that ended changed, and leaves the newer activations in the group. It takes no memory and always succeeds.
@@ -329,6 +348,7 @@ impl Frames {
     {
         self.frames.undo_if(&mut group.frames);
         self.locals.undo_if(&mut group.locals);
+        self.base = newest_base(&self.frames);
     }
 
     /// Makes a change within the step in progress. It fails where memory is refused.
@@ -424,23 +444,37 @@ fn frame_of<'a>(
     }
 }
 
-/// Where a local of the newest activation stands.
+/// Where the locals of the newest activation begin.
 #[inline(always)]
-fn place_of(frames: &Stack<Activation>, locals: &Stack<Local>, number: usize) -> Option<usize>
+fn newest_base(frames: &Stack<Activation>) -> usize
+    ensures { IsBase result (live_values frames.now.now) }
+{
+    match frames.newest(0) {
+        Some(newest) => newest.base,
+        None => NONE,
+    }
+}
+
+/// Where a local of the newest activation stands, whose locals begin at `base`. The activations are read by the clauses alone.
+#[inline(always)]
+fn place_of(
+    base: usize,
+    frames: &Stack<Activation>,
+    locals: &Stack<Local>,
+    number: usize,
+) -> Option<usize>
+    requires { IsBase base (live_values frames.now.now) }
     ensures found { IfSome result (λ p. IsPlace number (live_values frames.now.now) (live_slots locals.now.now) p) }
     ensures absent { IfNone result (length (locals_now (frames_from (live_values frames.now.now) (live_slots locals.now.now))) ≤ number) }
 {
     let count = locals.len();
-    match frames.newest(0) {
-        Some(newest) => match newest.base.checked_add(number) {
-            Some(place) => {
-                if place < count {
-                    return Some(place);
-                }
-                None
+    match base.checked_add(number) {
+        Some(place) => {
+            if place < count {
+                return Some(place);
             }
-            None => None,
-        },
+            None
+        }
         None => None,
     }
 }
@@ -448,13 +482,15 @@ fn place_of(frames: &Stack<Activation>, locals: &Stack<Local>, number: usize) ->
 /// A local of the newest activation.
 #[inline(always)]
 fn local_of<'a>(
+    base: usize,
     frames: &Stack<Activation>,
     locals: &'a Stack<Local>,
     number: usize,
 ) -> Option<&'a Local>
+    requires { IsBase base (live_values frames.now.now) }
     ensures { option_copied result ≡ slice_get (locals_now (frames_from (live_values frames.now.now) (live_slots locals.now.now))) number }
 {
-    match place_of(frames, locals, number) {
+    match place_of(base, frames, locals, number) {
         Some(place) => locals.oldest(place),
         None => None,
     }
@@ -463,17 +499,19 @@ fn local_of<'a>(
 /// Writes a local of the newest activation.
 #[inline(always)]
 fn set_local_of<const SAVES: bool>(
+    base: usize,
     frames: &Stack<Activation>,
     locals: &mut Stack<Local>,
     number: usize,
     local: Local,
 ) -> Result<(), AllocError>
+    requires { IsBase base (live_values frames.now.now) }
     ensures did { OnOk result (frames_from (live_values frames.now.now) (live_slots locals.new.now) ≡ with_local number local (frames_from (live_values frames.now.now) (live_slots locals.old.now))) }
     ensures start { OnTrue SAVES (locals.new.start ≡ locals.old.start) }
     ensures err { OnErr result (locals.new.now ≡ locals.old.now) }
     ensures size { length (live_slots locals.new.now) ≡ length (live_slots locals.old.now) }
 {
-    match place_of(frames, locals, number) {
+    match place_of(base, frames, locals, number) {
         Some(place) => locals.set_oldest::<SAVES>(place, local)?,
         None => {}
     }
@@ -483,18 +521,20 @@ fn set_local_of<const SAVES: bool>(
 /// Puts bytes behind the text that a local of the newest activation holds, and answers whether one stands there that the program made.
 #[inline(always)]
 fn append_local_of(
+    base: usize,
     frames: &Stack<Activation>,
     locals: &mut Stack<Local>,
     alloc: Global,
     number: usize,
     more: &[u8],
 ) -> Result<bool, AllocError>
+    requires { IsBase base (live_values frames.now.now) }
     ensures did { IfOk result (λ done. OnTrue done (HasLonger number more.now (frames_from (live_values frames.now.now) (live_slots locals.old.now)) (frames_from (live_values frames.now.now) (live_slots locals.new.now)))) }
     ensures other { IfOk result (λ done. OnFalse done (live_slots locals.new.now ≡ live_slots locals.old.now)) }
     ensures err { OnErr result (live_slots locals.new.now ≡ live_slots locals.old.now) }
     ensures size { length (live_slots locals.new.now) ≡ length (live_slots locals.old.now) }
 {
-    match place_of(frames, locals, number) {
+    match place_of(base, frames, locals, number) {
         Some(place) => append_at(locals, alloc, place, more),
         None => Ok(false),
     }

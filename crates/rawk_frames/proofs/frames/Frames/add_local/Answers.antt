@@ -10,7 +10,7 @@ pub invariant_of-self-2 : goal.invariant_of-self-2
 invariant_of-self-2 g c =
     let s = c.self.inside in
     let more : live_slots c.push.new.self.now ≡ live_slots s.locals.now ++ c.args.local ∷ [] = slots_pushed s.locals.now c.push.new.self.now c.args.local c.in_ok-push.ensures.did in
-    frames_kept s.frames s.locals c.push.new.self c.self.invariant (omega (arith, ap length more, length-append (live_slots s.locals.now) (c.args.local ∷ [])))
+    frames_kept s.base s.frames s.locals c.push.new.self c.self.invariant (omega (arith, ap length more, length-append (live_slots s.locals.now) (c.args.local ∷ [])))
 
 pub returns-clause-did : goal.returns-clause-did
 returns-clause-did g c =
