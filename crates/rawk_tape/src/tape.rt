@@ -35,7 +35,7 @@ impl<R: Source + Drop> Model for Tape<R> {
 }
 
 impl<R: Source + Drop> Tape<R> {
-    ghost use Rattle.std.specs.Prelude.{◌≡◌, ◌≤◌, ◌<◌, ◌^◌, ◌+◌, ◌*◌, [], ◌∷◌, ◌⊎◌, ℕ, drop, length, None, Some, OnOk, OnErr, IfErr, slice_range};
+    ghost use Rattle.std.specs.Prelude.{◌≡◌, ◌≤◌, ◌<◌, ◌^◌, ◌+◌, ◌*◌, [], ◌∷◌, ◌⊎◌, ℕ, drop, length, None, Some, Ok, OnOk, OnErr, IfErr, IfSome, slice_range};
     ghost use Rattle.rawk_tape.specs.declared.source.Ending.{Ending};
     ghost use Rattle.rawk_tape.specs.Records.{Input, next_record};
     ghost use Rattle.rawk_tape.specs.Tapes.{MayBe, ReadsOn, ReadsAhead, LastRead};
@@ -163,6 +163,23 @@ impl<R: Source + Drop> Tape<R> {
             Err(_) => return Err(Fault::OutOfMemory),
         }
         Ok(())
+    }
+
+    /// The next record, where this byte ends it among the bytes that are kept; else it is not settled yet. Nothing is read or consumed.
+    #[inline(always)]
+    pub fn held_line(&self, separator: u8) -> Option<Found>
+        ensures next { IfSome result (λ found. (input : Input) → MayBe R.may_give self.now input →
+            Answers (next_record input self.now.consumed (separator ∷ [])) self.now.bytes (Ok (Some found))) }
+        ensures within { IfSome result (λ found. IsWithin self.now.bytes self.now.consumed (Ok (Some found))) }
+    {
+        match find_in(self.kept(), separator, self.consumed()) {
+            Some(at) => Some(Found {
+                start: self.consumed(),
+                end: at,
+                count: at + 1,
+            }),
+            None => None,
+        }
     }
 
     /// The next record, which this byte ends.

@@ -1,18 +1,18 @@
 //! The reading of a record.
 
 ghost use Rattle.std.specs.Bool.{OnTrue};
-ghost use Rattle.std.specs.Prelude.{◌≡◌, ◌≢◌, ◌≤◌, ◌⊎◌, List, Some, length, slice_range, IfOk, OnOk};
+ghost use Rattle.std.specs.Prelude.{◌≡◌, ◌≢◌, ◌≤◌, ◌⊎◌, List, Ok, Some, false, length, slice_range, IfOk, IfSome, OnOk};
 ghost use Rattle.rawk_store.specs.Layout.{Grown};
 ghost use Rattle.rawk_store.specs.Stores.{start_of};
 ghost use Rattle.rawk_travel.specs.Plain.{IsPlainMove};
 ghost use Rattle.rawk_operands.specs.Moving.{moving};
-ghost use Rattle.rawk_travel.specs.Reading.{counter_up, taken_of, with_counted_text, text_taken_of, Takes, Shows, Counts, Finds, consumed_by, ReadsTo, ReadsText, KeepsRegisters, KeepsPlaces, IsQuietReading};
+ghost use Rattle.rawk_travel.specs.Reading.{counter_up, taken_of, with_counted_text, text_taken_of, Takes, Counts, Finds, consumed_by, ReadsTo, ReadsText, KeepsRegisters, KeepsPlaces, IsQuietReading};
 ghost use Rattle.rawk_operands.specs.Borrowed.{global_in};
 ghost use Rattle.rawk_travel.specs.Asking.{Draws, IsDue};
 ghost use Rattle.rawk_record.specs.Shown.{read_as};
 ghost use Rattle.rawk_value.specs.Values.{Bytes, text_of, is_empty};
-ghost use Rattle.rawk_tape.specs.Records.{Input};
-ghost use Rattle.rawk_tape.specs.Tapes.{MayBe};
+ghost use Rattle.rawk_tape.specs.Records.{Input, next_record};
+ghost use Rattle.rawk_tape.specs.Tapes.{Answers, IsWithin, MayBe};
 ghost use Rattle.rawk_tape.specs.declared.source.Ending.{Ending};
 ghost use Rattle.rawk_code.specs.Actions.{Point};
 
@@ -69,30 +69,8 @@ fn separator_in<'a>(globals: &'a Cells, separator: usize, digits: &'a mut Buffer
     }
 }
 
-/// The record of a text, by the field separator of now; a separator that is refused changes nothing. It fails where memory is refused.
-fn show<const SAVES: bool>(
-    alloc: Global,
-    store: &mut Store,
-    text: &[u8],
-    paragraph: bool,
-) -> Result<Option<Fault>, AllocError>
-    ensures did { IfOk result (λ fault. Shows fault (read_as text.now (text_of (global_in FS store.old.globals.now)) paragraph) (moving store.old) (moving store.new)) }
-    ensures start { OnTrue SAVES (start_of store.new ≡ start_of store.old) }
-    ensures plain { IsPlainMove store.old store.new }
-{
-    let mut digits = Buffer::new();
-    let separator = separator_in(&store.globals, FS, &mut digits);
-    match store
-        .current
-        .read::<SAVES>(alloc, text, separator, paragraph)
-    {
-        Ok(()) => Ok(None),
-        Err(Fault::OutOfMemory) => Err(AllocError),
-        Err(fault) => Ok(Some(fault)),
-    }
-}
-
-/// The record of a text, and the counters. It fails where memory is refused.
+/// The record of a text, by the field separator of now, and the counters; a separator that is refused changes nothing. It fails where memory is refused.
+#[inline(always)]
 fn show_counted<const SAVES: bool>(
     alloc: Global,
     store: &mut Store,
@@ -105,18 +83,25 @@ fn show_counted<const SAVES: bool>(
     ensures start { OnTrue SAVES (start_of store.new ≡ start_of store.old) }
     ensures plain { IsPlainMove store.old store.new }
 {
-    match show::<SAVES>(alloc, store, text, paragraph)? {
-        Some(fault) => Ok(Reading::Faulted(fault)),
-        None => {
+    let mut digits = Buffer::new();
+    let separator = separator_in(&store.globals, FS, &mut digits);
+    match store
+        .current
+        .read::<SAVES>(alloc, text, separator, paragraph)
+    {
+        Ok(()) => {
             store.globals.set::<SAVES>(NR, Value::Number(nr))?;
             store.globals.set::<SAVES>(FNR, Value::Number(fnr))?;
             Ok(Reading::Taken)
         }
+        Err(Fault::OutOfMemory) => Err(AllocError),
+        Err(fault) => Ok(Reading::Faulted(fault)),
     }
 }
 
 /// A text becomes the record, and is counted; a fault of a counter or a separator changes nothing. It fails where memory is
 /// refused.
+#[inline(always)]
 fn take_text<const SAVES: bool>(
     alloc: Global,
     store: &mut Store,
@@ -138,6 +123,7 @@ fn take_text<const SAVES: bool>(
 }
 
 /// A text becomes the newest operand, with these counters. It fails where memory is refused.
+#[inline(always)]
 fn put_counted<const SAVES: bool>(
     alloc: Global,
     store: &mut Store,
@@ -155,6 +141,7 @@ fn put_counted<const SAVES: bool>(
 }
 
 /// A text becomes the newest operand, and is counted; a fault of a counter changes nothing. It fails where memory is refused.
+#[inline(always)]
 fn put_text<const SAVES: bool>(
     alloc: Global,
     store: &mut Store,
@@ -186,6 +173,7 @@ fn refused(fault: Fault) -> Result<Reading, AllocError>
 }
 
 /// A record that was found becomes the present one, and its bytes are consumed. It fails where memory is refused.
+#[inline(always)]
 fn take_found<R: Source + Drop, const SAVES: bool>(
     alloc: Global,
     store: &mut Store,
@@ -213,9 +201,26 @@ fn take_found<R: Source + Drop, const SAVES: bool>(
     }
 }
 
-/// Reads a record: it becomes the present one and is counted, all or nothing. It fails where memory is refused; bytes may be read
+/// The next record, where a single byte separates records and ends it among the bytes that are kept; else it is sought by others.
+#[inline(always)]
+fn held_record<R: Source + Drop>(globals: &Cells, tape: &Tape<R>) -> Option<Found>
+    ensures next { IfSome result (λ found. (input : Input) → MayBe R.may_give tape.now input → Answers (next_record input tape.now.consumed (text_of (global_in RS globals.now.now))) tape.now.bytes (Ok (Some found))) }
+    ensures within { IfSome result (λ found. IsWithin tape.now.bytes tape.now.consumed (Ok (Some found))) }
+    ensures line { IfSome result (λ found. is_empty (text_of (global_in RS globals.now.now)) ≡ false) }
+{
+    match globals.value(RS) {
+        Some(Value::String(text)) => match text.as_slice() {
+            [byte] => tape.held_line(*byte),
+            _ => None,
+        },
+        _ => None,
+    }
+}
+
+/// Reads a record, whatever separates records: it becomes the present one and is counted, all or nothing. It fails where memory is refused; bytes may be read
 /// ahead then.
-pub fn read<R: Source + Drop, const SAVES: bool>(
+#[inline(never)]
+fn read_any<R: Source + Drop, const SAVES: bool>(
     alloc: Global,
     store: &mut Store,
     tape: &mut Tape<R>,
@@ -242,7 +247,34 @@ pub fn read<R: Source + Drop, const SAVES: bool>(
     }
 }
 
+/// Reads a record: it becomes the present one and is counted, all or nothing. It fails where memory is refused; bytes may be read
+/// ahead then.
+#[inline(always)]
+pub fn read<R: Source + Drop, const SAVES: bool>(
+    alloc: Global,
+    store: &mut Store,
+    tape: &mut Tape<R>,
+) -> Result<Reading, AllocError>
+    requires { tape.old.consumed ≡ store.old.registers.now.consumed }
+    ensures may { (kept : Input) → MayBe R.may_give tape.new kept → MayBe R.may_give tape.old kept }
+    ensures did { IfOk result (λ r. (points : List Point) (gone handed : Bytes) (kept : Input) → MayBe R.may_give tape.new kept → ReadsTo r points gone handed kept (moving store.old) (moving store.new)) }
+    ensures registers { IfOk result (λ r. KeepsRegisters (moving store.old) (moving store.new)) }
+    ensures start { OnTrue SAVES (start_of store.new ≡ start_of store.old) }
+    ensures consumed { OnOk result (tape.new.consumed ≡ store.new.registers.now.consumed) }
+    ensures asks { (tape.new.bytes ≡ tape.old.bytes) ⊎ IsDue (text_of (global_in RS store.old.globals.now)) store.old.registers.now.consumed tape.new.bytes }
+    ensures draws { Draws R.over R.handed tape.old tape.new }
+    ensures quiet { IfOk result IsQuietReading }
+    ensures failed { IfOk result (λ r. r ≡ Reading.Faulted Fault.ReadFailed → R.over tape.new.source ≡ Some Ending.Failed) }
+    ensures plain { IsPlainMove store.old store.new }
+{
+    match held_record(&store.globals, tape) {
+        Some(found) => take_found::<R, SAVES>(alloc, store, tape, found, false),
+        None => read_any::<R, SAVES>(alloc, store, tape),
+    }
+}
+
 /// The text of a record that was found becomes the newest operand, and its bytes are consumed. It fails where memory is refused.
+#[inline(always)]
 fn put_found<R: Source + Drop, const SAVES: bool>(
     alloc: Global,
     store: &mut Store,
@@ -267,9 +299,10 @@ fn put_found<R: Source + Drop, const SAVES: bool>(
     }
 }
 
-/// Reads a record: its text becomes the newest operand and is counted, all or nothing; the present record stays. It fails where memory is refused; bytes may
+/// Reads a record, whatever separates records: its text becomes the newest operand and is counted, all or nothing; the present record stays. It fails where memory is refused; bytes may
 /// be read ahead then.
-pub fn read_text<R: Source + Drop, const SAVES: bool>(
+#[inline(never)]
+fn read_any_text<R: Source + Drop, const SAVES: bool>(
     alloc: Global,
     store: &mut Store,
     tape: &mut Tape<R>,
@@ -292,5 +325,31 @@ pub fn read_text<R: Source + Drop, const SAVES: bool>(
         Err(fault) => refused(fault),
         Ok(None) => Ok(Reading::Missing),
         Ok(Some(found)) => put_found::<R, SAVES>(alloc, store, tape, found),
+    }
+}
+
+/// Reads a record: its text becomes the newest operand and is counted, all or nothing; the present record stays. It fails where memory is refused; bytes may
+/// be read ahead then.
+#[inline(always)]
+pub fn read_text<R: Source + Drop, const SAVES: bool>(
+    alloc: Global,
+    store: &mut Store,
+    tape: &mut Tape<R>,
+) -> Result<Reading, AllocError>
+    requires { tape.old.consumed ≡ store.old.registers.now.consumed }
+    ensures may { (kept : Input) → MayBe R.may_give tape.new kept → MayBe R.may_give tape.old kept }
+    ensures did { IfOk result (λ r. (points : List Point) (gone handed : Bytes) (kept : Input) → MayBe R.may_give tape.new kept → ReadsText r points gone handed kept (moving store.old) (moving store.new)) }
+    ensures registers { IfOk result (λ r. KeepsRegisters (moving store.old) (moving store.new)) }
+    ensures places { IfOk result (λ r. KeepsPlaces (moving store.old) (moving store.new)) }
+    ensures start { OnTrue SAVES (Grown (start_of store.old) (start_of store.new)) }
+    ensures consumed { OnOk result (tape.new.consumed ≡ store.new.registers.now.consumed) }
+    ensures asks { (tape.new.bytes ≡ tape.old.bytes) ⊎ IsDue (text_of (global_in RS store.old.globals.now)) store.old.registers.now.consumed tape.new.bytes }
+    ensures draws { Draws R.over R.handed tape.old tape.new }
+    ensures quiet { IfOk result IsQuietReading }
+    ensures failed { IfOk result (λ r. r ≡ Reading.Faulted Fault.ReadFailed → R.over tape.new.source ≡ Some Ending.Failed) }
+{
+    match held_record(&store.globals, tape) {
+        Some(found) => put_found::<R, SAVES>(alloc, store, tape, found),
+        None => read_any_text::<R, SAVES>(alloc, store, tape),
     }
 }
