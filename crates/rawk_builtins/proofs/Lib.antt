@@ -1,3 +1,4 @@
 mod Rows
 pub mod Parts
 pub mod Places
+mod Single

@@ -1,11 +1,11 @@
 //! How long a text is, and where a part stands in it.
 
-ghost use Rattle.std.specs.Prelude.{◌≡◌, pos, length};
+ghost use Rattle.std.specs.Prelude.{◌≡◌, ◌∷◌, [], pos, length};
 ghost use Rattle.memchr.specs.Find.{FindsNeedle};
 ghost use Rattle.rawk_builtins.specs.Builtins.{place_of};
 
 use memchr::arch::all::rabinkarp;
-use memchr::memmem;
+use memchr::{memchr, memmem};
 
 /// How long a text is at least that is searched by `memmem`, which takes longer to set up; 11 bytes were measured.
 const LONG: usize = 33;
@@ -18,10 +18,20 @@ pub fn length(text: &[u8]) -> i64
     text.len() as i64
 }
 
+/// How many bytes stand before a byte where it first stands in the text.
+fn first_byte(text: &[u8], byte: u8) -> Option<usize>
+    ensures { FindsNeedle text.now (byte ∷ []) 0 result }
+{
+    memchr(byte, text)
+}
+
 /// How many bytes stand before the part where it first stands in the text.
 fn first(text: &[u8], part: &[u8]) -> Option<usize>
     ensures { FindsNeedle text.now part.now 0 result }
 {
+    if let [byte] = part {
+        return first_byte(text, *byte);
+    }
     if text.len() < LONG {
         return rabinkarp::Finder::new(part).find(text, part);
     }
