@@ -105,7 +105,7 @@ fn change(
             Value::Number(i64::try_from(second).unwrap_or(0)),
         ),
         "touch" => arrays.touch::<true>(alloc, 0, key),
-        _ => arrays.delete::<true>(alloc, 0, key),
+        _ => arrays.delete::<true>(0, key),
     }
 }
 

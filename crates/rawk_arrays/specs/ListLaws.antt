@@ -1,11 +1,12 @@
 -- The list of arrays.
-use Rattle.std.proofs.Common.{◌≡◌, ◌≢◌, ℕ, ◌+◌, Bool, true, false, cond, ◌<◌, ◌≤◌, List, [], ◌∷◌, ◌++◌, inl, inr, length, min, take, set, refl, sym, ap, ◌∙◌, arith, get_or, Option, None, Some, get_or-set_other, get_or-set_same}
+use Rattle.std.proofs.Common.{◌≡◌, ◌≢◌, ℕ, ◌+◌, Bool, true, false, cond, ◌<◌, ◌≤◌, List, [], ◌∷◌, ◌++◌, inl, inr, length, min, take, set, refl, sym, ap, ◌∙◌, arith, get_or, slice_get, Option, None, Some, get_or-set_other, get_or-set_same}
 use Rattle.std.proofs.lemmas.Bool.{cases_eq, cases_lt, false≢true}
 use Rattle.std.specs.Prelude.{is_some}
 use Rattle.std.proofs.lemmas.List.{get_or_past, length-set, take_all, set_past, set-get_or}
 use Rattle.std.proofs.lemmas.List.FromFn.{fill_by_all, get_or-map-range_with_len, length-map-range_with_len, take-map-range_with_len, map-range_with_len_more}
-use Rattle.std.specs.FinMap.{get, get-remove, same_map}
-use Rattle.std.specs.Cmp.Lexicographic.{nat_list_cmp_total}
+use Rattle.std.specs.FinMap.{get, get-empty, get-remove, same_map}
+use Rattle.std.specs.Ordering.{nat_cmp}
+use Rattle.std.specs.Cmp.Lexicographic.{nat_list_cmp_total, slice_cmp}
 use Rattle.std.proofs.lemmas.Map.Lookups.{exact_bytes}
 use Rattle.rawk_value.specs.Values.{Bytes}
 use Rattle.rawk_value.specs.declared.value.Value.{Value}
@@ -13,10 +14,10 @@ use Rattle.rawk_slots.specs.Journaled.{Journaled, Longer, at_rest}
 use Rattle.rawk_slots.specs.declared.saved.Saved.{Saved}
 use Rattle.rawk_slots.specs.Back.{back}
 use Rattle.rawk_slots.specs.BackLaws.{length-back}
-use Rattle.rawk_keys.specs.ArrayKey.{ArrayKey}
+use Rattle.rawk_keys.specs.ArrayKey.{ArrayKey, IsAbsent, array_key}
 use Rattle.rawk_arrays.specs.Elements.{Elements, no_elements, array_at, put, with_put, is_element, without_element}
 use Rattle.rawk_arrays.specs.Laid.{Laid, AreLaid, IsLaid, IsPlaceOf, IsPut, IsEmptied, IsSpread, elements_of, arrays_of, slot}
-use Rattle.rawk_arrays.specs.PlaceLaws.{spread_same, key_is, found_slot, put_at}
+use Rattle.rawk_arrays.specs.PlaceLaws.{spread_same, key_is, found_slot, put_at, absent_none}
 use Rattle.rawk_arrays.specs.Place.{same_key}
 
 of : Laid → ℕ → Elements
@@ -104,3 +105,16 @@ place_value a k p l h laid = ap (λ (e : Elements). get e k) (array_there l a h.
 pub place_set : (a : ℕ) (k : Bytes) (p : ℕ) (v : Option Value) (l m : Laid) → IsPlaceOf a k p l → IsLaid l.index l.slots → m.index ≡ l.index → m.live ≡ l.live → m.slots ≡ set l.slots p v → arrays_of m ≡ with_put a k v (arrays_of l)
 place_set a k p v l m h laid index live slots =
     put_arrays l m a k v live h.live (rw (index, slots) (put_at a k v l.index l.slots p laid.distinct laid.array_key h.array_key h.within))
+
+-- an element that no slot holds is not there
+pub none_element : (arrays : List Elements) (a : ℕ) (k : Bytes) → get (array_at a arrays) k ≡ None → is_element a k arrays ≡ false
+none_element arrays a k e = ap (λ (o : Option Value). is_some o) e
+
+pub past_element : (l : Laid) (a : ℕ) (k : Bytes) → l.live ≤ a → is_element a k (arrays_of l) ≡ false
+past_element l a k h = none_element (arrays_of l) a k (ap (λ (e : Elements). get e k) (array_past l a h) ∙ get-empty (slice_cmp nat_cmp) k)
+
+pub absent_element : (l : Laid) (a : ℕ) (k : Bytes) → a < l.live → length l.slots ≤ length l.index → IsAbsent (array_key a k) l.index → is_element a k (arrays_of l) ≡ false
+absent_element l a k h size absent = none_element (arrays_of l) a k (ap (λ (e : Elements). get e k) (array_there l a h) ∙ absent_none a k l.index l.slots size absent)
+
+pub slotless_element : (l : Laid) (a : ℕ) (k : Bytes) (p : ℕ) → a < l.live → IsLaid l.index l.slots → slice_get l.index p ≡ Some (array_key a k) → length l.slots ≤ p → is_element a k (arrays_of l) ≡ false
+slotless_element l a k p h laid e past = none_element (arrays_of l) a k (ap (λ (m : Elements). get m k) (array_there l a h) ∙ found_slot a k l.index l.slots p laid e ∙ get_or_past l.slots p None past)

@@ -1,6 +1,6 @@
 //! Arrays by number, and what stood in them when the step began.
 
-ghost use Rattle.std.specs.Prelude.{◌≡◌, ◌≤◌, ℕ, ◌++◌, ◌∷◌, [], IfOk, MatchOption, OnErr, OnOk, Some, length, replicate, slice_get, take};
+ghost use Rattle.std.specs.Prelude.{◌≡◌, false, ◌≤◌, ℕ, ◌++◌, ◌∷◌, [], IfOk, MatchOption, OnErr, OnOk, Some, length, replicate, slice_get, take};
 ghost use Rattle.std.specs.FinMap.{len};
 ghost use Rattle.rawk_arrays.specs.Walks.{texts};
 ghost use Rattle.std.specs.Bool.{OnTrue};
@@ -18,9 +18,11 @@ use crate::cells::{
     slot_for_number,
 };
 use crate::counts::{count, recount_back};
+use itoa::Buffer;
 use rawk_keys::Keys;
 use rawk_slots::{Reversible, SlotGroup, Slots};
 use rawk_value::Value;
+use rawk_value::order::digits_in;
 use std::alloc::{AllocError, Global};
 use std::marker::Model;
 
@@ -96,6 +98,16 @@ pub enum ArraysChange {
 fn left_empty(emptied: usize, cells: &ElementSlots, place: usize) -> usize {
     if place < cells.len().saturating_sub(1) && !is_filled(cells, place) {
         emptied.saturating_sub(1)
+    } else {
+        emptied
+    }
+}
+
+/// With the `emptied` slots, how many are empty where this one is emptied.
+#[inline(always)]
+fn more_empty(emptied: usize, cells: &ElementSlots, place: usize) -> usize {
+    if is_filled(cells, place) {
+        emptied.saturating_add(1)
     } else {
         emptied
     }
@@ -354,22 +366,69 @@ impl Arrays {
         self.put::<SAVES>(alloc, array, key, Some(Value::Uninitialized))
     }
 
+    /// The place of an element's key, where it has one; without one the element is not there.
+    #[inline(always)]
+    fn place_there(&self, array: usize, key: &[u8]) -> Option<usize>
+        ensures { MatchOption result (is_element array key.now (arrays_of self.now.now) ≡ false) (λ p. IsPlaceOf array key.now p self.now.now) }
+    {
+        if array >= self.live {
+            return None;
+        }
+        match self.index.find(array, key) {
+            Some(place) => {
+                if place < self.cells.len() {
+                    return Some(place);
+                }
+                None
+            }
+            None => None,
+        }
+    }
+
+    /// Deletes the element at a place, if it is there. It fails where memory is refused, and then no element has changed.
+    #[inline(always)]
+    fn remove_at<const SAVES: bool>(&mut self, place: usize) -> Result<(), AllocError>
+        ensures did { OnOk result ((a : ℕ) (k : Bytes) → IsPlaceOf a k place self.old.now → arrays_of self.new.now ≡ without_element a k (arrays_of self.old.now)) }
+        ensures err { OnErr result (self.new.now ≡ self.old.now) }
+        ensures start { OnTrue SAVES (self.new.start ≡ self.old.start) }
+    {
+        self.emptied = more_empty(self.emptied, &self.cells, place);
+        set_slot::<SAVES>(&self.index, &mut self.cells, &mut self.counts, place, None)?;
+        Ok(())
+    }
+
     /// Deletes an element, if it is there. It fails where memory is refused, and then no element has changed.
-    pub fn delete<const SAVES: bool>(
-        &mut self,
-        alloc: Global,
-        array: usize,
-        key: &[u8],
-    ) -> Result<(), AllocError>
+    pub fn delete<const SAVES: bool>(&mut self, array: usize, key: &[u8]) -> Result<(), AllocError>
         ensures did { OnOk result (arrays_of self.new.now ≡ without_element array key.now (arrays_of self.old.now)) }
         ensures err { OnErr result (arrays_of self.new.now ≡ arrays_of self.old.now) }
-        ensures start { OnTrue SAVES (GrownArrays self.old.start self.new.start) }
+        ensures start { OnTrue SAVES (self.new.start ≡ self.old.start) }
     {
-        if self.has(array, key) {
-            self.emptied = self.emptied.saturating_add(1);
-            return self.put::<SAVES>(alloc, array, key, None);
+        match self.place_there(array, key) {
+            Some(place) => self.remove_at::<SAVES>(place),
+            None => Ok(()),
         }
-        Ok(())
+    }
+
+    /// Deletes the element at the key of a number, if it is there, without a search where the keys from 1 to it came one behind another. It fails where memory is refused, and
+    /// then no element has changed.
+    pub fn delete_numbered<const SAVES: bool>(
+        &mut self,
+        array: usize,
+        key: i64,
+    ) -> Result<(), AllocError>
+        ensures did { OnOk result (arrays_of self.new.now ≡ without_element array (text_of (Value.Number key)) (arrays_of self.old.now)) }
+        ensures err { OnErr result (arrays_of self.new.now ≡ arrays_of self.old.now) }
+        ensures start { OnTrue SAVES (self.new.start ≡ self.old.start) }
+    {
+        if array < self.live {
+            if let Some(place) = self.index.in_series(array, key) {
+                if place < self.cells.len() {
+                    return self.remove_at::<SAVES>(place);
+                }
+            }
+        }
+        let mut digits = Buffer::new();
+        self.delete::<SAVES>(array, digits_in(key, &mut digits))
     }
 
     /// Deletes all elements of an array, in a time linear in the slots that it has. It fails where memory is refused; some are deleted then.
@@ -525,7 +584,7 @@ impl Arrays {
         match change {
             ArraysChange::Set { array, key, value } => self.set::<true>(alloc, array, &key, value),
             ArraysChange::Touch { array, key } => self.touch::<true>(alloc, array, &key),
-            ArraysChange::Delete { array, key } => self.delete::<true>(alloc, array, &key),
+            ArraysChange::Delete { array, key } => self.delete::<true>(array, &key),
             ArraysChange::Clear { array } => self.clear::<true>(array),
             ArraysChange::AddEmpty(count) => self.add_empty::<true>(count),
             ArraysChange::Truncate(count) => {

@@ -155,17 +155,32 @@ fn touch_element<const SAVES: bool>(
 
 /// Deletes an element; an array that is not there stays away. It fails where memory is refused, and then no element has changed.
 fn delete_element<const SAVES: bool>(
-    alloc: Global,
     arrays: &mut Arrays,
     number: Option<usize>,
     key: &[u8],
 ) -> Result<(), AllocError>
     ensures did { OnOk result (arrays_of arrays.new.now ≡ delete_element number key.now (arrays_of arrays.old.now)) }
     ensures err { OnErr result (arrays_of arrays.new.now ≡ arrays_of arrays.old.now) }
-    ensures start { OnTrue SAVES (GrownArrays arrays.old.start arrays.new.start) }
+    ensures start { OnTrue SAVES (arrays.new.start ≡ arrays.old.start) }
 {
     match number {
-        Some(number) => arrays.delete::<SAVES>(alloc, number, key),
+        Some(number) => arrays.delete::<SAVES>(number, key),
+        None => Ok(()),
+    }
+}
+
+/// The same of the element at the key of a number.
+fn delete_numbered<const SAVES: bool>(
+    arrays: &mut Arrays,
+    number: Option<usize>,
+    key: i64,
+) -> Result<(), AllocError>
+    ensures did { OnOk result (arrays_of arrays.new.now ≡ delete_element number (text_of (Value.Number key)) (arrays_of arrays.old.now)) }
+    ensures err { OnErr result (arrays_of arrays.new.now ≡ arrays_of arrays.old.now) }
+    ensures start { OnTrue SAVES (arrays.new.start ≡ arrays.old.start) }
+{
+    match number {
+        Some(number) => arrays.delete_numbered::<SAVES>(number, key),
         None => Ok(()),
     }
 }
@@ -188,17 +203,31 @@ impl Store {
     /// Deletes an element of an array, if both are there (POSIX awk, Actions). It fails where memory is refused, and then no element has changed.
     pub fn delete_element<const SAVES: bool>(
         &mut self,
-        alloc: Global,
         array: Array,
         key: &[u8],
     ) -> Result<(), AllocError>
         ensures did { OnOk result (arrays_of self.new.arrays.now ≡ delete_element (array_in array (frames_of self.old.frames.now)) key.now (arrays_of self.old.arrays.now)) }
         ensures err { OnErr result (arrays_of self.new.arrays.now ≡ arrays_of self.old.arrays.now) }
         ensures rest { now_of self.new ≡ record (now_of self.old) { arrays = self.new.arrays.now } }
-        ensures start { OnTrue SAVES (Grown (start_of self.old) (start_of self.new)) }
+        ensures start { OnTrue SAVES (start_of self.new ≡ start_of self.old) }
     {
         let number = array_number(&self.frames, array);
-        delete_element::<SAVES>(alloc, &mut self.arrays, number, key)
+        delete_element::<SAVES>(&mut self.arrays, number, key)
+    }
+
+    /// The same of the element at the key of a number, without a search where the keys from 1 to it came one behind another.
+    pub fn delete_numbered<const SAVES: bool>(
+        &mut self,
+        array: Array,
+        key: i64,
+    ) -> Result<(), AllocError>
+        ensures did { OnOk result (arrays_of self.new.arrays.now ≡ delete_element (array_in array (frames_of self.old.frames.now)) (text_of (Value.Number key)) (arrays_of self.old.arrays.now)) }
+        ensures err { OnErr result (arrays_of self.new.arrays.now ≡ arrays_of self.old.arrays.now) }
+        ensures rest { now_of self.new ≡ record (now_of self.old) { arrays = self.new.arrays.now } }
+        ensures start { OnTrue SAVES (start_of self.new ≡ start_of self.old) }
+    {
+        let number = array_number(&self.frames, array);
+        delete_numbered::<SAVES>(&mut self.arrays, number, key)
     }
 
     /// Deletes all elements of an array, if it is there, in a time linear in the slots that it has. It fails where memory is refused; some are deleted then.

@@ -99,7 +99,7 @@ fn places_of_last(alloc: Global, arrays: &mut Arrays, count: usize) -> Result<Ve
     for element in 0..count {
         let key = format!(in alloc; "{element}")?.into_bytes();
         arrays.set::<true>(alloc, 0, &key, Value::Number(1))?;
-        arrays.delete::<true>(alloc, 0, &key)?;
+        arrays.delete::<true>(0, &key)?;
     }
     arrays.set::<true>(alloc, 0, b"last", Value::Number(1))?;
     arrays.forget();
