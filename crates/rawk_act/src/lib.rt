@@ -2,5 +2,3 @@
 #![tactic(auto, using(rawk_store::specs::Growth::grows))]
 
 pub mod act;
-pub mod at_once;
-mod popped;

@@ -9,6 +9,7 @@ pub mod Laws
 pub mod Listing
 pub mod Valid
 pub mod Machine
+pub mod Quick
 pub mod Correct
 pub mod Steps
 pub mod Settings

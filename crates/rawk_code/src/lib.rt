@@ -5,6 +5,7 @@ pub mod code;
 mod fields_asked;
 pub mod fitting;
 pub mod formula;
+pub mod quick;
 pub mod sets;
 pub mod settings;
 
@@ -13,5 +14,6 @@ pub use code::{
 };
 pub use fitting::fits;
 pub use formula::{Formula, Measure, Shape};
+pub use quick::{Quick, Side};
 pub use sets::SetAt;
 pub use settings::{FirstValue, Settings};

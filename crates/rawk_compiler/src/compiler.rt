@@ -39,7 +39,8 @@ pub fn compile(alloc: Global, program: &Program) -> Result<Code, AllocError>
         entries,
         ranges,
     } = parts_of(alloc, program)?;
-    Ok(Code::new(instrs, names, record_at, end_at, entries, ranges))
+    let code = Code::new(alloc, instrs, names, record_at, end_at, entries, ranges)?;
+    Ok(code)
 }
 
 // What a code is made of.

@@ -6,4 +6,5 @@ pub mod Replacing
 pub mod Quiets
 pub mod Touches
 pub mod AssignLaws
+pub mod ActLaws
 pub mod InPlace

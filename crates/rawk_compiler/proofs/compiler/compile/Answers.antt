@@ -8,4 +8,4 @@ pub new-requires : goal.new-requires
 new-requires c = compiled_valid c.args.program.now _ c.in_ok-instrs.ensures
 
 pub returns-clause-meaning : goal.returns-clause-meaning
-returns-clause-meaning c = subst (CodeOf c.args.program.now) (sym c.new.ensures) (compiled c.args.program.now _ c.in_ok-instrs.ensures)
+returns-clause-meaning c = subst (CodeOf c.args.program.now) (sym c.in_ok-code.ensures) (compiled c.args.program.now _ c.in_ok-instrs.ensures)

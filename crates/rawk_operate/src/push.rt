@@ -1,0 +1,29 @@
+//! The operand that an instruction adds.
+
+ghost use Rattle.std.specs.Bool.{OnTrue};
+ghost use Rattle.std.specs.Prelude.{OnOk};
+ghost use Rattle.rawk_store.specs.Layout.{Grown};
+ghost use Rattle.rawk_store.specs.Stores.{start_of};
+ghost use Rattle.rawk_operands.specs.Moving.{moving};
+ghost use Rattle.rawk_operate.specs.Done.{Done};
+
+use crate::transfer::Transfer;
+use rawk_code::{Instr, Op, Simple};
+use rawk_operands::borrowed::simple_copied;
+use rawk_operands::stack::put;
+use rawk_store::Store;
+use std::alloc::{AllocError, Global};
+
+/// Adds an operand that has its value at once. It fails where memory is refused.
+#[inline(always)]
+pub fn push<const SAVES: bool>(
+    alloc: Global,
+    store: &mut Store,
+    from: &Simple,
+) -> Result<(), AllocError>
+    ensures did { OnOk result (Done (Instr.Do (Op.Push from.now)) (moving store.old) Transfer.Next (moving store.new)) }
+    ensures start { OnTrue SAVES (Grown (start_of store.old) (start_of store.new)) }
+{
+    let value = simple_copied(alloc, from, store)?;
+    put::<SAVES>(store, 0, value)
+}
