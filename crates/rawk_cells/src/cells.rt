@@ -1,7 +1,7 @@
 //! The globals, and a text among them that is added to in place.
 
 ghost use Rattle.std.specs.Prelude.{◌≡◌, ◌<◌, ◌≤◌, ◌∷◌, ◌++◌, [], IfOk, IfSome, OnErr, OnOk, drop, length, slice_get, slice_set, take, Some};
-ghost use Rattle.std.specs.Bool.{OnTrue};
+ghost use Rattle.std.specs.Bool.{OnFalse, OnTrue};
 ghost use Rattle.std.specs.Option.{option_copied};
 ghost use Rattle.rawk_slots.specs.Back.{back, AreBelow, AreDistinctFrom};
 ghost use Rattle.rawk_slots.specs.Journaled.{at_rest};
@@ -216,6 +216,22 @@ fn put<const SAVES: bool>(
     Ok(())
 }
 
+/// Writes a number over the number in a slot, where it stands, and answers whether one stood there; else nothing is written. What the step changed before is forgotten. It takes no memory.
+#[inline(always)]
+fn renumber(slots: &mut Slots<Value>, place: usize, n: i64) -> bool
+    requires { place < length slots.old.now }
+    ensures done { OnTrue result (slots.new.now ≡ slice_set slots.old.now place (Value.Number n)) }
+    ensures other { OnFalse result (slots.new.now ≡ slots.old.now) }
+{
+    match slots.lend(place) {
+        Value::Number(held) => {
+            *held = n;
+            true
+        }
+        _ => false,
+    }
+}
+
 /// Where a text grew, if old values are saved.
 #[inline(always)]
 fn noted<const SAVES: bool>(grown: Grown) -> Option<Grown>
@@ -270,6 +286,48 @@ impl Cells {
         settle::<SAVES>(self.alloc, &mut self.slots, self.grown)?;
         self.grown = None;
         put::<SAVES>(&mut self.slots, place, value)
+    }
+
+    /// The same of a number. Where nothing is saved and the global holds a number, no more than that is written.
+    #[inline(always)]
+    pub fn set_number<const SAVES: bool>(&mut self, place: usize, n: i64) -> Result<(), AllocError>
+        ensures did { OnOk result (self.new.now ≡ slice_set self.old.now place (Value.Number n)) }
+        ensures start { OnTrue SAVES (self.new.start ≡ self.old.start) }
+        ensures err { OnErr result (self.new.now ≡ self.old.now) }
+    {
+        if !SAVES && self.renumber(place, n) {
+            return Ok(());
+        }
+        self.set_number_apart::<SAVES>(place, n)
+    }
+
+    /// Writes a number over the number that a global holds, and answers whether it holds one; else no global changes.
+    #[inline(always)]
+    fn renumber(&mut self, place: usize, n: i64) -> bool
+        ensures done { OnTrue result (self.new.now ≡ slice_set self.old.now place (Value.Number n)) }
+        ensures other { OnFalse result (self.new.now ≡ self.old.now) }
+    {
+        if place >= self.slots.len() {
+            return false;
+        }
+        match self.grown {
+            None => renumber(&mut self.slots, place, n),
+            Some(_) => false,
+        }
+    }
+
+    /// Gives a global a number, whatever it holds, by a call of its own.
+    #[inline(never)]
+    fn set_number_apart<const SAVES: bool>(
+        &mut self,
+        place: usize,
+        n: i64,
+    ) -> Result<(), AllocError>
+        ensures did { OnOk result (self.new.now ≡ slice_set self.old.now place (Value.Number n)) }
+        ensures start { OnTrue SAVES (self.new.start ≡ self.old.start) }
+        ensures err { OnErr result (self.new.now ≡ self.old.now) }
+    {
+        self.set::<SAVES>(place, Value::Number(n))
     }
 
     /// Adds a global, which the step's beginning then has too. It fails where memory is refused, and then nothing has changed.

@@ -60,6 +60,11 @@ local_longer number as1 old new p more place {E} (Ok true) h =
 local_longer number as1 old new p more place {E} (Ok false) h = tt
 local_longer number as1 old new p more place {E} (Err e) h = tt
 
+pub local_written : (number : ℕ) (as1 : List Activation) (old new : List Local) (p : ℕ) (v : Local) → IsPlace number as1 old p → (done : Bool)
+    → OnTrue done (new ≡ set old p v) → OnTrue done (frames_from as1 new ≡ with_local number v (frames_from as1 old))
+local_written number as1 old new p v place true e = ap (λ (ls : List Local). frames_from as1 ls) e ∙ local_set number as1 old p v place
+local_written number as1 old new p v place false e = tt
+
 -- what is lent of the live locals
 pub lent_set : (s : Stacked Local) (p : ℕ) (l : Local) → p < length (live_slots s) → take s.live (set s.slots p l) ≡ set (live_slots s) p l
 lent_set s p l h = take-set-lt s.live s.slots p l (omega (arith, h, length-take s.live s.slots))
@@ -87,6 +92,16 @@ pub refused_lent : (s : Stacked Local) (p : ℕ) (l : Local) (old new : Value) �
     → OnErr r (new ≡ old) → OnErr r (take s.live (set s.slots p (Holds new)) ≡ live_slots s)
 refused_lent s p l old new h e is {E} (Ok x) g = tt
 refused_lent s p l old new h e is {E} (Err x) g = same_held s p l old new h e is g
+
+-- a value that was written over the one that is lent, and one that was not
+pub written_lent : (s : Stacked Local) (p : ℕ) (new v : Value) → p < length (live_slots s) → (done : Bool) → OnTrue done (new ≡ v) → OnTrue done (take s.live (set s.slots p (Holds new)) ≡ set (live_slots s) p (Holds v))
+written_lent s p new v h true e = lent_set s p (Holds new) h ∙ ap (λ (w : Value). set (live_slots s) p (Holds w)) e
+written_lent s p new v h false e = tt
+
+pub unwritten_lent : (s : Stacked Local) (p : ℕ) (l : Local) (old new : Value) → p < length (live_slots s) → slice_get (live_slots s) p ≡ Some l → l ≡ Holds old → (done : Bool)
+    → OnFalse done (new ≡ old) → OnFalse done (take s.live (set s.slots p (Holds new)) ≡ live_slots s)
+unwritten_lent s p l old new h e is true g = tt
+unwritten_lent s p l old new h e is false g = same_held s p l old new h e is g
 
 pub no_local : (fs : List Frame) (number : ℕ) (v : Local) → length (locals_now fs) ≤ number → fs ≡ with_local number v fs
 no_local [] number v le = refl

@@ -1,6 +1,6 @@
 //! Activations of functions, with their locals.
 
-ghost use Rattle.std.specs.Prelude.{◌≡◌, ◌<◌, ◌≤◌, ◌∷◌, [], IfNone, IfOk, IfSome, MatchOption, None, OnErr, OnOk, Some, drop, length, slice_get};
+ghost use Rattle.std.specs.Prelude.{◌≡◌, ◌<◌, ◌≤◌, ◌∷◌, [], IfNone, IfOk, IfSome, MatchOption, None, OnErr, OnOk, Some, drop, length, slice_get, slice_set};
 ghost use Rattle.std.specs.Bool.{OnFalse, OnTrue};
 ghost use Rattle.std.specs.Option.{option_copied};
 ghost use Rattle.rawk_slots.specs.Journaled.{at_rest};
@@ -134,6 +134,50 @@ impl Frames {
         ensures err { OnErr result (self.new.now ≡ self.old.now) }
     {
         set_local_of::<SAVES>(self.base, &self.frames, &mut self.locals, number, local)
+    }
+
+    /// Gives a local of the newest activation a number; a number that is none changes nothing. Where nothing is saved and the local holds a number, no more than that is written. It fails where memory is
+    /// refused, and then no activation has changed.
+    #[inline(always)]
+    pub fn set_local_number<const SAVES: bool>(
+        &mut self,
+        number: usize,
+        n: i64,
+    ) -> Result<(), AllocError>
+        ensures did { OnOk result (frames_of self.new.now ≡ with_local number (Local.Holds (Value.Number n)) (frames_of self.old.now)) }
+        ensures returns { returns_of self.new.now ≡ returns_of self.old.now }
+        ensures start { OnTrue SAVES (self.new.start ≡ self.old.start) }
+        ensures err { OnErr result (frames_of self.new.now ≡ frames_of self.old.now) }
+    {
+        if !SAVES && self.renumber_local(number, n) {
+            return Ok(());
+        }
+        self.set_local_number_apart::<SAVES>(number, n)
+    }
+
+    /// Writes a number over the number that a local of the newest activation holds, and answers whether it holds one; else no local changes.
+    #[inline(always)]
+    fn renumber_local(&mut self, number: usize, n: i64) -> bool
+        ensures done { OnTrue result (frames_of self.new.now ≡ with_local number (Local.Holds (Value.Number n)) (frames_of self.old.now)) }
+        ensures other { OnFalse result (frames_of self.new.now ≡ frames_of self.old.now) }
+        ensures returns { returns_of self.new.now ≡ returns_of self.old.now }
+    {
+        renumber_local_of(self.base, &self.frames, &mut self.locals, number, n)
+    }
+
+    /// Gives a local of the newest activation a number, whatever it is, by a call of its own.
+    #[inline(never)]
+    fn set_local_number_apart<const SAVES: bool>(
+        &mut self,
+        number: usize,
+        n: i64,
+    ) -> Result<(), AllocError>
+        ensures did { OnOk result (frames_of self.new.now ≡ with_local number (Local.Holds (Value.Number n)) (frames_of self.old.now)) }
+        ensures returns { returns_of self.new.now ≡ returns_of self.old.now }
+        ensures start { OnTrue SAVES (self.new.start ≡ self.old.start) }
+        ensures err { OnErr result (self.new.now ≡ self.old.now) }
+    {
+        self.set_local::<SAVES>(number, Local::Holds(Value::Number(n)))
     }
 
     /// Puts bytes behind the text that a local of the newest activation holds, by its number from 0, where it stands, and answers whether one stands there that the program
@@ -516,6 +560,55 @@ fn set_local_of<const SAVES: bool>(
         None => {}
     }
     Ok(())
+}
+
+/// Writes a number over the number that a local of the newest activation holds, and answers whether it holds one.
+#[inline(always)]
+fn renumber_local_of(
+    base: usize,
+    frames: &Stack<Activation>,
+    locals: &mut Stack<Local>,
+    number: usize,
+    n: i64,
+) -> bool
+    requires { IsBase base (live_values frames.now.now) }
+    ensures done { OnTrue result (frames_from (live_values frames.now.now) (live_slots locals.new.now) ≡ with_local number (Local.Holds (Value.Number n)) (frames_from (live_values frames.now.now) (live_slots locals.old.now))) }
+    ensures other { OnFalse result (live_slots locals.new.now ≡ live_slots locals.old.now) }
+    ensures size { length (live_slots locals.new.now) ≡ length (live_slots locals.old.now) }
+{
+    match place_of(base, frames, locals, number) {
+        Some(place) => renumber_at(locals, place, n),
+        None => false,
+    }
+}
+
+/// The same of a local that is counted from the oldest.
+#[inline(always)]
+fn renumber_at(locals: &mut Stack<Local>, place: usize, n: i64) -> bool
+    requires { place < length (live_slots locals.old.now) }
+    ensures done { OnTrue result (live_slots locals.new.now ≡ slice_set (live_slots locals.old.now) place (Local.Holds (Value.Number n))) }
+    ensures other { OnFalse result (live_slots locals.new.now ≡ live_slots locals.old.now) }
+    ensures size { length (live_slots locals.new.now) ≡ length (live_slots locals.old.now) }
+{
+    match locals.lend_oldest(place) {
+        Local::Holds(value) => renumber(value, n),
+        Local::Names(_) => false,
+    }
+}
+
+/// Writes a number over a number, and answers whether one stood there.
+#[inline(always)]
+fn renumber(value: &mut Value, n: i64) -> bool
+    ensures done { OnTrue result (value.new ≡ Value.Number n) }
+    ensures other { OnFalse result (value.new ≡ value.old) }
+{
+    match value {
+        Value::Number(held) => {
+            *held = n;
+            true
+        }
+        _ => false,
+    }
 }
 
 /// Puts bytes behind the text that a local of the newest activation holds, and answers whether one stands there that the program made.

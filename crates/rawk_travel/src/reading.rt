@@ -90,8 +90,8 @@ fn show_counted<const SAVES: bool>(
         .read::<SAVES>(alloc, text, separator, paragraph)
     {
         Ok(()) => {
-            store.globals.set::<SAVES>(NR, Value::Number(nr))?;
-            store.globals.set::<SAVES>(FNR, Value::Number(fnr))?;
+            store.globals.set_number::<SAVES>(NR, nr)?;
+            store.globals.set_number::<SAVES>(FNR, fnr)?;
             Ok(Reading::Taken)
         }
         Err(Fault::OutOfMemory) => Err(AllocError),
@@ -135,8 +135,8 @@ fn put_counted<const SAVES: bool>(
     ensures start { OnTrue SAVES (Grown (start_of store.old) (start_of store.new)) }
 {
     let copy = Bytes::from_slice(alloc, text)?;
-    store.globals.set::<SAVES>(NR, Value::Number(nr))?;
-    store.globals.set::<SAVES>(FNR, Value::Number(fnr))?;
+    store.globals.set_number::<SAVES>(NR, nr)?;
+    store.globals.set_number::<SAVES>(FNR, fnr)?;
     put::<SAVES>(store, 0, Value::Input(copy))
 }
 
@@ -249,7 +249,7 @@ fn read_any<R: Source + Drop, const SAVES: bool>(
 
 /// Reads a record: it becomes the present one and is counted, all or nothing. It fails where memory is refused; bytes may be read
 /// ahead then.
-#[inline(always)]
+#[inline(never)]
 pub fn read<R: Source + Drop, const SAVES: bool>(
     alloc: Global,
     store: &mut Store,
