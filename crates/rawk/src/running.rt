@@ -64,7 +64,6 @@ fn refused(program: &Program, point: u64, site: Option<usize>) -> Report
 fn hand_on<R: Source + Drop, W: Sink>(
     alloc: Global,
     runner: &mut Runner<R>,
-    buffer: &mut Vec<u8>,
     sink: &mut W,
     eventful: bool,
 ) -> Result<(), DeviceFault>
@@ -74,11 +73,11 @@ fn hand_on<R: Source + Drop, W: Sink>(
     ensures source { runner.new.tape.source ≡ runner.old.tape.source }
     ensures failures { CountsUp (W.failures sink.old) (W.failures sink.new) (failures_of result) }
 {
-    runner.give_into(buffer);
-    match write_all(sink, buffer.as_slice()) {
+    match write_all(sink, runner.output()) {
         Ok(()) => {}
         Err(fault) => return Err(fault),
     }
+    runner.drop_output();
     if !eventful {
         return Ok(());
     }
@@ -102,11 +101,10 @@ fn run_on<R: Source + Drop, W: Sink>(
     ensures failures { CountsUp (W.failures sink.old) (W.failures sink.new) (write_failures result.cause) }
 {
     laws::output();
-    let mut buffer = Vec::new(alloc);
     let mut eventful = true;
     'steps: loop {
         if eventful || runner.is_over() || runner.has_output() {
-            match hand_on(alloc, runner, &mut buffer, sink, eventful) {
+            match hand_on(alloc, runner, sink, eventful) {
                 Ok(()) => {}
                 Err(_) => return stopped(Cause::Faulted(Fault::WriteFailed), runner.point()),
             }

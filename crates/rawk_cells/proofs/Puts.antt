@@ -99,3 +99,8 @@ again a xs h =
     ∙ (ap (λ (w : Value). slice_set first p (lengthened a.more w)) (get_or-set_same xs p (String h.front) Uninitialized h.within)
     ∙ (set-set xs p (String h.front) (String (h.front ++ a.more))
     ∙ (ap (λ (w : Value). slice_set xs p w) (sym h.is) ∙ set-get_or xs p Uninitialized)))
+
+-- where the value in a slot stayed, all slots did
+pub unset_slot : {T E : Type 0} (r : Result T E) (xs ys : List Value) (p : ℕ) (v w : Value) → slice_get xs p ≡ Some v → xs ≡ ys → OnErr r (w ≡ v) → OnErr r (slice_set xs p w ≡ ys)
+unset_slot (Ok x) xs ys p v w h e same = tt
+unset_slot (Err x) xs ys p v w h e same = ap (λ (u : Value). slice_set xs p u) same ∙ (same_set xs p v h ∙ e)

@@ -216,7 +216,7 @@ fn put<const SAVES: bool>(
     Ok(())
 }
 
-/// Writes a number over the number in a slot, where it stands, and answers whether one stood there; else nothing is written. What the step changed before is forgotten. It takes no memory.
+/// Writes a number over the number in a slot, where it stands, and answers whether that was done; else nothing is written. What the step changed before is forgotten. It takes no memory.
 #[inline(always)]
 fn renumber(slots: &mut Slots<Value>, place: usize, n: i64) -> bool
     requires { place < length slots.old.now }
@@ -301,7 +301,7 @@ impl Cells {
         self.set_number_apart::<SAVES>(place, n)
     }
 
-    /// Writes a number over the number that a global holds, and answers whether it holds one; else no global changes.
+    /// Writes a number over the number that a global holds, and answers whether that was done; else no global changes.
     #[inline(always)]
     fn renumber(&mut self, place: usize, n: i64) -> bool
         ensures done { OnTrue result (self.new.now ≡ slice_set self.old.now place (Value.Number n)) }
@@ -328,6 +328,26 @@ impl Cells {
         ensures err { OnErr result (self.new.now ≡ self.old.now) }
     {
         self.set::<SAVES>(place, Value::Number(n))
+    }
+
+    /// The same of a text that came from the input. Where nothing is saved, its bytes are written over those of such a text, if they fit there and nobody shares them.
+    #[inline(always)]
+    pub fn set_input<const SAVES: bool>(
+        &mut self,
+        place: usize,
+        bytes: &[u8],
+    ) -> Result<(), AllocError>
+        ensures did { OnOk result (self.new.now ≡ slice_set self.old.now place (Value.Input bytes.now)) }
+        ensures start { OnTrue SAVES (self.new.start ≡ self.old.start) }
+        ensures err { OnErr result (self.new.now ≡ self.old.now) }
+    {
+        if !SAVES && place < self.slots.len() {
+            if self.grown.is_none() {
+                return self.slots.lend(place).set_input(self.alloc, bytes);
+            }
+        }
+        let text = Bytes::from_slice(self.alloc, bytes)?;
+        self.set::<SAVES>(place, Value::Input(text))
     }
 
     /// Adds a global, which the step's beginning then has too. It fails where memory is refused, and then nothing has changed.

@@ -155,7 +155,7 @@ impl Frames {
         self.set_local_number_apart::<SAVES>(number, n)
     }
 
-    /// Writes a number over the number that a local of the newest activation holds, and answers whether it holds one; else no local changes.
+    /// Writes a number over the number that a local of the newest activation holds, and answers whether that was done; else no local changes.
     #[inline(always)]
     fn renumber_local(&mut self, number: usize, n: i64) -> bool
         ensures done { OnTrue result (frames_of self.new.now ≡ with_local number (Local.Holds (Value.Number n)) (frames_of self.old.now)) }
@@ -562,7 +562,7 @@ fn set_local_of<const SAVES: bool>(
     Ok(())
 }
 
-/// Writes a number over the number that a local of the newest activation holds, and answers whether it holds one.
+/// Writes a number over the number that a local of the newest activation holds, and answers whether that was done.
 #[inline(always)]
 fn renumber_local_of(
     base: usize,
@@ -596,7 +596,7 @@ fn renumber_at(locals: &mut Stack<Local>, place: usize, n: i64) -> bool
     }
 }
 
-/// Writes a number over a number, and answers whether one stood there.
+/// Writes a number over a number, and answers whether that was done.
 #[inline(always)]
 fn renumber(value: &mut Value, n: i64) -> bool
     ensures done { OnTrue result (value.new ≡ Value.Number n) }

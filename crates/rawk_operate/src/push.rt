@@ -9,8 +9,8 @@ ghost use Rattle.rawk_operate.specs.Done.{Done};
 
 use crate::transfer::Transfer;
 use rawk_code::{Instr, Op, Simple};
-use rawk_operands::borrowed::simple_copied;
-use rawk_operands::stack::put;
+use rawk_operands::borrowed::simple_borrowed;
+use rawk_operands::stack::push_copy;
 use rawk_store::Store;
 use std::alloc::{AllocError, Global};
 
@@ -24,6 +24,6 @@ pub fn push<const SAVES: bool>(
     ensures did { OnOk result (Done (Instr.Do (Op.Push from.now)) (moving store.old) Transfer.Next (moving store.new)) }
     ensures start { OnTrue SAVES (Grown (start_of store.old) (start_of store.new)) }
 {
-    let value = simple_copied(alloc, from, store)?;
-    put::<SAVES>(store, 0, value)
+    let value = simple_borrowed(from, &store.globals, &store.frames, &store.current);
+    push_copy::<SAVES>(alloc, &mut store.operands, value)
 }

@@ -13,6 +13,6 @@ pub use borrowed::{Borrowed, copy, join, number, text_borrowed, truth};
 pub use formats::format;
 pub use made::{flag, make, make_unary};
 pub use ordered::{compare, compare_numbers};
-pub use parts::{make_substr, place};
+pub use parts::{make_substr, part_in, place};
 pub use searches::{Match, find, matches, replace};
 pub use separations::separate;

@@ -23,7 +23,20 @@ pub fn place(left: Borrowed<'_>, right: Borrowed<'_>) -> i64
     )
 }
 
-/// A copy of the part of its text from a place on; with a count, that many bytes. It fails where memory is refused.
+/// The part of its text from a place on, in place but for a number's digits, which stand in the buffer; with a count, that many bytes. It takes no memory.
+#[inline(always)]
+pub fn part_in<'a>(
+    value: Borrowed<'a>,
+    digits: &'a mut Buffer,
+    from: i64,
+    count: Option<i64>,
+) -> &'a [u8]
+    ensures { result.now ≡ substring (text_of (borrowed_value value.entry)) from count }
+{
+    rawk_builtins::substr(text_borrowed(value, digits), from, count)
+}
+
+/// A copy of it. It fails where memory is refused.
 #[inline(always)]
 pub fn part(
     alloc: Global,
@@ -34,7 +47,7 @@ pub fn part(
     ensures { IfOk result (λ v. v ≡ Value.String (substring (text_of (borrowed_value value.entry)) from count)) }
 {
     let mut digits = Buffer::new();
-    let part = rawk_builtins::substr(text_borrowed(value, &mut digits), from, count);
+    let part = part_in(value, &mut digits, from, count);
     Ok(Value::String(Bytes::from_slice(alloc, part)?))
 }
 

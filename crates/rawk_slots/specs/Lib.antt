@@ -9,3 +9,4 @@ pub mod StackLaws
 pub mod Saving
 pub mod Lends
 pub mod LendsOldest
+pub mod LendsNext

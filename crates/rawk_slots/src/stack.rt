@@ -60,6 +60,7 @@ impl<T> Model for StackGroup<T> {
 
 impl<T: Drop> Stack<T> {
     ghost use Rattle.rawk_slots.specs.LendsOldest.{lends_oldest};
+    ghost use Rattle.rawk_slots.specs.LendsNext.{lends_next};
 
     /// No values.
     pub fn new(alloc: Global) -> Self
@@ -173,6 +174,27 @@ impl<T: Drop> Stack<T> {
         ensures value { slice_get (live_slots self.old.now) number ≡ Some result.now }
     {
         self.slots.lend(number)
+    }
+
+    /// Whether there is a slot behind the live values.
+    #[inline(always)]
+    pub fn has_next(&self) -> bool
+        ensures { OnTrue result (self.now.now.live < length self.now.now.slots) }
+    {
+        self.live < self.slots.len()
+    }
+
+    /// Lends the slot behind the live values, which is then the newest of them, and forgets what the step changed in values before: its beginning then has what is written there,
+    /// too. It takes no memory.
+    #[inline(always)]
+    pub fn lend_next(&mut self) -> &mut T
+        requires { self.old.now.live < length self.old.now.slots }
+        ensures* lends { sem 𝓛 (lends_next T.row self.entry result) }
+    {
+        let live = self.live;
+        let _count = self.slots.len();
+        self.live = live + 1;
+        self.slots.lend(live)
     }
 
     /// Drops the newest values, as many as there are at most.

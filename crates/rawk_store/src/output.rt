@@ -114,6 +114,15 @@ impl Output {
         }
     }
 
+    /// Removes the bytes, whose room is used for the next ones. It takes no memory.
+    #[inline]
+    pub fn clear(&mut self)
+        ensures { self.new ≡ at_rest [] }
+    {
+        self.bytes.clear();
+        self.began = 0;
+    }
+
     /// Ends the step, and gives how many bytes there were when it began.
     pub fn finish(&mut self) -> usize
         ensures now { self.new ≡ at_rest self.old.now }

@@ -18,13 +18,13 @@ ghost use Rattle.rawk_code.specs.Actions.{Point};
 
 use itoa::Buffer;
 use rawk_operands::borrowed::global_borrowed;
-use rawk_operands::stack::put;
+use rawk_operands::stack::push_input;
 use rawk_operands::variables::global_number;
 use rawk_operators::{number, text_borrowed};
 use rawk_special::{FNR, FS, NR, RS};
 use rawk_store::{Cells, Store};
 use rawk_tape::{Found, Source, Tape};
-use rawk_value::{Bytes, Fault, Value};
+use rawk_value::{Fault, Value};
 use std::alloc::{AllocError, Global};
 
 /// What came of the reading of a record.
@@ -134,10 +134,9 @@ fn put_counted<const SAVES: bool>(
     ensures did { OnOk result (moving store.new ≡ with_counted_text nr fnr text.now (moving store.old)) }
     ensures start { OnTrue SAVES (Grown (start_of store.old) (start_of store.new)) }
 {
-    let copy = Bytes::from_slice(alloc, text)?;
     store.globals.set_number::<SAVES>(NR, nr)?;
     store.globals.set_number::<SAVES>(FNR, fnr)?;
-    put::<SAVES>(store, 0, Value::Input(copy))
+    push_input::<SAVES>(alloc, &mut store.operands, text)
 }
 
 /// A text becomes the newest operand, and is counted; a fault of a counter changes nothing. It fails where memory is refused.

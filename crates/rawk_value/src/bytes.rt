@@ -49,6 +49,15 @@ impl Bytes {
         })
     }
 
+    /// Becomes a copy of a slice: in place where it fits there and nobody shares the bytes. It fails where memory is refused, and the bytes are then as they were.
+    #[inline(always)]
+    pub fn assign(&mut self, alloc: Global, bytes: &[u8]) -> Result<(), AllocError>
+        ensures ok { OnOk result (self.new ≡ bytes.now) }
+        ensures err { OnErr result (self.new ≡ self.old) }
+    {
+        self.text.assign(alloc, bytes)
+    }
+
     /// A copy. It takes no memory, and fails only where the count of owners is full.
     #[inline(always)]
     pub fn copy(&self) -> Result<Self, AllocError>

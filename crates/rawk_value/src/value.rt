@@ -1,6 +1,6 @@
 //! Values.
 
-ghost use Rattle.std.specs.Prelude.{◌≡◌, IfOk};
+ghost use Rattle.std.specs.Prelude.{◌≡◌, IfOk, OnErr, OnOk};
 
 use crate::bytes::Bytes;
 use std::alloc::{AllocError, Global};
@@ -30,5 +30,49 @@ impl Value {
             Value::String(text) => Ok(Value::String(text.copy()?)),
             Value::Input(text) => Ok(Value::Input(text.copy()?)),
         }
+    }
+
+    /// Becomes a text that the program made: over such a text no more than its bytes are written, where they fit there. It fails where memory is refused, and nothing has changed then.
+    #[inline(always)]
+    pub fn set_string(&mut self, alloc: Global, bytes: &[u8]) -> Result<(), AllocError>
+        ensures ok { OnOk result (self.new ≡ Value.String bytes.now) }
+        ensures err { OnErr result (self.new ≡ self.old) }
+    {
+        match self {
+            Value::String(text) => text.assign(alloc, bytes),
+            _ => self.become_string(alloc, bytes),
+        }
+    }
+
+    /// The same, whatever it is.
+    #[inline(never)]
+    fn become_string(&mut self, alloc: Global, bytes: &[u8]) -> Result<(), AllocError>
+        ensures ok { OnOk result (self.new ≡ Value.String bytes.now) }
+        ensures err { OnErr result (self.new ≡ self.old) }
+    {
+        *self = Value::String(Bytes::from_slice(alloc, bytes)?);
+        Ok(())
+    }
+
+    /// Becomes a text that came from the input, as `set_string`.
+    #[inline(always)]
+    pub fn set_input(&mut self, alloc: Global, bytes: &[u8]) -> Result<(), AllocError>
+        ensures ok { OnOk result (self.new ≡ Value.Input bytes.now) }
+        ensures err { OnErr result (self.new ≡ self.old) }
+    {
+        match self {
+            Value::Input(text) => text.assign(alloc, bytes),
+            _ => self.become_input(alloc, bytes),
+        }
+    }
+
+    /// The same, whatever it is.
+    #[inline(never)]
+    fn become_input(&mut self, alloc: Global, bytes: &[u8]) -> Result<(), AllocError>
+        ensures ok { OnOk result (self.new ≡ Value.Input bytes.now) }
+        ensures err { OnErr result (self.new ≡ self.old) }
+    {
+        *self = Value::Input(Bytes::from_slice(alloc, bytes)?);
+        Ok(())
     }
 }

@@ -53,7 +53,7 @@ paused g c = elim c.if-eventful.branch [
 -- memory is refused in a step
 pub returns-in-Err-advance-clause-runs : goal.returns-in-Err-advance-clause-runs
 returns-in-Err-advance-clause-runs g c =
-    let p = paused g c.before.before.before.before.before in
+    let p = paused g c.before.before.before.before in
     let m = c.if-eventful.runner in
     refused g.R.Source.may_give g.R.Source.over g.R.Source.handed g.W.Sink.may_hold c.args.program.now c.args.runner.now c.args.sink.now m c.advance.new.self c.if-eventful.sink c.refused.result
     p.settled c.output.ensures c.requires.compiled (record { code = c.advance.ensures.code; settings = c.advance.ensures.settings; sets = c.advance.ensures.sets; steps = c.advance.ensures.steps })
@@ -63,7 +63,7 @@ returns-in-Err-advance-clause-runs g c =
 
 pub returns-in-Err-advance-clause-failures : goal.returns-in-Err-advance-clause-failures
 returns-in-Err-advance-clause-failures g c =
-    let p = paused g c.before.before.before.before.before in
+    let p = paused g c.before.before.before.before in
     subst (λ (k : ℕ). CountsUp (g.W.Sink.failures c.args.sink.now) (g.W.Sink.failures c.if-eventful.sink) k) (ap (λ (r : Report). write_failures r.cause) (sym c.refused.ensures)) p.failures
 
 -- the next point
