@@ -330,7 +330,7 @@ impl Cells {
         self.set::<SAVES>(place, Value::Number(n))
     }
 
-    /// The same of a text that came from the input. Where nothing is saved, its bytes are written over those of such a text, if they fit there and nobody shares them.
+    /// `set` of a text that came from the input. Where nothing is saved and no text of a global grew, it is written by `Value::set_input`.
     #[inline(always)]
     pub fn set_input<const SAVES: bool>(
         &mut self,

@@ -176,7 +176,7 @@ impl<T: Drop> Stack<T> {
         self.slots.lend(number)
     }
 
-    /// Whether there is a slot behind the live values.
+    /// Whether there is a slot behind the live values; that it is told of where it is there, no clause says.
     #[inline(always)]
     pub fn has_next(&self) -> bool
         ensures { OnTrue result (self.now.now.live < length self.now.now.slots) }

@@ -49,7 +49,7 @@ impl Bytes {
         })
     }
 
-    /// Becomes a copy of a slice: in place where it fits there and nobody shares the bytes. It fails where memory is refused, and the bytes are then as they were.
+    /// Becomes a copy of a slice, in place as `Text::assign` writes it. It fails where memory is refused, and the bytes are then as they were.
     #[inline(always)]
     pub fn assign(&mut self, alloc: Global, bytes: &[u8]) -> Result<(), AllocError>
         ensures ok { OnOk result (self.new ≡ bytes.now) }

@@ -32,7 +32,7 @@ impl Value {
         }
     }
 
-    /// Becomes a text that the program made: over such a text no more than its bytes are written, where they fit there. It fails where memory is refused, and nothing has changed then.
+    /// Becomes a text that the program made, over such a text by `Bytes::assign`. It fails where memory is refused, and nothing has changed then.
     #[inline(always)]
     pub fn set_string(&mut self, alloc: Global, bytes: &[u8]) -> Result<(), AllocError>
         ensures ok { OnOk result (self.new ≡ Value.String bytes.now) }
@@ -54,7 +54,7 @@ impl Value {
         Ok(())
     }
 
-    /// Becomes a text that came from the input, as `set_string`.
+    /// The same of a text that came from the input.
     #[inline(always)]
     pub fn set_input(&mut self, alloc: Global, bytes: &[u8]) -> Result<(), AllocError>
         ensures ok { OnOk result (self.new ≡ Value.Input bytes.now) }
