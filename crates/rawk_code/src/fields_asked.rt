@@ -44,6 +44,7 @@ fn op_asks(op: &Op) -> bool {
         Op::SubstrOf(simple, place, count) => {
             simple_asks(simple) || place.get().asks_for_fields() || count.get().asks_for_fields()
         }
+        Op::JoinOf(simple, _, formula) => simple_asks(simple) || formula.get().asks_for_fields(),
         Op::ElementAt(_, from)
         | Op::Has(_, from)
         | Op::Delete(_, from)

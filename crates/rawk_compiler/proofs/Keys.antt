@@ -36,7 +36,7 @@ key_same [] f same run = refl
 key_same (m ∷ []) f same run = one_key (m run) f same
 key_same (m ∷ n ∷ ms) f same run = refl
 
-key_seen : (w : Scene) {m : _} (row : Row_of-Expr m) → Seen (key_action (evals w row)) (key_operand (items-the_row-Expr _ row))
+pub key_seen : (w : Scene) {m : _} (row : Row_of-Expr m) → Seen (key_action (evals w row)) (key_operand (items-the_row-Expr _ row))
 key_seen w end_of-Expr = tt
 key_seen w (more_of-Expr e end_of-Expr) = seen w e
 key_seen w (more_of-Expr e (more_of-Expr f rest)) = tt

@@ -35,12 +35,12 @@ use Rattle.rawk_code.specs.declared.code.Op.{Op}
 use Rattle.rawk_code.specs.declared.code.Op.TheVariants as does
 use Rattle.rawk_code.specs.declared.code.Instr.TheVariants as instr
 use Rattle.rawk_code.specs.Trace.{reads}
-use Rattle.rawk_selection.specs.Operands.{constant_field, simple_field, simple_of, term_of, computing_op, part_op, destination_of, operand_of, sought_operand, constant_operand}
+use Rattle.rawk_selection.specs.Operands.{pair_op, constant_field, simple_field, simple_of, term_of, computing_op, part_op, destination_of, operand_of, sought_operand, constant_operand}
 use Rattle.rawk_selection.specs.Conditions.{Fork, agrees, leap_on, deciding, logic_of, is_neutral, against}
-use Rattle.rawk_selection.specs.Added.{appending, added, added_op, appending_made, or_else, added_to}
+use Rattle.rawk_selection.specs.Added.{appending, added, added_ops, appending_made, or_else, added_to}
 use Rattle.rawk_selection.specs.Readings.{part_dropped, missing_code, getline_to_code}
 use Rattle.rawk_selection.specs.Jumps.{over}
-use Rattle.rawk_compiler.specs.Code.{unless_constant, separator_operand, right_operand, unless_ready, unless_one, pushed, joined, key_code, key_operand, forks_code, joined_fork, deciders, forks_by, fork_by, forks, link_fork, link_forks, fork_of, choice_code, decide_code, expr_code, expr_codes, effect_code, place_code, parts_code, link_code, link_codes, front_of, simples_behind, Piece, nowhere, always, in_turn, when_code, Arm, then_to, branch_to, if_code, step_around, body_around, loop_code, keys_around, keys_code, scalar_destination, jump_code, test_code, condition_code, condition_leap, stmt_code, stmt_codes, arms_of, closing_code, opened_code, guard_code, rule_code, records_code, main_code, begin_code, record_at_of, end_at_of, functions_at_of, function_code, functions_code, entries_of, program_code, HasAt, behind_point}
+use Rattle.rawk_compiler.specs.Code.{unless_constant, separator_operand, right_operand, unless_ready, unless_one, pushed, joined, key_code, key_operand, chained, forks_code, joined_fork, deciders, forks_by, fork_by, forks, link_fork, link_forks, fork_of, choice_code, decide_code, expr_code, expr_codes, effect_code, place_code, parts_code, link_code, link_codes, front_of, simples_behind, Piece, nowhere, always, in_turn, when_code, Arm, then_to, branch_to, if_code, step_around, body_around, loop_code, keys_around, keys_code, scalar_destination, jump_code, test_code, condition_code, condition_leap, stmt_code, stmt_codes, arms_of, closing_code, opened_code, guard_code, rule_code, records_code, main_code, begin_code, record_at_of, end_at_of, functions_at_of, function_code, functions_code, entries_of, program_code, HasAt, behind_point}
 use Rattle.rawk_code.specs.Valid.{rank_of, rank, IsEntry, Descends, IsValid}
 use Rattle.rawk_compiler.proofs.Follows.{has_front, has_back, has_all}
 use Rattle.rawk_compiler.proofs.Statements.{branches_length}
@@ -101,6 +101,11 @@ module _ (code : List Instr) where
   one_fine : (o : Option Op) (c : List Instr) → Fine c → Fine (unless_one o c)
   one_fine None c f = f
   one_fine (Some o) c f = fine_last [] (instr.Do o) (λ pc. tt) fine_none
+
+  chained_fine : (o : Option Op) (c : List Instr) (cs : List (List Instr)) → Fine c → AllFine cs → Fine (chained o c cs)
+  chained_fine None c cs f all = fine_append c (joined cs) f (joined_fine cs all)
+  chained_fine (Some o) c [] f all = fine_cons (instr.Do o) [] (λ pc. tt) fine_none
+  chained_fine (Some o) c (d ∷ cs) f all = fine_cons (instr.Do o) (joined cs) (λ pc. tt) (joined_fine cs all.1)
 
   pushed_fine : (o : Option Simple) (c : List Instr) → Fine c → Fine (pushed o c)
   pushed_fine None c f = f
@@ -207,7 +212,7 @@ module _ (code : List Instr) where
     expr_fine (expr.Text text) = fine_last [] (instr.Do (does.Push _)) (λ pc. tt) fine_none
     expr_fine (expr.Read p) = place_fine p
     expr_fine (expr.Unary' u p e) = one_fine (computing_op (term_of (expr.Unary' u p e))) (unless_ready (operand_of e) (expr_code e) ++ instr.Do (does.Unary u (operand_of e)) ∷ []) (fine_last (unless_ready (operand_of e) (expr_code e)) (instr.Do (does.Unary u (operand_of e))) (λ pc. tt) (unless_fine (operand_of e) (expr_code e) (expr_fine e)))
-    expr_fine (expr.Chain' p first shape more) = one_fine (computing_op (term_of (expr.Chain' p first shape more))) (expr_code first ++ joined (link_codes more)) (fine_append (expr_code first) (joined (link_codes more)) (expr_fine first) (joined_fine (link_codes more) (links_fine more)))
+    expr_fine (expr.Chain' p first shape more) = one_fine (computing_op (term_of (expr.Chain' p first shape more))) (chained (pair_op (simple_of first) (items-the_row-Link _ more)) (expr_code first) (link_codes more)) (chained_fine (pair_op (simple_of first) (items-the_row-Link _ more)) (expr_code first) (link_codes more) (expr_fine first) (links_fine more))
     expr_fine (expr.Choice' p a q b r c) = choice_fine (fork_by (forks a) (operand_of a) (expr_code a) false) (expr_code b) (expr_code c) (fork_by_fine (forks a) (operand_of a) (expr_code a) (test_fine a) (expr_fine a) false) (expr_fine b) (expr_fine c)
     expr_fine (expr.After op q) = fine_last (parts_code q) (instr.Do (does.After op (destination_of q))) (λ pc. tt) (parts_fine q)
     expr_fine (expr.Assign' q p e) =
@@ -304,16 +309,20 @@ module _ (code : List Instr) where
   appends_fine x [] = fine_none
   appends_fine x (from ∷ froms) = fine_cons (instr.Do (does.Append x from)) (map (appending x) froms) (λ pc. tt) (appends_fine x froms)
 
-  made_fine : (x : Variable) (o : Option Op) → Fine (appending_made x o)
-  made_fine x None = fine_none
-  made_fine x (Some o) = fine_cons (instr.Do o) (instr.Do (does.AppendPopped x) ∷ []) (λ pc. tt) (fine_cons (instr.Do (does.AppendPopped x)) [] (λ pc. tt) fine_none)
+  ops_fine : (os : List Op) → Fine (map (λ o. instr.Do o) os)
+  ops_fine [] = fine_none
+  ops_fine (o ∷ os) = fine_cons (instr.Do o) (map (λ o. instr.Do o) os) (λ pc. tt) (ops_fine os)
+
+  made_fine : (x : Variable) (os : List Op) → Fine (appending_made x os)
+  made_fine x [] = fine_none
+  made_fine x (o ∷ os) = ops_fine (o ∷ (os ++ does.AppendPopped x ∷ []))
 
   either_fine : (c other : List Instr) → Fine c → Fine other → Fine (or_else c other)
   either_fine [] other f g = g
   either_fine (i ∷ c) other f g = f
 
   added_fine : (x : Destination) (e : Expr) → Fine (added_to x e)
-  added_fine (destination.Variable x) e = either_fine (map (appending x) (added x e)) (appending_made x (added_op x e)) (appends_fine x (added x e)) (made_fine x (added_op x e))
+  added_fine (destination.Variable x) e = either_fine (map (appending x) (added x e)) (appending_made x (added_ops x e)) (appends_fine x (added x e)) (made_fine x (added_ops x e))
   added_fine destination.FieldCount e = fine_none
   added_fine (destination.Field n) e = fine_none
   added_fine destination.FieldBelow e = fine_none
