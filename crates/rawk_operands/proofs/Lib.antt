@@ -1,2 +1,1 @@
 pub mod BorrowedLemmas
-pub mod Puts

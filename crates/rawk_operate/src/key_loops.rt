@@ -13,7 +13,7 @@ use crate::assign::{drop_place, target_by};
 use crate::transfer::{Transfer, over};
 use rawk_code::{Destination, Instr};
 use rawk_operands::borrowed::popped_borrowed;
-use rawk_operands::place::put_in;
+use rawk_places::place::put_in;
 use rawk_store::{KeysLeft, Store};
 use rawk_value::{Bytes, Value};
 use rawk_words::Array;

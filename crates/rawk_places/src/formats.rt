@@ -5,7 +5,7 @@ ghost use Rattle.rawk_operators.specs.Operators.{formatted_by};
 ghost use Rattle.rawk_store.specs.Stacked.{live_values};
 ghost use Rattle.rawk_code.specs.Machine.{top};
 
-use crate::borrowed::popped_borrowed;
+use rawk_operands::borrowed::popped_borrowed;
 use rawk_operators::format;
 use rawk_store::Operands;
 use rawk_value::{Bytes, Fault};

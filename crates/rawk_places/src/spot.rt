@@ -11,10 +11,10 @@ ghost use Rattle.rawk_operators.specs.Borrowed.{borrowed_value};
 ghost use Rattle.rawk_store.specs.Layout.{Grown};
 ghost use Rattle.rawk_store.specs.Stores.{start_of};
 ghost use Rattle.rawk_operands.specs.Moving.{moving, HasPut, target_value, touched};
-ghost use Rattle.rawk_operands.specs.Spots.{IsSpot};
+ghost use Rattle.rawk_places.specs.Spots.{IsSpot};
 
-use crate::borrowed::target_borrowed;
 use crate::place::{put_in, touch};
+use rawk_operands::borrowed::target_borrowed;
 use rawk_operators::Borrowed;
 use rawk_store::{Arrays, Store, Target, array_number};
 use rawk_value::{Fault, Value};
