@@ -23,6 +23,7 @@ use Rattle.rawk_machine.specs.declared.step.Step.{Step}
 use Rattle.rawk_machine.specs.declared.step.Step.TheVariants as step
 use Rattle.rawk_machine.specs.Standing.{Standing, MayCome, IsAt, IsPointOf, IsEndOf, StandsIn, stands_by, given_of, step_of, dropped}
 use Rattle.rawk_machine.specs.InTrace.{stands_in_trace}
+use Rattle.rawk_machine.specs.Onward.{StepsTo, Passes, GoesOn, BreaksOff}
 use Rattle.rawk.specs.declared.report.Report.{Report}
 use Rattle.rawk.specs.declared.report.Cause.{Cause}
 use Rattle.rawk.specs.declared.report.Cause.TheVariants as cause
@@ -68,10 +69,6 @@ none_counted a = omega arith
 -- failures of a sink, counted on
 pub counted : (a b c m n : ℕ) → CountsUp a b 0 → CountsUp b c m → m ≡ n → CountsUp a c n
 counted a b c m n first then same = omega (arith, first, then, same)
-
--- fewer steps are left
-pub fewer : {S : Type 0} (m given n : Standing S) → given.steps ≡ m.steps → given.point ≡ m.point → n.steps ≡ given.steps → n.point ≡ given.point + 1 → n.point ≤ n.steps → n.steps - n.point < m.steps - m.point
-fewer m given n a b c d within = omega (arith, a, b, c, d, within)
 
 -- the output where a machine stands
 pub output_here : {S : Type 0} (e : Option Ending) (t : Trace) (machine : Standing S) (handed : Bytes) → stands_by e t machine handed → output_at t machine.point ≡ handed ++ machine.state.output
@@ -321,7 +318,7 @@ settled {S} may_give drawn may_hold start sink m n now now2 so on source =
     }
 
 -- one step on
-pub advanced : {S V : Type 0} (may_give : S → Input → Type 0) (over : S → Option End) (drawn : S → ℕ) (may_hold : V → Bytes → Type 0) (start : Standing S) (sink : V) (m n : Standing S) (now : V) → Settled may_give drawn may_hold start sink m now
+advanced : {S V : Type 0} (may_give : S → Input → Type 0) (over : S → Option End) (drawn : S → ℕ) (may_hold : V → Bytes → Type 0) (start : Standing S) (sink : V) (m n : Standing S) (now : V) → Settled may_give drawn may_hold start sink m now
     → SameRun m n → n.point ≡ m.point + 1
     → ((gone : Bytes) (input : Input) → MayCome may_give n gone input → MayCome may_give m gone input)
     → ((gone : Bytes) → (input : Input) × MayCome may_give n gone input)
@@ -346,6 +343,12 @@ advanced may_give over drawn may_hold start sink m n now so same point may still
   some = still so.gone;
   taken = so.taken;
 }
+
+stepped : {S V : Type 0} (may_give : S → Input → Type 0) (over : S → Option End) (drawn : S → ℕ) (may_hold : V → Bytes → Type 0) (start : Standing S) (sink : V) (m n : Standing S) (now : V) → Settled may_give drawn may_hold start sink m now → StepsTo may_give over drawn m n
+    → SoFar may_give drawn may_hold start sink n now
+stepped may_give over drawn may_hold start sink m n now so to =
+    let step = to.step in
+    advanced may_give over drawn may_hold start sink m n now so (record { code = step.code; settings = step.settings; sets = step.sets; steps = step.steps }) to.point step.may step.still to.stands step.asks step.draws
 
 same_report : (r report : Report) → Some r ≡ Some report → r ≡ report
 same_report r report is = cc
@@ -395,7 +398,7 @@ not_written may_give over drawn may_hold p start sink m now now2 report so law c
 }
 
 -- memory is refused in a step from a point
-pub refused : {S V : Type 0} (may_give : S → Input → Type 0) (over : S → Option End) (drawn : S → ℕ) (may_hold : V → Bytes → Type 0) (p : Program) (start : Standing S) (sink : V) (m n : Standing S) (now : V) (report : Report) → Settled may_give drawn may_hold start sink m now
+refused : {S V : Type 0} (may_give : S → Input → Type 0) (over : S → Option End) (drawn : S → ℕ) (may_hold : V → Bytes → Type 0) (p : Program) (start : Standing S) (sink : V) (m n : Standing S) (now : V) (report : Report) → Settled may_give drawn may_hold start sink m now
     → OutputLaw → CodeOf p start.code → SameRun m n → m.ending ≡ None
     → ((gone : Bytes) (input : Input) → MayCome may_give n gone input → MayCome may_give m gone input)
     → ((gone : Bytes) → (input : Input) × MayCome may_give n gone input)
@@ -449,22 +452,33 @@ paused_on may_give drawn may_hold failed start sink m n now now2 lines so none o
   failures = counted (failed sink) (failed now) (failed now2) 0 0 none more refl;
 }
 
--- there is none
-pub paused_still : {S V : Type 0} (may_give : S → Input → Type 0) (drawn : S → ℕ) (may_hold : V → Bytes → Type 0) (failed : V → ℕ) (start : Standing S) (sink : V) (m : Standing S) (now : V)
-    → SoFar may_give drawn may_hold start sink m now → CountsUp (failed sink) (failed now) 0 → m.state.output ≡ [] → m.ending ≡ None → Paused may_give drawn may_hold failed start sink m m now
-paused_still may_give drawn may_hold failed start sink m now so none silent going = record {
-  settled = settled may_give drawn may_hold start sink m m now now so (hands_nothing may_give may_hold m now silent) refl;
-  going = going;
-  point = refl;
-  steps = refl;
-  failures = none;
-}
+-- over points where there is no output
+passed_on : {S V : Type 0} (may_give : S → Input → Type 0) (over : S → Option End) (drawn : S → ℕ) (may_hold : V → Bytes → Type 0) (start : Standing S) (sink : V) (m last : Standing S) (now : V) (passed : List (Standing S)) → Settled may_give drawn may_hold start sink m now → m.ending ≡ None
+    → Passes may_give over drawn passed m last → Settled may_give drawn may_hold start sink last now × (last.ending ≡ None) × (last.steps ≡ m.steps) × (m.point ≤ last.point)
+passed_on {S} may_give over drawn may_hold start sink m last now [] so going same =
+    subst (λ (x : Standing S). Settled may_give drawn may_hold start sink x now × (x.ending ≡ None) × (x.steps ≡ m.steps) × (m.point ≤ x.point)) (sym same) (so, going, refl, omega arith)
+passed_on {S} may_give over drawn may_hold start sink m last now (n ∷ ns) so going (same, before, passes, to, goes, none) =
+    let p = passed_on may_give over drawn may_hold start sink m before now ns so going passes in
+    let at : Settled may_give drawn may_hold start sink n now = settled may_give drawn may_hold start sink n n now now (stepped may_give over drawn may_hold start sink before n now p.0 to) (hands_nothing may_give may_hold n now none) refl in
+    subst (λ (x : Standing S). Settled may_give drawn may_hold start sink x now × (x.ending ≡ None) × (x.steps ≡ m.steps) × (m.point ≤ x.point)) (sym same) (at, goes, to.step.steps ∙ p.2, omega (arith, to.point, p.3))
 
--- the same of what is equal to them
-pub paused_is : {S V : Type 0} (may_give : S → Input → Type 0) (drawn : S → ℕ) (may_hold : V → Bytes → Type 0) (failed : V → ℕ) (start : Standing S) (sink : V) (m n r : Standing S) (now s : V)
-    → r ≡ n → s ≡ now → Paused may_give drawn may_hold failed start sink m n now → Paused may_give drawn may_hold failed start sink m r s
-paused_is may_give drawn may_hold failed start sink m n r now s one two p =
-    subst (λ x. Paused may_give drawn may_hold failed start sink m x s) (sym one) (subst (λ x. Paused may_give drawn may_hold failed start sink m n x) (sym two) p)
+-- a run that went on, and how many steps are left to it
+pub went_on : {S V : Type 0} (may_give : S → Input → Type 0) (over : S → Option End) (drawn : S → ℕ) (may_hold : V → Bytes → Type 0) (failed : V → ℕ) (start : Standing S) (sink : V) (m n r : Standing S) (now : V) → Paused may_give drawn may_hold failed start sink m n now
+    → GoesOn may_give over drawn n r → SoFar may_give drawn may_hold start sink r now × (r.point ≤ r.steps → r.steps - r.point < m.steps - m.point)
+went_on may_give over drawn may_hold failed start sink m n r now p on =
+    let at = passed_on may_give over drawn may_hold start sink n on.last now on.passed p.settled p.going on.passes in (
+      stepped may_give over drawn may_hold start sink on.last r now at.0 on.step,
+      λ within. omega (arith, within, p.steps, p.point, at.2, at.3, on.step.step.steps, on.step.point),
+    )
+
+-- a run that was refused memory
+pub broke_off : {S V : Type 0} (may_give : S → Input → Type 0) (over : S → Option End) (drawn : S → ℕ) (may_hold : V → Bytes → Type 0) (failed : V → ℕ) (p : Program) (start : Standing S) (sink : V) (m n r : Standing S) (now : V) (report : Report) → Paused may_give drawn may_hold failed start sink m n now
+    → OutputLaw → CodeOf p start.code → BreaksOff may_give over drawn n r → refused_behind p r.point r.site ≡ report → Runs may_give over drawn may_hold p start r.tape.source sink now report
+broke_off may_give over drawn may_hold failed p start sink m n r now report paused law compiled off is =
+    let at = passed_on may_give over drawn may_hold start sink n off.last now off.passed paused.settled paused.going off.passes in
+    let step = off.step in
+    refused may_give over drawn may_hold p start sink off.last r now report at.0 law compiled (record { code = step.code; settings = step.settings; sets = step.sets; steps = step.steps }) at.1 step.may step.still step.asks step.draws
+    (ap (λ (k : ℕ). refused_behind p k off.last.site) (sym off.point) ∙ ap (λ (s : Option ℕ). refused_behind p r.point s) (sym off.site) ∙ is)
 
 -- nothing is written before point 0
 first_by : (t : Trace) (found : Option Point) → slice_get t.run.points 0 ≡ found → ((a : Point) → slice_get t.run.points 0 ≡ Some a → a.state.output ≡ []) → (t.run.points ≡ [] → out t ≡ []) → output_or t found ≡ []

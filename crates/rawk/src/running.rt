@@ -58,7 +58,7 @@ fn refused(program: &Program, point: u64, site: Option<usize>) -> Report
 }
 
 /// Hands on the output that a run did not give yet, and, where the step left any, lets go what it needs no more of its input. Where the sink fails, the run stands
-/// at its point. A call of its own, out of the way of steps that need none of this.
+/// at its point.
 #[cold]
 #[inline(never)]
 fn hand_on<R: Source + Drop, W: Sink>(
@@ -103,18 +103,16 @@ fn run_on<R: Source + Drop, W: Sink>(
     laws::output();
     let mut eventful = true;
     'steps: loop {
-        if eventful || runner.is_over() || runner.has_output() {
-            match hand_on(alloc, runner, sink, eventful) {
-                Ok(()) => {}
-                Err(_) => return stopped(Cause::Faulted(Fault::WriteFailed), runner.point()),
-            }
-            match reported(program, runner) {
-                Some(report) => return report,
-                None => {}
-            }
+        match hand_on(alloc, runner, sink, eventful) {
+            Ok(()) => {}
+            Err(_) => return stopped(Cause::Faulted(Fault::WriteFailed), runner.point()),
+        }
+        match reported(program, runner) {
+            Some(report) => return report,
+            None => {}
         }
         eventful = false;
-        match runner.advance(alloc, &mut eventful) {
+        match runner.go_on(alloc, &mut eventful) {
             Ok(_) => {}
             Err(_) => return refused(program, runner.point(), runner.site()),
         }

@@ -512,15 +512,11 @@ fn place_of(
     ensures absent { IfNone result (length (locals_now (frames_from (live_values frames.now.now) (live_slots locals.now.now))) ≤ number) }
 {
     let count = locals.len();
-    match base.checked_add(number) {
-        Some(place) => {
-            if place < count {
-                return Some(place);
-            }
-            None
-        }
-        None => None,
+    let place = base.saturating_add(number);
+    if place < count {
+        return Some(place);
     }
+    None
 }
 
 /// A local of the newest activation.

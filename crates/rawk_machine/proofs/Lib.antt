@@ -9,3 +9,4 @@ pub mod Forths
 pub mod Befores
 pub mod EarlierElements
 pub mod Askings
+pub mod Onwards

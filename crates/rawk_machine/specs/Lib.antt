@@ -7,3 +7,4 @@ pub mod Stood
 pub mod Elements
 pub mod Drops
 pub mod Asked
+pub mod Onward

@@ -6,10 +6,10 @@ ghost use Rattle.rawk_tape.specs.Tapes.{MayBe};
 ghost use Rattle.rawk_tape.specs.declared.source.Ending.{Ending as End};
 ghost use Rattle.rawk_store.specs.Layout.{Grown, IsSound};
 ghost use Rattle.rawk_store.specs.Stores.{BeganNested, now_of, start_of};
-ghost use Rattle.rawk_travel.specs.Travel.{HasRoom};
+ghost use Rattle.rawk_travel.specs.Travel.{HasRoom, IsThere, Stops};
 ghost use Rattle.rawk_travel.specs.Asking.{Asks, Draws};
 ghost use Rattle.rawk_operands.specs.Moving.{moving};
-ghost use Rattle.rawk_steps.specs.Arrival.{settled, site_by, with_registers, Arrives, ends_quietly, EndsByRead, IsSettled};
+ghost use Rattle.rawk_steps.specs.Arrival.{settled, site_by, with_registers, Arrives, HasCome, ends_quietly, EndsByRead, IsSettled};
 
 use rawk_code::Code;
 use rawk_patterns::Expressions;
@@ -40,26 +40,42 @@ fn end_at_limit(store: &mut Store, site: Option<usize>)
     store.registers.now.ending = Some(Ending::Limited(site));
 }
 
-/// Enters the point number `count`, or ends the run there at the limit of steps; or ends it where instructions led to the end.
+/// Where a step has come to.
+#[derive(Clone, Copy)]
+pub enum Came {
+    /// at a point with this site
+    At(Option<usize>),
+    /// at the ending
+    Over,
+}
+
+/// Enters the point number `count`, behind which `place` is then, or ends the run there at the limit of steps; or ends it where instructions led to the end.
 #[inline]
-fn enter_point(store: &mut Store, to: Next, count: u64, limit: u64)
-    requires { HasRoom to store.old.registers.now.place }
+fn enter_point(store: &mut Store, to: Next, count: u64, limit: u64, place: &mut usize) -> Came
+    requires room { HasRoom to store.old.registers.now.place }
+    requires stops { Stops to }
+    requires there { IsThere to place.old store.old.registers.now.place }
+    requires running { store.old.registers.now.ending ≡ None }
+    ensures came { HasCome result place.new store.new.registers.now }
     ensures did { moving store.new ≡ with_registers (settled to count limit store.old.registers.now) (moving store.old) }
     ensures start { start_of store.new ≡ start_of store.old }
 {
     match to {
-        Next::On => {}
+        Next::On => Came::Over,
         Next::Over(ending) => {
             store.registers.now.ending = Some(ending);
+            Came::Over
         }
         Next::Arrive(site) => {
             if count == limit {
                 end_at_limit(store, site);
-            } else {
-                store.registers.now.site = site;
-                store.registers.now.here = count;
-                store.registers.now.place += 1;
+                return Came::Over;
             }
+            store.registers.now.site = site;
+            store.registers.now.here = count;
+            *place += 1;
+            store.registers.now.place = *place;
+            Came::At(site)
         }
     }
 }
@@ -98,6 +114,7 @@ pub fn step<R: Source + Drop>(
 {
     let consumed = tape.consumed();
     let mut eventful = false;
+    let mut place = store.registers.now.place;
     store.known();
     match travel::<R, true>(
         alloc,
@@ -107,9 +124,10 @@ pub fn step<R: Source + Drop>(
         tape,
         executed,
         &mut eventful,
+        &mut place,
     ) {
         Ok(to) => {
-            enter_point(store, to, count, limit);
+            enter_point(store, to, count, limit, &mut place);
             Ok(())
         }
         Err(refused) => {
@@ -121,7 +139,7 @@ pub fn step<R: Source + Drop>(
 }
 
 /// The same of a run that keeps nothing, up to the point number `point + more`: no old value is saved, and where memory is refused the parts are of no more use. Where there may be input or
-/// memory to let go behind it, `eventful` becomes true.
+/// memory to let go behind it, `eventful` becomes true. `place` is where the next instruction stands, before and, at a point, behind.
 #[inline(always)]
 pub fn pace<R: Source + Drop>(
     alloc: Global,
@@ -134,24 +152,33 @@ pub fn pace<R: Source + Drop>(
     point: &u64,
     more: u64,
     limit: &u64,
-) -> Result<(), AllocError>
+    place: &mut usize,
+) -> Result<Came, AllocError>
+    requires here { place.old ≡ store.old.registers.now.place }
     requires number { point.now + more < 2 ^ 64 }
     requires running { store.old.registers.now.ending ≡ None }
     requires consumed { tape.old.consumed ≡ store.old.registers.now.consumed }
     ensures may { (kept : Input) → MayBe R.may_give tape.new kept → MayBe R.may_give tape.old kept }
     ensures did { OnOk result (Arrives R.may_give code.now tape.new (point.now + more) limit.now (moving store.old) (moving store.new)) }
     ensures settled { OnOk result (IsSettled (point.now + more) limit.now store.new.registers.now) }
+    ensures came { IfOk result (λ came. HasCome came place.new store.new.registers.now) }
     ensures consumed { OnOk result (tape.new.consumed ≡ store.new.registers.now.consumed) }
     ensures asks { Asks R.may_give code.now tape.old.bytes tape.new (moving store.old) }
     ensures draws { Draws R.over R.handed tape.old tape.new }
     ensures quiet { OnOk result (ends_quietly store.new.registers.now.ending) }
     ensures failed { OnOk result (EndsByRead store.new.registers.now.ending (R.over tape.new.source ≡ Some End.Failed)) }
 {
-    match travel::<R, false>(alloc, expressions, code, store, tape, executed, eventful) {
-        Ok(to) => {
-            enter_point(store, to, *point + more, *limit);
-            Ok(())
-        }
+    match travel::<R, false>(
+        alloc,
+        expressions,
+        code,
+        store,
+        tape,
+        executed,
+        eventful,
+        place,
+    ) {
+        Ok(to) => Ok(enter_point(store, to, *point + more, *limit, place)),
         Err(refused) => Err(refused),
     }
 }
