@@ -18,9 +18,8 @@ use Rattle.rawk_code.specs.declared.code.Instr.TheVariants as instr
 use Rattle.rawk_code.specs.Actions.{Point, Run, Ended, Limited, Stops, Goes, Breaks, sets_at, Given}
 use Rattle.rawk_code.specs.Trace.{reads, start}
 use Rattle.rawk_code.specs.Machine.{Phase, InBegin, InEnd, to_main, has_next, Places, Config, Going, goes_on, act, steps}
-use Rattle.rawk_selection.specs.Operands.{operand_of}
 use Rattle.rawk_selection.specs.Jumps.{over}
-use Rattle.rawk_compiler.specs.Code.{unless_ready, expr_code, fork_of, condition_code, condition_leap, Piece, nowhere, always, in_turn, Arm, then_to, branch_to, if_code, step_around, body_around, loop_code, keys_around, keys_code, scalar_destination, jump_code, stmt_code, stmt_codes, arms_of, main_code, begin_code, end_at_of, functions_at_of, functions_code, program_code, HasAt}
+use Rattle.rawk_compiler.specs.Code.{fork_of, return_code, condition_code, condition_leap, Piece, nowhere, always, in_turn, Arm, then_to, branch_to, if_code, step_around, body_around, loop_code, keys_around, keys_code, scalar_destination, jump_code, stmt_code, stmt_codes, arms_of, main_code, begin_code, end_at_of, functions_at_of, functions_code, program_code, HasAt}
 use Rattle.rawk_code.specs.Laws.{IsBeginning, FirstIsSilent, FirstOutputLaw}
 use Rattle.rawk_code.specs.Steps.{run_of, with_point, all_set_same, steps_grow, over_stays}
 use Rattle.rawk_compiler.proofs.Follows.{has_front, has_back, has_all}
@@ -180,7 +179,7 @@ module _ (code : List Instr) where
     stmt_opens (stmt.Exit site) = point_opens site (always _)
     stmt_opens (stmt.ExitWith site e) = point_opens site (always _)
     stmt_opens (stmt.Return site) = point_opens site (λ w at. instr.Return w.held (operand.Given simple.Uninitialized) ∷ [])
-    stmt_opens (stmt.ReturnWith site e) = point_opens site (λ w at. unless_ready (operand_of e) (expr_code e) ++ instr.Return w.held (operand_of e) ∷ [])
+    stmt_opens (stmt.ReturnWith site e) = point_opens site (λ w at. return_code e w.held)
     stmt_opens (stmt.Delete site a subscripts) = point_opens site (always _)
     stmt_opens (stmt.Clear site a) = point_opens site (always _)
     stmt_opens (stmt.ForIn' site x a p body) = keys_opens site a (scalar_destination x) (stmt_code body)

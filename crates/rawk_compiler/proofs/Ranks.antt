@@ -40,10 +40,11 @@ use Rattle.rawk_selection.specs.Conditions.{Fork, agrees, leap_on, deciding, log
 use Rattle.rawk_selection.specs.Added.{appending, added, added_ops, appending_made, or_else, added_to}
 use Rattle.rawk_selection.specs.Readings.{part_dropped, missing_code, getline_to_code}
 use Rattle.rawk_selection.specs.Jumps.{over}
-use Rattle.rawk_compiler.specs.Code.{unless_constant, separator_operand, right_operand, unless_ready, unless_one, pushed, joined, key_code, key_operand, chained, forks_code, joined_fork, deciders, forks_by, fork_by, forks, link_fork, link_forks, fork_of, choice_code, decide_code, expr_code, expr_codes, effect_code, place_code, parts_code, link_code, link_codes, front_of, simples_behind, Piece, nowhere, always, in_turn, when_code, Arm, then_to, branch_to, if_code, step_around, body_around, loop_code, keys_around, keys_code, scalar_destination, jump_code, test_code, condition_code, condition_leap, stmt_code, stmt_codes, arms_of, closing_code, opened_code, guard_code, rule_code, records_code, main_code, begin_code, record_at_of, end_at_of, functions_at_of, function_code, functions_code, entries_of, program_code, HasAt, behind_point}
+use Rattle.rawk_compiler.specs.Code.{unless_constant, separator_operand, right_operand, unless_ready, unless_one, pushed, joined, key_code, key_operand, chained, forks_code, joined_fork, deciders, forks_by, fork_by, forks, link_fork, link_forks, fork_of, choice_code, decide_code, expr_code, expr_codes, effect_code, place_code, parts_code, link_code, link_codes, front_of, simples_behind, Piece, nowhere, always, in_turn, when_code, Arm, then_to, branch_to, if_code, step_around, body_around, loop_code, keys_around, keys_code, scalar_destination, jump_code, test_code, returns_code, return_code, condition_code, condition_leap, stmt_code, stmt_codes, arms_of, closing_code, opened_code, guard_code, rule_code, records_code, main_code, begin_code, record_at_of, end_at_of, functions_at_of, function_code, functions_code, entries_of, program_code, HasAt, behind_point}
 use Rattle.rawk_code.specs.Valid.{rank_of, rank, IsEntry, Descends, IsValid}
 use Rattle.rawk_compiler.proofs.Follows.{has_front, has_back, has_all}
 use Rattle.rawk_compiler.proofs.Statements.{branches_length}
+use Rattle.rawk_compiler.proofs.Trees.{each_return}
 use Rattle.rawk_compiler.proofs.Calls.{PlacedAt, all_placed}
 
 module _ (code : List Instr) where
@@ -185,6 +186,11 @@ module _ (code : List Instr) where
       let both = fine_append first (instr.GoOn (length second) ∷ second) fy other in
       let leap = over (length first + 1) t.leap in
       fine_append t.front (leap ∷ (first ++ (instr.GoOn (length second) ∷ second))) ft.front (fine_cons leap (first ++ (instr.GoOn (length second) ∷ second)) (λ pc. ft.leap pc (length first + 1)) both)
+
+  returns_fine : (t : Fork) (first second : List Instr) → FineFork t → Fine first → Fine second → Fine (returns_code t first second)
+  returns_fine t first second ft fy fn =
+      let leap = over (length first) t.leap in
+      fine_append t.front (leap ∷ (first ++ second)) ft.front (fine_cons leap (first ++ second) (λ pc. ft.leap pc (length first)) (fine_append first second fy fn))
 
   decide_fine : (l : Logic) (test : List Instr) (from : Operand) → Fine test → Fine (decide_code l test from)
   decide_fine l test from ft = fine_cons (instr.Decide l (length test + 1)) (test ++ instr.Do (does.Truth from) ∷ []) (λ pc. tt) (fine_last test (instr.Do (does.Truth from)) (λ pc. tt) ft)
@@ -499,6 +505,10 @@ module _ (code : List Instr) where
   tested_fine : (e : Expr) → Fine (unless_ready (operand_of e) (expr_code e))
   tested_fine e = unless_fine (operand_of e) (expr_code e) (expr_fine e)
 
+  return_fine : (e : Expr) (held : ℕ) → Fine (return_code e held)
+  return_fine = each_return (λ e c. (held : ℕ) → Fine (c held)) (λ e held. fine_last (unless_ready (operand_of e) (expr_code e)) (instr.Return held (operand_of e)) (λ pc. tt) (tested_fine e))
+      (λ p q r a b c fb fc held. returns_fine (fork_of a false) (return_code b held) (return_code c held) (fork_fine a false) (fb held) (fc held))
+
   mutual
     stmt_fine : (s : Stmt) → FinePiece (stmt_code s)
     stmt_fine (stmt.Do site e) = always_fine _ (fine_cons (instr.Point (Some site)) _ (λ pc. tt) (effect_fine e))
@@ -522,8 +532,7 @@ module _ (code : List Instr) where
     stmt_fine (stmt.ExitWith site e) =
         always_fine _ (fine_append (test_code site e) _ (fine_cons (instr.Point (Some site)) _ (λ pc. tt) (tested_fine e)) (fine_cons (instr.Do (does.SetStatus (operand_of e))) _ (λ pc. tt) (fine_cons instr.Quit [] (λ pc. tt) fine_none)))
     stmt_fine (stmt.Return site) = record { by = λ w pc to has le safe. (tt, (tt, tt)) }
-    stmt_fine (stmt.ReturnWith site e) =
-        record { by = λ w pc to has le safe. (fine_last (test_code site e) (instr.Return w.held (operand_of e)) (λ pc. tt) (fine_cons (instr.Point (Some site)) _ (λ pc. tt) (tested_fine e))).by pc has }
+    stmt_fine (stmt.ReturnWith site e) = record { by = λ w pc to has le safe. (tt, (return_fine e w.held).by (pc + 1) has.1) }
     stmt_fine (stmt.Delete site a subscripts) =
         let from = key_operand subscripts.items in
         let c = key_code (map expr_code subscripts.items) in
