@@ -3,7 +3,6 @@ use Rattle.rawk_value.specs.declared.fault.Fault.TheVariants.{WriteFailed}
 use Rattle.rawk.specs.declared.report.Cause.TheVariants as cause
 use Rattle.rawk.specs.declared.report.Report.{Report}
 use Rattle.rawk.specs.Reports.{stopped_by, write_failures}
-use Rattle.rawk_tape.specs.Inputs.{CountsUp}
 use Rattle.rawk.specs.Runs.{Runs, refused_behind}
 use Rattle.rawk.proofs.SoFar.{begun, none_counted, counted, settled, ended, not_written, paused_on, went_on, broke_off}
 use Rattle.rawk.proofs.running.run_on.Goals as goal
