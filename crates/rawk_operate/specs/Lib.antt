@@ -2,9 +2,10 @@ pub mod Appends
 pub mod Done
 pub mod DoneLaws
 pub mod Line
-pub mod Replacing
+pub mod LineLaws
 pub mod Quiets
 pub mod Touches
 pub mod AssignLaws
+pub mod PutLaws
 pub mod ActLaws
 pub mod InPlace

@@ -6,8 +6,5 @@ pub mod assign;
 pub mod elements;
 mod in_place;
 pub mod key_loops;
-pub mod print;
 pub mod push;
-pub mod replace;
-pub mod split;
 pub mod transfer;

@@ -3,7 +3,7 @@ use Rattle.rawk_value.specs.Values.{text_of}
 use Rattle.rawk_store.specs.Stacked.{live_values}
 use Rattle.rawk_operators.specs.Borrowed.{borrowed_value}
 use Rattle.rawk_operate.specs.Line.{pieces_behind}
-use Rattle.rawk_operate.proofs.Lines.{operand_printed}
+use Rattle.rawk_operate.specs.LineLaws.{operand_printed}
 use Rattle.rawk_operate.proofs.Subscripts.{key_whole}
 use Rattle.rawk_operate.proofs.elements.joined_operands.Goals as goal
 

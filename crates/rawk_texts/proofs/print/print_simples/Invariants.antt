@@ -4,7 +4,7 @@ use Rattle.rawk_frames.specs.LaidFrames.{frames_of}
 use Rattle.rawk_operators.specs.Borrowed.{borrowed_value}
 use Rattle.rawk_operate.specs.Line.{pieces_behind}
 use Rattle.rawk_operands.specs.Moving.{simple_of}
-use Rattle.rawk_operate.proofs.print.print_simples.Given as goal
+use Rattle.rawk_texts.proofs.print.print_simples.Given as goal
 
 abbrev pub invariant-loop-simple : goal.invariant-loop-simple
 invariant-loop-simple l = record {

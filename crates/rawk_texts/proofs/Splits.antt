@@ -1,12 +1,16 @@
 -- Arrays that take the parts of a text: the instruction does what its definition says.
-use Rattle.std.proofs.Common.{◌≡◌, ◌+◌, List, ◌∷◌, length, drop, Result, Ok, Err, refl, ap, ◌∙◌}
+use Rattle.std.proofs.Common.{◌≡◌, ◌+◌, Bool, false, List, ◌∷◌, length, drop, Option, None, Some, Result, Ok, Err, refl, ap, ◌∙◌}
 use Rattle.std.specs.Prelude.{ℕ, pos}
 use Rattle.rawk_words.specs.declared.array.Array.{Array}
 use Rattle.rawk_value.specs.declared.fault.Fault.{Fault}
 use Rattle.rawk_value.specs.declared.value.Value.{Value}
 use Rattle.rawk_value.specs.declared.value.Value.TheVariants.{Number}
-use Rattle.rawk_value.specs.Values.{Bytes, next_ok}
+use Rattle.rawk_value.specs.Values.{Bytes, next_ok, text_of}
 use Rattle.rawk_tree.specs.declared.tree.Separation.{Separation}
+use Rattle.rawk_tree.specs.declared.tree.Separation.TheVariants as separation
+use Rattle.rawk_ere_tree.specs.Tree.{Tree}
+use Rattle.rawk_search.specs.Expressions.{ere_of}
+use Rattle.rawk_record.specs.Fields.{dynamic_parts}
 use Rattle.rawk_operators.specs.Operators.{separated}
 use Rattle.rawk_arrays.specs.Elements.{Elements}
 use Rattle.rawk_store.specs.declared.registers.Ending.TheVariants as ending
@@ -20,11 +24,18 @@ use Rattle.rawk_operate.specs.declared.transfer.Transfer.{Transfer}
 use Rattle.rawk_operate.specs.declared.transfer.Transfer.TheVariants as transfer
 use Rattle.rawk_operands.specs.Moving.{Moving, full, operand_in, left_in, with_arrays, with_operands}
 use Rattle.rawk_operate.specs.Done.{Done, phases_left}
-use Rattle.rawk_operate.specs.DoneLaws.{le_same, need_then}
-use Rattle.rawk_operate.specs.AssignLaws.{EndsBy, taking_is}
-use Rattle.rawk_operate.specs.DoneLaws.{by_parts}
-use Rattle.rawk_operate.specs.AssignLaws.{ends_here}
-use Rattle.rawk_operate.specs.Quiets.{quiet_made, quiet_separated}
+use Rattle.rawk_operate.specs.DoneLaws.{by_parts, le_same, need_then}
+use Rattle.rawk_operate.specs.AssignLaws.{EndsBy, ends_here, taking_is}
+use Rattle.rawk_operate.specs.Quiets.{Quiet, quiet_fields, quiet_made}
+
+-- how a text is separated has no fault of reading, of writing or of memory
+quiet_parts : (e : Option Tree) (newline : Bool) (s : Bytes) → Quiet (dynamic_parts e newline s)
+quiet_parts None newline s = tt
+quiet_parts (Some e) newline s = tt
+
+quiet_separated : (how : Separation) (v w : Value) → Quiet (separated how v w)
+quiet_separated separation.Fields v w = quiet_fields (text_of v) (text_of w) false
+quiet_separated separation.Matches v w = quiet_parts (ere_of (text_of w)) false (text_of v)
 
 -- the parts of the text below the last operand, or a fault
 abbrev pub parts_in : Separation → Operand → Moving → Result (List Bytes) Fault

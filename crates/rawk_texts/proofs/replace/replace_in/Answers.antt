@@ -2,10 +2,10 @@ use Rattle.std.proofs.Common.{◌∷◌, pos, None, Some, Ok, Err, refl, ap, sub
 use Rattle.rawk_value.specs.declared.value.Value.TheVariants.{Number, String}
 use Rattle.rawk_code.specs.declared.code.Op.TheVariants as does
 use Rattle.rawk_operands.specs.Moving.{HasPut, Moving, moving}
-use Rattle.rawk_operate.proofs.Faults.{put_faults, put_pushes}
-use Rattle.rawk_operate.proofs.Replaces.{left_below, left_parts, left_read, place_in, replace_assigns, replace_misses, replace_refused, replaced_known}
+use Rattle.rawk_operate.specs.PutLaws.{put_faults, put_pushes}
+use Rattle.rawk_texts.proofs.Replaces.{left_below, left_parts, left_read, place_in, replace_assigns, replace_misses, replace_refused, replaced_known}
 use Rattle.rawk_operate.specs.Done.{led_by}
-use Rattle.rawk_operate.proofs.replace.replace_in.Goals as goal
+use Rattle.rawk_texts.proofs.replace.replace_in.Goals as goal
 
 pub returns-in-Err-clause-did : goal.returns-in-Err-clause-did
 returns-in-Err-clause-did g c =

@@ -5,8 +5,8 @@ use Rattle.rawk_code.specs.declared.code.Simple.{Simple}
 use Rattle.rawk_operators.specs.Borrowed.{borrowed_value}
 use Rattle.rawk_operate.specs.Line.{pieces_behind}
 use Rattle.rawk_operands.specs.Moving.{simple_of}
-use Rattle.rawk_operate.proofs.Lines.{simple_printed}
-use Rattle.rawk_operate.proofs.print.print_simples.Goals as goal
+use Rattle.rawk_texts.proofs.Lines.{simple_printed}
+use Rattle.rawk_texts.proofs.print.print_simples.Goals as goal
 
 pub loop-simple-preserved : goal.loop-simple-preserved
 loop-simple-preserved c =

@@ -1,10 +1,10 @@
 use Rattle.std.proofs.Common.{◌≡◌, ◌∙◌, ap}
 use Rattle.rawk_code.specs.declared.code.Operand.{Operand}
 use Rattle.rawk_operands.specs.Moving.{moving, operand_in, term_in}
-use Rattle.rawk_operate.specs.Replacing.{below_newest}
+use Rattle.rawk_texts.specs.Replacing.{below_newest}
 use Rattle.rawk_operands.specs.Oks.{if_ok}
-use Rattle.rawk_operate.proofs.Replaces.{term_below}
-use Rattle.rawk_operate.proofs.replace.expression_borrowed.Goals as goal
+use Rattle.rawk_texts.proofs.Replaces.{term_below}
+use Rattle.rawk_texts.proofs.replace.expression_borrowed.Goals as goal
 
 pub returns-in-Computed : goal.returns-in-Computed
 returns-in-Computed c =

@@ -12,9 +12,9 @@ use Rattle.rawk_operators.specs.Separations.{Separates}
 use Rattle.rawk_arrays.specs.Laid.{arrays_of}
 use Rattle.rawk_store.specs.State.{array_in, fill_elements}
 use Rattle.rawk_operands.specs.Moving.{left_in, moving}
-use Rattle.rawk_operate.proofs.Splits.{parts_in, split_faults, split_makes}
+use Rattle.rawk_texts.proofs.Splits.{parts_in, split_faults, split_makes}
 use Rattle.rawk_operate.specs.Done.{led_by}
-use Rattle.rawk_operate.proofs.split.split.Goals as goal
+use Rattle.rawk_texts.proofs.split.split.Goals as goal
 
 pub returns-in-Err-clause-did : goal.returns-in-Err-clause-did
 returns-in-Err-clause-did g c =

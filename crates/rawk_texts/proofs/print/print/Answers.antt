@@ -5,9 +5,9 @@ use Rattle.rawk_code.specs.declared.code.Simple.{Simple}
 use Rattle.rawk_operators.specs.Borrowed.{borrowed_value}
 use Rattle.rawk_operate.specs.Line.{pieces_behind}
 use Rattle.rawk_operands.specs.Moving.{moving, simple_of}
-use Rattle.rawk_operate.proofs.Lines.{print_line}
-use Rattle.rawk_operate.proofs.Prints.{print_done}
-use Rattle.rawk_operate.proofs.print.print.Goals as goal
+use Rattle.rawk_texts.proofs.Lines.{print_line}
+use Rattle.rawk_texts.proofs.Prints.{print_done}
+use Rattle.rawk_texts.proofs.print.print.Goals as goal
 
 pub returns-clause-did : goal.returns-clause-did
 returns-clause-did c =

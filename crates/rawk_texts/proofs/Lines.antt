@@ -1,27 +1,19 @@
 -- The line that `print` writes, from piece to piece.
-use Rattle.std.proofs.Common.{◌≡◌, ℕ, ◌+◌, ◌<◌, suc, Bool, true, false, List, [], ◌∷◌, ◌++◌, length, map, reverse, take, drop, refl, sym, ap, ◌∙◌, arith, append_assoc, get_or, drop-cons, add-one}
-use Rattle.std.proofs.lemmas.List.{append-nil, reverse-append, map-append}
+use Rattle.std.proofs.Common.{◌≡◌, ℕ, ◌+◌, ◌<◌, suc, Bool, true, false, List, [], ◌∷◌, ◌++◌, length, map, reverse, take, drop, refl, sym, ap, ◌∙◌, append_assoc, get_or, drop-cons, add-one}
+use Rattle.std.proofs.lemmas.List.{reverse-append, map-append}
 use Rattle.rawk_code.specs.declared.code.Simple.{Simple}
-use Rattle.rawk_operands.specs.Borrowed.{popped_value, global_in}
-use Rattle.rawk_operands.specs.Moving.{Moving, simple_of, simple_in}
-use Rattle.rawk_operate.specs.Done.{printed}
+use Rattle.rawk_code.specs.Actions.{line_of}
+use Rattle.rawk_operands.specs.Borrowed.{global_in}
+use Rattle.rawk_operands.specs.Moving.{Moving, seen, simple_of, simple_in}
 use Rattle.rawk_value.specs.declared.value.Value.{Value}
 use Rattle.rawk_value.specs.Values.{Bytes, text_of}
 use Rattle.rawk_store.specs.State.{joined, OFS, ORS}
 use Rattle.rawk_operate.specs.Line.{piece_of, pieces_behind}
-use Rattle.rawk_operands.specs.BorrowedLaws.{operand_then}
+use Rattle.rawk_operate.specs.LineLaws.{joined-pieces, piece_then}
 
--- a list of texts joined is the first one, and then the others behind it
-pub joined-pieces : (separator : Bytes) (ts : List Bytes) → joined separator ts ≡ pieces_behind separator true ts
-joined-pieces separator [] = refl
-joined-pieces separator (t ∷ []) = sym (append-nil t)
-joined-pieces separator (t ∷ u ∷ more) =
-    append_assoc t separator (joined separator (u ∷ more)) ∙ ap (λ (x : Bytes). t ++ x) (ap (λ (x : Bytes). separator ++ x) (joined-pieces separator (u ∷ more)) ∙ sym (append_assoc separator u (pieces_behind separator false more)))
-
--- one piece more, the first of those left
-pub piece_then : (separator : Bytes) (leads : Bool) (whole now next t : Bytes) (ts : List Bytes) → whole ≡ now ++ pieces_behind separator leads (t ∷ ts) → next ≡ now ++ piece_of separator leads t → whole ≡ next ++ pieces_behind separator false ts
-piece_then separator leads whole now next t ts h e =
-    h ∙ sym (append_assoc now (piece_of separator leads t) (pieces_behind separator false ts)) ∙ ap (λ (x : Bytes). x ++ pieces_behind separator false ts) (sym e)
+-- a line of `count` operands, and then these
+abbrev pub printed : ℕ → List Simple → Moving → Bytes
+printed count simples m = line_of (reverse (reverse (map (λ from. simple_in from m) simples) ++ take count m.operands)) (seen m)
 
 -- what has its value at once, printed
 pub simple_printed : (separator : Bytes) (leads : Bool) (whole now next : Bytes) (f : Simple → Bytes) (xs : List Simple) (i : ℕ) (x : Simple) (t : Bytes) → x ≡ get_or xs i x → i < length xs → t ≡ f x →
@@ -35,18 +27,6 @@ simple_printed separator leads whole now next f xs i x t is h et inv e =
 reverse-reverse : (xs : List Value) → reverse (reverse xs) ≡ xs
 reverse-reverse [] = refl
 reverse-reverse (x ∷ xs) = ap reverse (reverse-append (x ∷ []) xs) ∙ reverse-append (reverse xs) (x ∷ []) ∙ ap (λ (l : List Value). x ∷ l) (reverse-reverse xs)
-
-abbrev pub texts_left : List Value → ℕ → List Bytes
-texts_left vs n = map text_of (reverse (take n vs))
-
--- one operand printed
-pub operand_printed : (separator : Bytes) (leads : Bool) (start now next t : Bytes) (vs : List Value) (m n : ℕ) (all more : List Bytes) → m ≡ n + 1 → n < length vs → t ≡ text_of (popped_value n vs) →
-    start ++ pieces_behind separator true (all ++ more) ≡ now ++ pieces_behind separator leads (texts_left vs m ++ more) → next ≡ now ++ piece_of separator leads t →
-    start ++ pieces_behind separator true (all ++ more) ≡ next ++ pieces_behind separator false (texts_left vs n ++ more)
-operand_printed separator leads start now next t vs m n all more em h et inv e =
-    let one : texts_left vs m ≡ t ∷ texts_left vs n =
-    ap (texts_left vs) (let k : m ≡ suc n = omega arith in k) ∙ ap (λ (l : List Value). map text_of l) (operand_then vs n h) ∙ ap (λ (x : Bytes). x ∷ texts_left vs n) (sym et) in
-    piece_then separator leads (start ++ pieces_behind separator true (all ++ more)) now next t (texts_left vs n ++ more) (inv ∙ ap (λ (l : List Bytes). now ++ pieces_behind separator leads (l ++ more)) one) e
 
 -- what is printed at last: operands, the others, and the record's end
 pub line_printed : (separator ending start first second third : Bytes) (leads : Bool) (operands simples : List Bytes) →

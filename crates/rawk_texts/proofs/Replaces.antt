@@ -28,11 +28,10 @@ use Rattle.rawk_store.specs.declared.registers.Ending.TheVariants as ending
 use Rattle.rawk_operands.specs.Borrowed.{shown_value}
 use Rattle.rawk_operands.specs.Moving.{Moving, full, term_in, operand_in, target_value, touched, with_operands}
 use Rattle.rawk_operate.specs.Done.{Done, phases_left}
-use Rattle.rawk_operate.specs.Replacing.{below_newest, replaced_at}
+use Rattle.rawk_texts.specs.Replacing.{below_newest, replaced_at}
 use Rattle.rawk_operands.specs.OperandLaws.{operand_full}
-use Rattle.rawk_operate.specs.DoneLaws.{le_same}
+use Rattle.rawk_operate.specs.DoneLaws.{give_after, le_same}
 use Rattle.rawk_operate.specs.AssignLaws.{Assigns, assign_read, read_full, done_fault}
-use Rattle.rawk_operate.proofs.Assigns.{give_after}
 use Rattle.rawk_operate.specs.Quiets.{Quiet, quiet_by, quiet_next, quiet_operand, quiet_found}
 
 -- what is computed does not look at the operands

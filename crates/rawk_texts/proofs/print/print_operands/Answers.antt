@@ -2,8 +2,8 @@ use Rattle.std.proofs.Common.{◌≡◌, ◌∙◌, ◌+◌, ◌-◌, ◌<◌, a
 use Rattle.rawk_value.specs.Values.{text_of}
 use Rattle.rawk_store.specs.Stacked.{live_values}
 use Rattle.rawk_operators.specs.Borrowed.{borrowed_value}
-use Rattle.rawk_operate.proofs.Lines.{operand_printed}
-use Rattle.rawk_operate.proofs.print.print_operands.Goals as goal
+use Rattle.rawk_operate.specs.LineLaws.{operand_printed}
+use Rattle.rawk_texts.proofs.print.print_operands.Goals as goal
 
 pub operands-preserved : goal.operands-preserved
 operands-preserved c =

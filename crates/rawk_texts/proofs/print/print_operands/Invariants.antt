@@ -3,7 +3,7 @@ use Rattle.rawk_value.specs.Values.{Bytes, text_of}
 use Rattle.rawk_store.specs.Stacked.{live_values}
 use Rattle.rawk_operators.specs.Borrowed.{borrowed_value}
 use Rattle.rawk_operate.specs.Line.{pieces_behind}
-use Rattle.rawk_operate.proofs.print.print_operands.Given as goal
+use Rattle.rawk_texts.proofs.print.print_operands.Given as goal
 
 abbrev pub invariant-operands : goal.invariant-operands
 invariant-operands l = record {

@@ -13,12 +13,12 @@ ghost use Rattle.rawk_code.specs.Machine.{below, top};
 ghost use Rattle.rawk_operands.specs.Moving.{moving, left_in, operand_in};
 ghost use Rattle.rawk_operate.specs.Done.{Done, led_by};
 
-use crate::replace::counted;
-use crate::transfer::{Outcome, faulted};
 use itoa::Buffer;
 use rawk_code::{Instr, Op, Operand};
 use rawk_operands::borrowed::{operand_borrowed, popped_borrowed};
 use rawk_operands::stack::{drop_taken, put};
+use rawk_operate::elements::counted;
+use rawk_operate::transfer::{Outcome, faulted};
 use rawk_operators::{Borrowed, separate, text_borrowed};
 use rawk_patterns::Expressions;
 use rawk_store::{Fields, Operands, Store, fill_elements};

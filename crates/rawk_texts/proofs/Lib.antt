@@ -1,0 +1,4 @@
+pub mod Lines
+pub mod Prints
+pub mod Replaces
+pub mod Splits

@@ -1,0 +1,6 @@
+//! Operations on texts: matches replaced, parts that fill an array, lines of output.
+#![tactic(auto, using(rawk_store::specs::Growth::grows))]
+
+pub mod print;
+pub mod replace;
+pub mod split;
