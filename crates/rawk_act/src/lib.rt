@@ -2,3 +2,4 @@
 #![tactic(auto, using(rawk_store::specs::Growth::grows))]
 
 pub mod act;
+mod found;

@@ -1,6 +1,6 @@
 //! Arrays by number, and what stood in them when the step began.
 
-ghost use Rattle.std.specs.Prelude.{◌≡◌, false, ◌≤◌, ℕ, ◌++◌, ◌∷◌, [], IfOk, MatchOption, OnErr, OnOk, Some, length, replicate, slice_get, take};
+ghost use Rattle.std.specs.Prelude.{◌≡◌, false, ◌≤◌, ℕ, ◌++◌, ◌∷◌, [], IfOk, IfSome, MatchOption, OnErr, OnOk, Some, length, replicate, slice_get, take};
 ghost use Rattle.std.specs.FinMap.{len};
 ghost use Rattle.rawk_arrays.specs.Walks.{texts};
 ghost use Rattle.std.specs.Bool.{OnTrue};
@@ -288,6 +288,21 @@ impl Arrays {
         Ok(Some(place))
     }
 
+    /// The place of the element at the key of a number, where the keys from 1 to it came one behind another: no search, and `None` says nothing.
+    #[inline(always)]
+    pub fn place_in_series(&self, array: usize, key: i64) -> Option<usize>
+        ensures { IfSome result (λ p. IsPlaceOf array (text_of (Value.Number key)) p self.now.now) }
+    {
+        if array >= self.live {
+            return None;
+        }
+        let place = self.index.in_series(array, key)?;
+        if place < self.cells.len() {
+            return Some(place);
+        }
+        None
+    }
+
     /// The same of the element at the key of a number, without a search where the keys from 1 to it came one behind another.
     #[inline(always)]
     pub fn place_numbered(
@@ -303,10 +318,8 @@ impl Arrays {
         if array >= self.live {
             return Ok(None);
         }
-        if let Some(place) = self.index.in_series(array, key) {
-            if place < self.cells.len() {
-                return Ok(Some(place));
-            }
+        if let Some(place) = self.place_in_series(array, key) {
+            return Ok(Some(place));
         }
         let place = slot_for_number(
             alloc,

@@ -45,6 +45,9 @@ fn op_asks(op: &Op) -> bool {
             simple_asks(simple) || place.get().asks_for_fields() || count.get().asks_for_fields()
         }
         Op::JoinOf(simple, _, formula) => simple_asks(simple) || formula.get().asks_for_fields(),
+        Op::MatchOf(text, by) | Op::SplitOf(_, _, text, by) => {
+            simple_asks(text) || simple_asks(by)
+        }
         Op::ElementAt(_, from)
         | Op::Has(_, from)
         | Op::Delete(_, from)

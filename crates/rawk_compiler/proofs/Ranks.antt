@@ -35,7 +35,7 @@ use Rattle.rawk_code.specs.declared.code.Op.{Op}
 use Rattle.rawk_code.specs.declared.code.Op.TheVariants as does
 use Rattle.rawk_code.specs.declared.code.Instr.TheVariants as instr
 use Rattle.rawk_code.specs.Trace.{reads}
-use Rattle.rawk_selection.specs.Operands.{pair_op, constant_field, simple_field, simple_of, term_of, computing_op, part_op, destination_of, operand_of, sought_operand, constant_operand}
+use Rattle.rawk_selection.specs.Operands.{pair_op, constant_field, simple_field, simple_of, term_of, computing_op, part_op, found_op, cut_op, destination_of, operand_of, sought_operand, constant_operand}
 use Rattle.rawk_selection.specs.Conditions.{Fork, agrees, leap_on, deciding, logic_of, is_neutral, against}
 use Rattle.rawk_selection.specs.Added.{appending, added, added_ops, appending_made, or_else, added_to}
 use Rattle.rawk_selection.specs.Readings.{part_dropped, missing_code, getline_to_code}
@@ -233,13 +233,15 @@ module _ (code : List Instr) where
         (fine_append (expr_code e) (expr_code from ++ (expr_code count ++ instr.Do does.Substr ∷ [])) (expr_fine e) (fine_append (expr_code from) (expr_code count ++ instr.Do does.Substr ∷ []) (expr_fine from) (fine_last (expr_code count) (instr.Do does.Substr) (λ pc. tt) (expr_fine count))))
     expr_fine (expr.Match' p e q s) =
         let from = sought_operand s in
-        fine_append (expr_code e) _ (expr_fine e) (fine_last (unless_ready from (expr_code s)) (instr.Do (does.Match from)) (λ pc. tt) (unless_fine from (expr_code s) (expr_fine s)))
+        one_fine (found_op (simple_of e) from) (expr_code e ++ (unless_ready from (expr_code s) ++ instr.Do (does.Match from) ∷ []))
+        (fine_append (expr_code e) _ (expr_fine e) (fine_last (unless_ready from (expr_code s)) (instr.Do (does.Match from)) (λ pc. tt) (unless_fine from (expr_code s) (expr_fine s))))
     expr_fine (expr.Replace' extent p s q r place) =
         let from = constant_operand s in
         fine_append (unless_ready from (expr_code s)) _ (unless_fine from (expr_code s) (expr_fine s)) (fine_append (expr_code r) _ (expr_fine r) (fine_last (parts_code place) (instr.Do (does.Replace extent from (destination_of place))) (λ pc. tt) (parts_fine place)))
     expr_fine (expr.Split' how p e a q by) =
         let from = separator_operand how by in
-        fine_append (expr_code e) _ (expr_fine e) (fine_last (unless_ready from (expr_code by)) (instr.Do (does.Split how a from)) (λ pc. tt) (unless_fine from (expr_code by) (expr_fine by)))
+        one_fine (cut_op how a (simple_of e) from) (expr_code e ++ (unless_ready from (expr_code by) ++ instr.Do (does.Split how a from) ∷ []))
+        (fine_append (expr_code e) _ (expr_fine e) (fine_last (unless_ready from (expr_code by)) (instr.Do (does.Split how a from)) (λ pc. tt) (unless_fine from (expr_code by) (expr_fine by))))
     expr_fine (expr.Sprintf' p f shape args) =
         fine_append (expr_code f) (joined (expr_codes args) ++ instr.Do (does.Sprintf (length (expr_codes args))) ∷ []) (expr_fine f) (fine_last (joined (expr_codes args)) (instr.Do (does.Sprintf (length (expr_codes args)))) (λ pc. tt) (joined_fine (expr_codes args) (exprs_fine args)))
     expr_fine expr.Getline = fine_cons (instr.ReadRecord 2) _ (λ pc. tt) (fine_cons (instr.Do (does.Push (simple.Number (pos 1)))) _ (λ pc. tt) (fine_cons (instr.GoOn 1) _ (λ pc. tt) (fine_cons (instr.Do (does.Push (simple.Number (pos 0)))) [] (λ pc. tt) fine_none)))

@@ -1,18 +1,20 @@
 //! Loops over the keys of arrays.
 
-ghost use Rattle.std.specs.Bool.{OnTrue};
-ghost use Rattle.std.specs.Prelude.{◌≡◌, IfOk};
+ghost use Rattle.std.specs.Bool.{OnFalse, OnTrue};
+ghost use Rattle.std.specs.Prelude.{◌≡◌, ℕ, IfOk, OnOk};
 ghost use Rattle.rawk_store.specs.Layout.{Grown};
 ghost use Rattle.rawk_store.specs.Stores.{start_of};
 ghost use Rattle.rawk_frames.specs.LaidKeys.{keys_of};
 ghost use Rattle.rawk_code.specs.Machine.{has_next, next_key};
 ghost use Rattle.rawk_operands.specs.Moving.{moving};
+ghost use Rattle.rawk_operate.specs.declared.transfer.Transfer.{Transfer};
 ghost use Rattle.rawk_operate.specs.Done.{Done};
 
 use crate::assign::{drop_place, target_by};
 use crate::transfer::{Transfer, over};
-use rawk_code::{Destination, Instr};
+use rawk_code::{Destination, Instr, Variable};
 use rawk_operands::borrowed::popped_borrowed;
+use rawk_operands::variables::set_value;
 use rawk_places::place::put_in;
 use rawk_store::{KeysLeft, Store};
 use rawk_value::{Bytes, Value};
@@ -70,6 +72,31 @@ pub fn assign_key<const SAVES: bool>(
             Ok(Transfer::Next)
         }
     }
+}
+
+/// Gives a variable the next key of the innermost loop, which is visited then. It fails where memory is refused.
+#[inline(never)]
+pub fn visit_key<const SAVES: bool>(
+    alloc: Global,
+    store: &mut Store,
+    variable: Variable,
+) -> Result<(), AllocError>
+    ensures did { OnOk result (Done (Instr.AssignKey (Destination.Variable variable)) (moving store.old) Transfer.Next (moving store.new)) }
+    ensures start { OnTrue SAVES (Grown (start_of store.old) (start_of store.new)) }
+{
+    let key = next_key(alloc, &store.keys)?;
+    set_value::<SAVES>(store, variable, Value::String(key))?;
+    store.keys.advance::<SAVES>()?;
+    Ok(())
+}
+
+/// Whether the innermost loop has a next key, and so leads back to a place.
+#[inline(never)]
+pub fn has_next_key(store: &Store) -> bool
+    ensures more { OnTrue result ((place : ℕ) → Done (Instr.BackIfKey place) (moving store.now) (Transfer.To place) (moving store.now)) }
+    ensures none { OnFalse result ((place : ℕ) → Done (Instr.BackIfKey place) (moving store.now) Transfer.Next (moving store.now)) }
+{
+    has_next(&store.keys)
 }
 
 /// Leads back to a place where the innermost loop has a next key.

@@ -4,7 +4,7 @@
 pub mod append;
 pub mod assign;
 pub mod elements;
-mod in_place;
+pub mod in_place;
 pub mod key_loops;
 pub mod push;
 pub mod transfer;

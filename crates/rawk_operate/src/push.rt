@@ -1,10 +1,10 @@
 //! The operand that an instruction adds.
 
 ghost use Rattle.std.specs.Bool.{OnTrue};
-ghost use Rattle.std.specs.Prelude.{OnOk};
+ghost use Rattle.std.specs.Prelude.{◌≡◌, ◌∷◌, OnOk};
 ghost use Rattle.rawk_store.specs.Layout.{Grown};
 ghost use Rattle.rawk_store.specs.Stores.{start_of};
-ghost use Rattle.rawk_operands.specs.Moving.{moving};
+ghost use Rattle.rawk_operands.specs.Moving.{moving, simple_in, with_operands};
 ghost use Rattle.rawk_operate.specs.Done.{Done};
 
 use crate::transfer::Transfer;
@@ -21,6 +21,7 @@ pub fn push<const SAVES: bool>(
     store: &mut Store,
     from: &Simple,
 ) -> Result<(), AllocError>
+    ensures put { OnOk result (moving store.new ≡ with_operands (simple_in from.now (moving store.old) ∷ (moving store.old).operands) (moving store.old)) }
     ensures did { OnOk result (Done (Instr.Do (Op.Push from.now)) (moving store.old) Transfer.Next (moving store.new)) }
     ensures start { OnTrue SAVES (Grown (start_of store.old) (start_of store.new)) }
 {

@@ -128,8 +128,13 @@ impl Uncut {
         requires { length text.now < 2 ^ 62 }
         ensures { OnOk result (self.new ≡ divided_record divider text.now) }
     {
-        self.text.clear();
         self.divider = divider;
+        if text.len() <= self.text.len() {
+            self.text.truncate(text.len());
+            self.text.copy_from_slice(text);
+            return Ok(());
+        }
+        self.text.clear();
         self.text.extend_from_slice(text)
     }
 

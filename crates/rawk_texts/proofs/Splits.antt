@@ -16,17 +16,19 @@ use Rattle.rawk_arrays.specs.Elements.{Elements}
 use Rattle.rawk_store.specs.declared.registers.Ending.TheVariants as ending
 use Rattle.rawk_store.specs.State.{array_in, fill_elements}
 use Rattle.rawk_code.specs.declared.code.Operand.{Operand}
+use Rattle.rawk_code.specs.declared.code.Simple.{Simple}
 use Rattle.rawk_code.specs.declared.code.Op.TheVariants as does
 use Rattle.rawk_code.specs.declared.code.Instr.TheVariants as instr
-use Rattle.rawk_code.specs.Actions.{Point, Run, Outcome, Faulted, need, bind, and_then, give, put_parts, split_in}
-use Rattle.rawk_code.specs.Machine.{Going, below, taking, goes_on}
+use Rattle.rawk_code.specs.Actions.{Point, Run, Outcome, Faulted, need, look, bind, and_then, give, put_parts, split_in}
+use Rattle.rawk_code.specs.Machine.{Going, below, taking, goes_on, simple_value}
 use Rattle.rawk_operate.specs.declared.transfer.Transfer.{Transfer}
 use Rattle.rawk_operate.specs.declared.transfer.Transfer.TheVariants as transfer
-use Rattle.rawk_operands.specs.Moving.{Moving, full, operand_in, left_in, with_arrays, with_operands}
+use Rattle.rawk_operands.specs.Moving.{Moving, full, operand_in, left_in, simple_in, with_arrays, with_operands}
+use Rattle.rawk_operands.specs.OperandLaws.{simple_full}
 use Rattle.rawk_operate.specs.Done.{Done, phases_left}
 use Rattle.rawk_operate.specs.DoneLaws.{by_parts, le_same, need_then}
 use Rattle.rawk_operate.specs.AssignLaws.{EndsBy, ends_here, taking_is}
-use Rattle.rawk_operate.specs.Quiets.{Quiet, quiet_fields, quiet_made}
+use Rattle.rawk_operate.specs.Quiets.{Quiet, quiet_by, quiet_fields, quiet_made}
 
 -- how a text is separated has no fault of reading, of writing or of memory
 quiet_parts : (e : Option Tree) (newline : Bool) (s : Bytes) → Quiet (dynamic_parts e newline s)
@@ -77,3 +79,43 @@ split_makes how a from m mid n parts count filled is ec ef em en =
     ∙ ap (λ (v : Value). with_operands (v ∷ drop 1 (below from m.operands)) (with_arrays filled m)) ec
     ∙ ap (λ (es : List Elements). with_operands (Number (pos (length parts)) ∷ drop 1 (below from m.operands)) (with_arrays es m)) ef)
     (done_split how a from m parts is)
+
+-- the same of two that have their value at once
+abbrev pub parts_at_once : Separation → Simple → Simple → Moving → Result (List Bytes) Fault
+parts_at_once how text by m = separated how (simple_in text m) (simple_in by m)
+
+split_of_is : (how : Separation) (a : Array) (text by : Simple) (m : Moving) (r : Result (List Bytes) Fault) → parts_at_once how text by m ≡ r → (points : List Point) (consumed : ℕ) (handed : Bytes) →
+    let run : Run = record { points = points; state = full m consumed handed } in
+    bind (look (simple_value text)) (λ v. bind (look (simple_value by)) (split_in how a v)) run ≡ bind (need r) (put_parts a) run
+split_of_is how a text by m r is points consumed handed =
+    let run : Run = record { points = points; state = full m consumed handed } in
+    ap (λ (v : Value). split_in how a v (simple_value by run.state) run) (simple_full text m consumed handed)
+    ∙ ap (λ (w : Value). split_in how a (simple_in text m) w run) (simple_full by m consumed handed)
+    ∙ ap (λ (y : Result (List Bytes) Fault). bind (need y) (put_parts a) run) is
+
+split_of_ends : (how : Separation) (a : Array) (text by : Simple) (m : Moving) (f : Fault) → parts_at_once how text by m ≡ Err f → EndsBy (does.SplitOf how a text by) f m
+split_of_ends how a text by m f is points consumed handed = ap (λ (out : Outcome Value). and_then out (λ w. give (w ∷ m.operands))) (split_of_is how a text by m (Err f) is points consumed handed)
+
+pub split_of_faults : (how : Separation) (a : Array) (text by : Simple) (m : Moving) (f : Fault) (w : Transfer) → parts_at_once how text by m ≡ Err f → w ≡ transfer.Over (ending.Faulted f) → Done (instr.Do (does.SplitOf how a text by)) m w m
+split_of_faults how a text by m f w is e = ends_here (does.SplitOf how a text by) m f w (split_of_ends how a text by m f is) (quiet_by (parts_at_once how text by m) f (quiet_separated how (simple_in text m) (simple_in by m)) is) e
+
+done_split_of : (how : Separation) (a : Array) (text by : Simple) (m : Moving) (parts : List Bytes) → parts_at_once how text by m ≡ Ok parts →
+    Done (instr.Do (does.SplitOf how a text by)) m transfer.Next (with_operands (Number (pos (length parts)) ∷ m.operands) (with_arrays (fill_elements (array_in a m.frames) parts m.arrays) m))
+done_split_of how a text by m parts is = record {
+  acts = λ given fin pc points consumed handed.
+      ap (λ (out : Outcome Value). goes_on (and_then out (λ w. give (w ∷ m.operands))) (λ left. Going (pc + 1) left m.keys m.returns m.registers.phase)) (split_of_is how a text by m (Ok parts) is points consumed handed);
+  leads = λ code again entries pc d. d;
+  calm = tt;
+  registers = refl;
+  returns = refl;
+  later = le_same (phases_left m.registers.phase);
+}
+
+pub split_of_makes : (how : Separation) (a : Array) (text by : Simple) (m n : Moving) (parts : List Bytes) (count : Value) (filled : List Elements) → parts_at_once how text by m ≡ Ok parts → count ≡ Number (pos (length parts)) → filled ≡ fill_elements (array_in a m.frames) parts m.arrays →
+    n ≡ with_operands (count ∷ m.operands) (with_arrays filled m) → Done (instr.Do (does.SplitOf how a text by)) m transfer.Next n
+split_of_makes how a text by m n parts count filled is ec ef en =
+    by_parts (instr.Do (does.SplitOf how a text by)) m n (with_operands (Number (pos (length parts)) ∷ m.operands) (with_arrays (fill_elements (array_in a m.frames) parts m.arrays) m)) transfer.Next
+    (en
+    ∙ ap (λ (v : Value). with_operands (v ∷ m.operands) (with_arrays filled m)) ec
+    ∙ ap (λ (es : List Elements). with_operands (Number (pos (length parts)) ∷ m.operands) (with_arrays es m)) ef)
+    (done_split_of how a text by m parts is)

@@ -14,8 +14,8 @@ ghost use Rattle.rawk_operands.specs.Moving.{moving, left_in, operand_in};
 ghost use Rattle.rawk_operate.specs.Done.{Done, led_by};
 
 use itoa::Buffer;
-use rawk_code::{Instr, Op, Operand};
-use rawk_operands::borrowed::{operand_borrowed, popped_borrowed};
+use rawk_code::{Instr, Op, Operand, Simple};
+use rawk_operands::borrowed::{operand_borrowed, popped_borrowed, simple_borrowed};
 use rawk_operands::stack::{drop_taken, put};
 use rawk_operate::elements::counted;
 use rawk_operate::transfer::{Outcome, faulted};
@@ -88,6 +88,42 @@ pub fn split<const SAVES: bool>(
             )?;
             drop_taken(store, from);
             put::<SAVES>(store, 1, count)?;
+            Ok(Outcome::Next)
+        }
+    }
+}
+
+/// An array takes the parts of `text` between the separators that `by` is, both of which have their value at once, and how many there are becomes the newest operand. It fails where memory is refused.
+pub fn split_of<const SAVES: bool>(
+    alloc: Global,
+    expressions: &mut Expressions,
+    store: &mut Store,
+    how: Separation,
+    array: Array,
+    text: &Simple,
+    by: &Simple,
+) -> Result<Outcome, AllocError>
+    ensures did { IfOk result (λ w. Done (Instr.Do (Op.SplitOf how array text.now by.now)) (moving store.old) (led_by w) (moving store.new)) }
+    ensures start { OnTrue SAVES (Grown (start_of store.old) (start_of store.new)) }
+{
+    let mut digits = Buffer::new();
+    let from = simple_borrowed(text, &store.globals, &store.frames, &store.current);
+    let bytes = text_borrowed(from, &mut digits);
+    let between = simple_borrowed(by, &store.globals, &store.frames, &store.current);
+    let made = separate(alloc, expressions, how, bytes, between)?;
+    match made {
+        Err(fault) => Ok(faulted(fault)),
+        Ok(fields) => {
+            let count = counted(fields.pieces.len())?;
+            fill_elements::<SAVES>(
+                alloc,
+                &mut store.arrays,
+                &store.frames,
+                array,
+                bytes,
+                &fields.pieces,
+            )?;
+            put::<SAVES>(store, 0, count)?;
             Ok(Outcome::Next)
         }
     }
