@@ -1,4 +1,3 @@
-pub mod Appends
 pub mod Done
 pub mod DoneLaws
 pub mod Line

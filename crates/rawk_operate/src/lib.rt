@@ -1,7 +1,6 @@
 //! What operations do to the parts of the state.
 #![tactic(auto, using(rawk_store::specs::Growth::grows))]
 
-pub mod append;
 pub mod assign;
 pub mod elements;
 pub mod in_place;

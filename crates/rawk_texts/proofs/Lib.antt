@@ -1,3 +1,4 @@
+pub mod Additions
 pub mod Lines
 pub mod Prints
 pub mod Replaces

@@ -1,6 +1,7 @@
-//! Operations on texts: matches replaced, parts that fill an array, lines of output.
+//! Operations on texts: texts that are added to, matches replaced, parts that fill an array, lines of output.
 #![tactic(auto, using(rawk_store::specs::Growth::grows))]
 
+pub mod append;
 pub mod print;
 pub mod replace;
 pub mod split;
