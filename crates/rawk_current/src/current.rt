@@ -8,7 +8,8 @@ ghost use Rattle.rawk_record.specs.Changed.{rebuilt, resized, with_value};
 ghost use Rattle.rawk_record.specs.Shown.{no_record, read_as, record_back, split_record};
 ghost use Rattle.rawk_record.specs.FieldRefs.{ref_value};
 
-use rawk_record::{FieldRef, Record, Separator};
+use rawk_pieces::Separator;
+use rawk_record::{FieldRef, Record};
 use rawk_search::CachedExpression;
 use rawk_value::{Fault, Value};
 use std::alloc::{AllocError, Global};

@@ -13,7 +13,7 @@ use Rattle.rawk_replacements.specs.declared.replacing.Replaced.{Replaced}
 use Rattle.rawk_replacements.specs.Replaced.{replaced_by}
 use Rattle.rawk_words.specs.declared.operator.Extent.{Extent}
 use Rattle.rawk_search.specs.Expressions.{ere_of}
-use Rattle.rawk_record.specs.Fields.{dynamic_parts, fields_of}
+use Rattle.rawk_pieces.specs.Fields.{dynamic_parts, fields_of}
 use Rattle.rawk_operators.specs.declared.searches.Match.{Match}
 use Rattle.rawk_words.specs.declared.operator.Sign.{Sign}
 use Rattle.rawk_words.specs.declared.operator.Sign.TheVariants as sign

@@ -2,8 +2,8 @@
 use Rattle.std.specs.Prelude.{◌≡◌, List, Result, Ok, Err}
 use Rattle.rawk_value.specs.Values.{Bytes}
 use Rattle.rawk_value.specs.declared.fault.Fault.{Fault}
-use Rattle.rawk_record.specs.Pieces.{texts, AllInRange}
-use Rattle.rawk_record.specs.declared.pieces.Fields.{Fields}
+use Rattle.rawk_pieces.specs.Pieces.{texts, AllInRange}
+use Rattle.rawk_pieces.specs.declared.pieces.Fields.{Fields}
 
 -- the pieces are these parts of a text, and lie within it; or the fault is theirs
 abbrev pub Separates : Bytes → Result (List Bytes) Fault → Result Fields Fault → Type 0

@@ -3,7 +3,7 @@
 ghost use Rattle.std.specs.Prelude.{IfOk, false};
 ghost use Rattle.rawk_value.specs.Values.{text_of};
 ghost use Rattle.rawk_search.specs.Expressions.{ere_of};
-ghost use Rattle.rawk_record.specs.Fields.{dynamic_parts, fields_of};
+ghost use Rattle.rawk_pieces.specs.Fields.{dynamic_parts, fields_of};
 ghost use Rattle.rawk_operators.specs.Borrowed.{borrowed_value};
 ghost use Rattle.rawk_operators.specs.Operators.{parts_between};
 ghost use Rattle.rawk_operators.specs.Separations.{Separates};
@@ -11,7 +11,7 @@ ghost use Rattle.rawk_operators.specs.Separations.{Separates};
 use crate::borrowed::{Borrowed, text_borrowed};
 use itoa::Buffer;
 use rawk_patterns::Expressions;
-use rawk_record::{Fields, pieces_between};
+use rawk_pieces::{Fields, pieces_between};
 use rawk_search::Pattern;
 use rawk_tree::Separation;
 use rawk_value::Fault;
@@ -21,7 +21,7 @@ use std::alloc::{AllocError, Global};
 fn fields_by(alloc: Global, text: &[u8], by: &[u8]) -> Result<Result<Fields, Fault>, AllocError>
     ensures { IfOk result (λ r. Separates text.now (fields_of text.now by.now false) r) }
 {
-    match rawk_record::fields_of(alloc, text, by, false) {
+    match rawk_pieces::fields_of(alloc, text, by, false) {
         Ok(fields) => Ok(Ok(fields)),
         Err(Fault::OutOfMemory) => Err(AllocError),
         Err(fault) => Ok(Err(fault)),

@@ -7,13 +7,13 @@ use Rattle.std.proofs.lemmas.List.Elements.{All-head, All-tail}
 use Rattle.rawk_value.specs.Values.{Bytes, text_of}
 use Rattle.rawk_value.specs.declared.value.Value.{Value}
 use Rattle.rawk_value.specs.declared.value.Value.TheVariants.{Uninitialized, Input}
-use Rattle.rawk_record.specs.Pieces.{IsInRange, AllInRange}
+use Rattle.rawk_pieces.specs.Laws.{AllInRange-push}
+use Rattle.rawk_pieces.specs.Pieces.{IsInRange, AllInRange}
 use Rattle.rawk_record.specs.Shown.{values, piece_value}
 use Rattle.rawk_record.specs.Changed.{joined, resized, with_value}
 use Rattle.rawk_record.specs.Drafts.{values_of, IsDraft, IsOwn, IsPlaced}
-use Rattle.rawk_record.specs.declared.pieces.Piece.{Piece}
+use Rattle.rawk_pieces.specs.declared.pieces.Piece.{Piece}
 use Rattle.rawk_record.specs.declared.parts.Parts.{Parts}
-use Rattle.rawk_record.proofs.Cuts.{AllInRange-push}
 use Rattle.rawk_record.proofs.Values.{length-values}
 
 values-push : (text : List ℕ) (pieces : List Piece) (kept : List (Option Value)) (piece : Piece) (own : Option Value) → length kept ≡ length pieces → values text (pieces ++ piece ∷ []) (kept ++ own ∷ []) ≡ values text pieces kept ++ piece_value text piece own ∷ []

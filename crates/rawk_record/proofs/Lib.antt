@@ -1,9 +1,4 @@
-pub mod Cuts
 pub mod Counts
 pub mod Values
-pub mod Masks
-pub mod Newlines
-pub mod Separated
 pub mod Drafts
 pub mod Shorts
-pub mod Rows

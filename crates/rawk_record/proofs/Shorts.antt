@@ -2,7 +2,7 @@
 use Rattle.std.proofs.Common.{◌≡◌, ◌≤◌, ◌<◌, ◌+◌, ℕ, List, [], ◌∷◌, ◌++◌, length, get_or, set, map, take, arith, sym, ◌∙◌, ap}
 use Rattle.std.proofs.lemmas.List.{take_more_set, take_more, map_push, length-take-le, get_or-map, get_or-take, length-map}
 use Rattle.rawk_record.specs.ShortPieces.{wide}
-use Rattle.rawk_record.specs.declared.pieces.Piece.{Piece}
+use Rattle.rawk_pieces.specs.declared.pieces.Piece.{Piece}
 use Rattle.rawk_record.specs.declared.short.ShortPiece.{ShortPiece}
 
 -- one more piece is written

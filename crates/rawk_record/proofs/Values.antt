@@ -3,8 +3,8 @@ use Rattle.std.proofs.Common.{◌≡◌, ◌≤◌, ◌<◌, ℕ, zero, suc, Lis
 use Rattle.std.proofs.lemmas.Option.{slice_get_cases, slice_get-get_or, unwrap_or-slice_get}
 use Rattle.rawk_value.specs.declared.value.Value.{Value}
 use Rattle.rawk_value.specs.declared.value.Value.TheVariants.{Uninitialized, Input}
-use Rattle.rawk_record.specs.declared.pieces.Piece.{Piece}
-use Rattle.rawk_record.specs.Pieces.{texts}
+use Rattle.rawk_pieces.specs.declared.pieces.Piece.{Piece}
+use Rattle.rawk_pieces.specs.Pieces.{texts}
 use Rattle.rawk_record.specs.Shown.{values, piece_value}
 
 -- fields that were split have no values of their own

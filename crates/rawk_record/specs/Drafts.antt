@@ -3,7 +3,7 @@ use Rattle.std.specs.Prelude.{◌≡◌, List, length, map, Option, None, Some}
 use Rattle.rawk_value.specs.Values.{Bytes, text_of}
 use Rattle.rawk_value.specs.declared.value.Value.{Value}
 use Rattle.rawk_value.specs.declared.value.Value.TheVariants.{Input}
-use Rattle.rawk_record.specs.Pieces.{AllInRange}
+use Rattle.rawk_pieces.specs.Pieces.{AllInRange}
 use Rattle.rawk_record.specs.Shown.{Shown, values}
 use Rattle.rawk_record.specs.Changed.{joined}
 use Rattle.rawk_record.specs.declared.parts.Parts.{Parts}

@@ -1,13 +1,8 @@
-pub mod Fields
-pub mod Masks
-pub mod Pieces
 pub mod Shown
 pub mod FieldRefs
-pub mod Separators
 pub mod Changed
 pub mod Changes
 pub mod Drafts
-pub mod Laws
 pub mod ShortPieces
 pub mod Helds
 pub mod Uncuts

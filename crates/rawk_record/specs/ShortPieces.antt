@@ -1,6 +1,6 @@
 -- Pieces of short texts.
 use Rattle.std.specs.Prelude.{◌≤◌}
-use Rattle.rawk_record.specs.declared.pieces.Piece.{Piece}
+use Rattle.rawk_pieces.specs.declared.pieces.Piece.{Piece}
 use Rattle.rawk_record.specs.declared.short.ShortPiece.{ShortPiece}
 
 -- the piece of which a short one holds the places

@@ -4,10 +4,10 @@ use Rattle.rawk_value.specs.Values.{Bytes, next_ok}
 use Rattle.rawk_value.specs.declared.value.Value.{Value}
 use Rattle.rawk_value.specs.declared.value.Value.TheVariants.{Input}
 use Rattle.rawk_value.specs.declared.fault.Fault.{Fault}
-use Rattle.rawk_record.specs.Fields.{fields_of}
-use Rattle.rawk_record.specs.Pieces.{split_by}
-use Rattle.rawk_record.specs.declared.pieces.Piece.{Piece}
-use Rattle.rawk_record.specs.declared.pieces.Separator.{Separator}
+use Rattle.rawk_pieces.specs.Fields.{fields_of}
+use Rattle.rawk_pieces.specs.Pieces.{split_by}
+use Rattle.rawk_pieces.specs.declared.pieces.Piece.{Piece}
+use Rattle.rawk_pieces.specs.declared.pieces.Separator.{Separator}
 
 -- the bytes of `$0`, and the values of the fields
 pub record Shown : Type 0 where

@@ -2,10 +2,10 @@
 use Rattle.std.specs.Prelude.{◌≡◌, Bool, ◌==◌, ◌&&◌, ◌||◌, List, Option, None, Some, map}
 use Rattle.rawk_value.specs.Values.{Bytes}
 use Rattle.rawk_value.specs.declared.value.Value.TheVariants.{Input}
-use Rattle.rawk_record.specs.Fields.{words, byte_parts}
-use Rattle.rawk_record.specs.Pieces.{split_by}
+use Rattle.rawk_pieces.specs.Fields.{words, byte_parts}
+use Rattle.rawk_pieces.specs.Pieces.{split_by}
 use Rattle.rawk_record.specs.Shown.{Shown}
-use Rattle.rawk_record.specs.declared.pieces.Separator.{Separator}
+use Rattle.rawk_pieces.specs.declared.pieces.Separator.{Separator}
 use Rattle.rawk_record.specs.declared.uncut.Divider.{Divider}
 use Rattle.rawk_record.specs.declared.uncut.Divider.TheVariants.{Blanks, Byte}
 

@@ -8,8 +8,8 @@ ghost use Rattle.rawk_record.specs.Drafts.{IsDraft, IsOwn, values_of};
 ghost use Rattle.rawk_record.specs.FieldRefs.{ref_value};
 
 use crate::parts::{FieldRef, Parts};
-use crate::pieces::Piece;
 use crate::record::Record;
+use rawk_pieces::Piece;
 use rawk_value::{Value, push_text};
 use std::alloc::{AllocError, Global};
 

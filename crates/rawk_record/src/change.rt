@@ -4,8 +4,8 @@ ghost use Rattle.std.specs.Prelude.{◌≡◌, IfOk};
 ghost use Rattle.rawk_record.specs.Changes.{changed_by, or_same};
 ghost use Rattle.rawk_record.specs.Shown.{Shown, read_as, record_back};
 
-use crate::pieces::Separator;
 use crate::record::Record;
+use rawk_pieces::Separator;
 use rawk_search::CachedExpression;
 use rawk_slots::Reversible;
 use rawk_value::{Fault, Value};

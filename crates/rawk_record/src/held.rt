@@ -6,9 +6,9 @@ ghost use Rattle.rawk_record.specs.Helds.{IsHeld};
 ghost use Rattle.rawk_record.specs.Shown.{split_record};
 
 use crate::parts::{Parts, no_parts};
-use crate::pieces::{Separator, cut};
 use crate::short::Short;
 use crate::uncut::Uncut;
+use rawk_pieces::{Separator, cut};
 use std::alloc::{AllocError, Global};
 use std::mem;
 

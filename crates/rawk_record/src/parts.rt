@@ -6,7 +6,7 @@ ghost use Rattle.rawk_value.specs.declared.value.Value.{Value};
 ghost use Rattle.rawk_record.specs.Drafts.{IsPlaced, values_of};
 ghost use Rattle.rawk_record.specs.FieldRefs.{ref_value};
 
-use crate::pieces::Piece;
+use rawk_pieces::Piece;
 use rawk_value::Value;
 use std::alloc::Global;
 

@@ -4,11 +4,11 @@ ghost use Rattle.std.specs.Prelude.{◌≡◌, ◌≤◌, ◌<◌, ◌-◌, All,
 ghost use Rattle.std.specs.Option.{option_map};
 ghost use Rattle.rawk_record.specs.Drafts.{IsPlaced, shown_of};
 ghost use Rattle.rawk_record.specs.FieldRefs.{ref_value};
-ghost use Rattle.rawk_record.specs.Pieces.{IsInRange};
+ghost use Rattle.rawk_pieces.specs.Pieces.{IsInRange};
 ghost use Rattle.rawk_record.specs.ShortPieces.{IsNarrow, wide};
 
 use crate::parts::{FieldRef, Parts};
-use crate::pieces::Piece;
+use rawk_pieces::Piece;
 use std::marker::Model;
 
 /// Where a field stands in a short text: from `start` up to `end`, in bytes.
@@ -29,7 +29,7 @@ pub struct Short {
 
 impl Model for Short {
     ghost use Rattle.std.specs.Prelude.{◌≤◌, [], length, map, take};
-    ghost use Rattle.rawk_record.specs.Pieces.{AllInRange};
+    ghost use Rattle.rawk_pieces.specs.Pieces.{AllInRange};
     ghost use Rattle.rawk_record.specs.ShortPieces.{wide};
     ghost use Rattle.rawk_record.specs.Shown.{Shown, values};
 

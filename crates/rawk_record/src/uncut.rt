@@ -4,13 +4,12 @@ ghost use Rattle.std.specs.Prelude.{◌≡◌, ◌<◌, ◌-◌, ◌^◌, ◌==�
 ghost use Rattle.std.specs.Option.{option_map};
 ghost use Rattle.rawk_value.specs.Values.{Bytes};
 ghost use Rattle.rawk_record.specs.FieldRefs.{ref_value};
-ghost use Rattle.rawk_record.specs.Fields.{words, byte_parts};
+ghost use Rattle.rawk_pieces.specs.Fields.{words, byte_parts};
 ghost use Rattle.rawk_record.specs.Shown.{Shown};
 ghost use Rattle.rawk_record.specs.Uncuts.{DividesAs, divided, divided_record};
 
-use crate::class::{Blank, ByteClass, Class};
 use crate::parts::FieldRef;
-use crate::pieces::Separator;
+use rawk_pieces::{Blank, ByteClass, Class, Separator};
 use std::alloc::{AllocError, Global};
 use std::marker::Model;
 

@@ -5,7 +5,7 @@ use Rattle.rawk_value.specs.declared.value.Value.{Value}
 use Rattle.rawk_value.specs.declared.fault.Fault.{Fault}
 use Rattle.rawk_value.specs.Values.{Bytes, next_ok, number_of, text_of}
 use Rattle.rawk_frames.specs.LaidFrames.{returns_of}
-use Rattle.rawk_record.specs.Fields.{fields_of}
+use Rattle.rawk_pieces.specs.Fields.{fields_of}
 use Rattle.rawk_store.specs.declared.target.Target.TheVariants as place
 use Rattle.rawk_store.specs.State.{State, Target, FS, assigned, field_number, global_text, is_paragraph}
 use Rattle.rawk_store.specs.Layout.{Layout, state}

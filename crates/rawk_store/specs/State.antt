@@ -14,7 +14,7 @@ use Rattle.rawk_arrays.specs.Elements.{Elements, array_at, cleared, element_at, 
 use Rattle.rawk_frames.specs.declared.frames.Local.{Local}
 use Rattle.rawk_frames.specs.declared.frames.Local.TheVariants.{Holds, Names}
 use Rattle.rawk_frames.specs.Frame.{Frame, locals_now, with_local}
-use Rattle.rawk_record.specs.Fields.{fields_of}
+use Rattle.rawk_pieces.specs.Fields.{fields_of}
 use Rattle.rawk_record.specs.Changed.{resized, with_value}
 pub use Rattle.rawk_record.specs.Changed.{joined}
 pub use Rattle.rawk_special.specs.declared.special.TheConstants.{NR, FNR, FS, OFS, ORS, RS, SUBSEP, CONVFMT, OFMT, RSTART, RLENGTH}

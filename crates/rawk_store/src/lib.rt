@@ -25,9 +25,8 @@ pub use rawk_frames::{
     Activation, Frames, FramesGroup, HasStacks, KeptStacks, KeysLeft, KeysLeftGroup, Local, Ranges,
     RangesGroup,
 };
-pub use rawk_record::{
-    FieldRef, Fields, Piece, Record, RecordChange, Separator, fields_of, pieces_between,
-};
+pub use rawk_pieces::{Fields, Piece, Separator, fields_of, pieces_between};
+pub use rawk_record::{FieldRef, Record, RecordChange};
 pub use rawk_slots::{Reversible, Saved, SlotGroup, Slots, Stack, StackGroup, led_to, saved_at};
 pub use registers::{Bank, Ending, Phase, Registers};
 pub use split::fill_elements;

@@ -3,7 +3,7 @@
 ghost use Rattle.std.specs.Prelude.{◌≡◌, OnOk};
 ghost use Rattle.std.specs.Bool.{OnTrue};
 ghost use Rattle.rawk_value.specs.Values.{text_of};
-ghost use Rattle.rawk_record.specs.Pieces.{AllInRange, texts};
+ghost use Rattle.rawk_pieces.specs.Pieces.{AllInRange, texts};
 ghost use Rattle.rawk_arrays.specs.Elements.{cleared, with_element};
 ghost use Rattle.rawk_arrays.specs.Laid.{GrownArrays, arrays_of};
 ghost use Rattle.rawk_frames.specs.LaidFrames.{frames_of};
@@ -12,7 +12,7 @@ ghost use Rattle.rawk_store.specs.State.{array_in, fill_elements, numbered};
 use crate::assign::array_number;
 use rawk_arrays::Arrays;
 use rawk_frames::Frames;
-use rawk_record::Piece;
+use rawk_pieces::Piece;
 use rawk_value::{Bytes, Value};
 use rawk_words::Array;
 use std::alloc::{AllocError, Global};

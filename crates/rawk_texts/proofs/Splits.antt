@@ -10,7 +10,7 @@ use Rattle.rawk_tree.specs.declared.tree.Separation.{Separation}
 use Rattle.rawk_tree.specs.declared.tree.Separation.TheVariants as separation
 use Rattle.rawk_ere_tree.specs.Tree.{Tree}
 use Rattle.rawk_search.specs.Expressions.{ere_of}
-use Rattle.rawk_record.specs.Fields.{dynamic_parts}
+use Rattle.rawk_pieces.specs.Fields.{dynamic_parts}
 use Rattle.rawk_operators.specs.Operators.{separated}
 use Rattle.rawk_arrays.specs.Elements.{Elements}
 use Rattle.rawk_store.specs.declared.registers.Ending.TheVariants as ending

@@ -1,5 +1,5 @@
 use Rattle.std.proofs.Common.{◌≡◌, ◌∙◌, ◌++◌, ap, List, ℕ}
-use Rattle.rawk_record.specs.Pieces.{split_by}
+use Rattle.rawk_pieces.specs.Pieces.{split_by}
 use Rattle.rawk_record.proofs.Values.{values-cut}
 use Rattle.rawk_record.proofs.held.refill_parts.Goals as goal
 

@@ -1,5 +1,5 @@
 use Rattle.std.proofs.Common.{slice_index_or, ◌<◌, length, arith, refl}
-use Rattle.rawk_record.specs.declared.pieces.Piece.{Piece}
+use Rattle.rawk_pieces.specs.declared.pieces.Piece.{Piece}
 use Rattle.rawk_record.proofs.Shorts.{put_more}
 use Rattle.rawk_record.proofs.short.put_pieces.Goals as goal
 

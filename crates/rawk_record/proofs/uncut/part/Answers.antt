@@ -2,7 +2,7 @@ use Rattle.std.proofs.Common.{rules, ◌∙◌, ◌==◌, ◌&&◌, ◌||◌, �
 use borrow.Author.Tests.{tests}
 use Rattle.std.proofs.lemmas.Iterator.Consumers.{nth_from_yields_List}
 use Rattle.std.proofs.lemmas.Iterator.Splits.{YieldsList-from_slice_split}
-use Rattle.rawk_record.proofs.Cuts.{parts-split}
+use Rattle.rawk_record.proofs.Counts.{parts-split}
 use Rattle.rawk_record.proofs.uncut.part.Goals as goal
 
 pub returns : goal.returns

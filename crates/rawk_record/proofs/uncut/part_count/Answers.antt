@@ -1,8 +1,8 @@
-use Rattle.std.proofs.Common.{rules, ◌∙◌, ◌==◌, ◌&&◌, ◌||◌, ◌<◌, ℕ, List, length, ap, sym, arith}
+use Rattle.std.proofs.Common.{rules, ◌∙◌, ◌==◌, ◌&&◌, ◌||◌, ◌<◌, ℕ, length, ap, sym, arith}
 use borrow.Author.Tests.{tests}
 use Rattle.std.proofs.lemmas.Iterator.Consumers.{count_from_yields_List}
 use Rattle.std.proofs.lemmas.Iterator.Splits.{YieldsList-from_slice_split}
-use Rattle.rawk_record.proofs.Cuts.{parts-split}
+use Rattle.rawk_record.proofs.Counts.{parts-split}
 use Rattle.rawk_record.proofs.uncut.part_count.Goals as goal
 
 pub returns : goal.returns

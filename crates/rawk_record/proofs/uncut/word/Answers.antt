@@ -3,7 +3,7 @@ use borrow.Author.Tests.{tests}
 use Rattle.std.proofs.lemmas.Iterator.Consumers.{nth_from_yields_List, YieldsList-from_filter, YieldsList-at}
 use Rattle.std.proofs.lemmas.Iterator.Splits.{YieldsList-from_slice_split}
 use Rattle.rawk_value.specs.Values.{is_blank}
-use Rattle.rawk_record.specs.Pieces.{has_bytes}
+use Rattle.rawk_pieces.specs.Pieces.{has_bytes}
 use Rattle.rawk_record.proofs.uncut.word.Goals as goal
 
 pub returns : goal.returns

@@ -2,7 +2,7 @@ use Rattle.std.proofs.Common.{◌≡◌, ◌∙◌, List, ap, length, sym}
 use Rattle.std.proofs.lemmas.List.{length-map}
 use Rattle.std.specs.Prelude.{slice_range}
 use Rattle.std.specs.FinMap.{len}
-use Rattle.rawk_record.specs.Pieces.{texts}
+use Rattle.rawk_pieces.specs.Pieces.{texts}
 use Rattle.rawk_arrays.specs.Elements.{Elements, array_at, cleared}
 use Rattle.rawk_arrays.specs.Laid.{arrays_of}
 use Rattle.rawk_store.specs.State.{numbered}

@@ -1,7 +1,7 @@
 use Rattle.std.proofs.Common.{◌≡◌, ◌+◌, drop, nat_eq}
 use Rattle.std.specs.Prelude.{not}
 use Rattle.std.specs.Bool.{OnTrue}
-use Rattle.rawk_record.specs.Pieces.{texts}
+use Rattle.rawk_pieces.specs.Pieces.{texts}
 use Rattle.rawk_arrays.specs.Laid.{GrownArrays, arrays_of}
 use Rattle.rawk_store.specs.State.{numbered}
 use Rattle.rawk_store.proofs.split.put_pieces.Given as goal

@@ -5,9 +5,9 @@ use Rattle.std.specs.Prelude.{slice_range}
 use Rattle.rawk_value.specs.declared.fault.Fault.{Fault}
 use Rattle.rawk_value.specs.declared.value.Value.TheVariants.{Number}
 use Rattle.rawk_value.specs.Values.{Bytes, text_of}
-use Rattle.rawk_record.specs.Pieces.{texts}
-use Rattle.rawk_record.specs.declared.pieces.Piece.{Piece}
-use Rattle.rawk_record.specs.declared.pieces.Fields.{Fields}
+use Rattle.rawk_pieces.specs.Pieces.{texts}
+use Rattle.rawk_pieces.specs.declared.pieces.Piece.{Piece}
+use Rattle.rawk_pieces.specs.declared.pieces.Fields.{Fields}
 use Rattle.rawk_operators.specs.Separations.{Separates}
 use Rattle.rawk_arrays.specs.Laid.{arrays_of}
 use Rattle.rawk_store.specs.State.{array_in, fill_elements}

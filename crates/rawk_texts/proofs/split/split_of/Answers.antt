@@ -4,9 +4,9 @@ use Rattle.std.proofs.lemmas.List.{length-map}
 use Rattle.rawk_value.specs.declared.fault.Fault.{Fault}
 use Rattle.rawk_value.specs.declared.value.Value.TheVariants.{Number}
 use Rattle.rawk_value.specs.Values.{Bytes, text_of}
-use Rattle.rawk_record.specs.Pieces.{texts}
-use Rattle.rawk_record.specs.declared.pieces.Piece.{Piece}
-use Rattle.rawk_record.specs.declared.pieces.Fields.{Fields}
+use Rattle.rawk_pieces.specs.Pieces.{texts}
+use Rattle.rawk_pieces.specs.declared.pieces.Piece.{Piece}
+use Rattle.rawk_pieces.specs.declared.pieces.Fields.{Fields}
 use Rattle.rawk_operators.specs.Borrowed.{borrowed_value}
 use Rattle.rawk_operators.specs.Operators.{parts_between}
 use Rattle.rawk_operators.specs.Separations.{Separates}

@@ -1,9 +1,9 @@
 use Rattle.std.proofs.Common.{◌≡◌, ◌≤◌, ◌<◌, ◌-◌, ◌∙◌, [], arith, ap, sym, subst, length, take, map, slice_index_or, refl}
 use Rattle.rawk_value.specs.declared.value.Value.TheVariants.{Input}
-use Rattle.rawk_record.specs.Pieces.{IsInRange}
+use Rattle.rawk_pieces.specs.Pieces.{IsInRange}
 use Rattle.rawk_record.specs.Shown.{Shown}
 use Rattle.rawk_record.specs.ShortPieces.{wide}
-use Rattle.rawk_record.specs.declared.pieces.Piece.{Piece}
+use Rattle.rawk_pieces.specs.declared.pieces.Piece.{Piece}
 use Rattle.rawk_record.specs.declared.short.ShortPiece.{ShortPiece}
 use Rattle.rawk_record.proofs.Shorts.{get_wide, length-wide}
 use Rattle.rawk_record.proofs.Values.{field_placed, get_beyond, get_there}

@@ -1,0 +1,5 @@
+pub mod Cuts
+pub mod Masks
+pub mod Newlines
+pub mod Separated
+pub mod Rows

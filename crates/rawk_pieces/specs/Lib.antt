@@ -1,0 +1,5 @@
+pub mod Fields
+pub mod Masks
+pub mod Pieces
+pub mod Separators
+pub mod Laws

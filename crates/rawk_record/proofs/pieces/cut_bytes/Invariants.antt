@@ -1,5 +1,0 @@
-use Rattle.rawk_record.specs.Pieces.{IsCut}
-use Rattle.rawk_record.proofs.pieces.cut_bytes.Given as goal
-
-abbrev pub invariant-loop-end : goal.invariant-loop-end
-invariant-loop-end g l = IsCut (g.C.Class.contains l.class) l.empty_too l.text l.pieces.items l.start l.end
