@@ -1,10 +1,9 @@
 -- How a walk over the index of an array stands, from the last one to the first.
-use Rattle.std.specs.Prelude.{◌≡◌, ◌≢◌, ℕ, ◌+◌, ◌≤◌, nat_lt, is_some, Bool, false, if◌then◌else◌, List, length, map, slice_get, Option, None, Some}
+use Rattle.std.specs.Prelude.{◌≡◌, ◌≢◌, ℕ, ◌+◌, ◌≤◌, nat_lt, is_some, Bool, false, if◌then◌else◌, List, length, slice_get, Option, None, Some}
 use Rattle.std.specs.List.{sum_by}
 use Rattle.std.specs.Ordering.{nat_cmp, eq_by_cmp}
 use Rattle.std.specs.Cmp.Lexicographic.{slice_cmp}
 use Rattle.std.specs.FinMap.{contains_key}
-use Rattle.std.specs.Global.{Vec}
 use Rattle.rawk_value.specs.Values.{Bytes}
 use Rattle.rawk_arrays.specs.Elements.{Elements}
 use Rattle.rawk_value.specs.declared.value.Value.{Value}
@@ -40,9 +39,6 @@ times q keys = sum_by (λ k. one (eq_by_cmp (slice_cmp nat_cmp) q k)) keys
 -- the list has each key of the array once, and no other
 abbrev pub IsEach : List Bytes → Elements → Type 0
 IsEach keys m = (q : Bytes) → times q keys ≡ one (contains_key m q)
-
-abbrev pub texts : List (Vec ℕ) → List Bytes
-texts vs = map (λ v. v.items) vs
 
 -- a slot that is filled, and not before a place
 abbrev pub is_seen : ℕ → ℕ → Option Value → Bool

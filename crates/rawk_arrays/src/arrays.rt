@@ -2,7 +2,6 @@
 
 ghost use Rattle.std.specs.Prelude.{◌≡◌, false, ◌≤◌, ℕ, ◌++◌, ◌∷◌, [], IfOk, IfSome, MatchOption, OnErr, OnOk, Some, length, replicate, slice_get, take};
 ghost use Rattle.std.specs.FinMap.{len};
-ghost use Rattle.rawk_arrays.specs.Walks.{texts};
 ghost use Rattle.std.specs.Bool.{OnTrue};
 ghost use Rattle.std.specs.Option.{option_copied};
 ghost use Rattle.rawk_value.specs.Values.{Bytes, text_of};
@@ -21,8 +20,8 @@ use crate::counts::{count, recount_back};
 use itoa::Buffer;
 use rawk_keys::Keys;
 use rawk_slots::{Reversible, SlotGroup, Slots};
-use rawk_value::Value;
 use rawk_value::order::digits_in;
+use rawk_value::{Bytes, Value};
 use std::alloc::{AllocError, Global};
 use std::marker::Model;
 
@@ -186,8 +185,8 @@ impl Arrays {
     }
 
     /// The keys of an array's elements, in byte order: a copy of each, and one sort. It fails where memory is refused.
-    pub fn keys(&self, alloc: Global, array: usize) -> Result<Vec<Vec<u8>>, AllocError>
-        ensures { IfOk result (λ found. texts found.items ≡ keys_at array (arrays_of self.now.now)) }
+    pub fn keys(&self, alloc: Global, array: usize) -> Result<Vec<Bytes>, AllocError>
+        ensures { IfOk result (λ found. found.items ≡ keys_at array (arrays_of self.now.now)) }
     {
         if array >= self.live {
             return Ok(Vec::new(alloc));

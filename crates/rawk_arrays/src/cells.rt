@@ -11,15 +11,15 @@ ghost use Rattle.rawk_arrays.specs.Elements.{map_keys, put};
 ghost use Rattle.rawk_arrays.specs.Laid.{AreDistinct, AreLaid, IsCovered, IsEmptied, IsLaid, IsPacked, IsPut, IsSpread, elements_of, slot};
 ghost use Rattle.rawk_arrays.specs.Counted.{AreCounted, IsAddedTo};
 ghost use Rattle.rawk_arrays.specs.Heads.{IsHeaded, headed_keys};
-ghost use Rattle.rawk_arrays.specs.Walks.{IsEach, IsSlotEmptied, texts};
+ghost use Rattle.rawk_arrays.specs.Walks.{IsEach, IsSlotEmptied};
 
 use crate::counts::{reach, recount};
 use crate::heads::{HeadedKey, copies, headed};
 use itoa::Buffer;
 use rawk_keys::Keys;
 use rawk_slots::Slots;
-use rawk_value::Value;
 use rawk_value::order::digits_in;
+use rawk_value::{Bytes, Value};
 use std::alloc::{AllocError, Global};
 
 /// Slots of elements, filled or empty.
@@ -295,9 +295,9 @@ pub(crate) fn keys(
     cells: &ElementSlots,
     array: usize,
     count: usize,
-) -> Result<Vec<Vec<u8>>, AllocError>
+) -> Result<Vec<Bytes>, AllocError>
     requires { IsLaid index.now cells.now.now }
-    ensures { IfOk result (λ found. texts found.items ≡ map_keys (elements_of array index.now cells.now.now)) }
+    ensures { IfOk result (λ found. found.items ≡ map_keys (elements_of array index.now cells.now.now)) }
 {
     let mut found = keys_unsorted(alloc, index, cells, array, count)?;
     found.sort_unstable();

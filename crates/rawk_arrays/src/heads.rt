@@ -2,8 +2,8 @@
 
 ghost use Rattle.std.specs.Prelude.{◌≡◌, ◌≤◌, IfOk, slice_index_or};
 ghost use Rattle.rawk_arrays.specs.Heads.{IsHeaded, headed_keys, number_with};
-ghost use Rattle.rawk_arrays.specs.Walks.{texts};
 
+use rawk_value::Bytes;
 use std::alloc::{AllocError, Global};
 
 /// A key behind its first eight bytes and its next eight, each as a number.
@@ -58,12 +58,12 @@ pub(crate) fn headed(key: &[u8]) -> HeadedKey<'_>
 }
 
 /// Copies of the keys alone.
-pub(crate) fn copies(alloc: Global, found: &[HeadedKey<'_>]) -> Result<Vec<Vec<u8>>, AllocError>
-    ensures { IfOk result (λ copied. texts copied.items ≡ headed_keys found.now) }
+pub(crate) fn copies(alloc: Global, found: &[HeadedKey<'_>]) -> Result<Vec<Bytes>, AllocError>
+    ensures { IfOk result (λ copied. copied.items ≡ headed_keys found.now) }
 {
     let mut copied = Vec::with_capacity(alloc, found.len())?;
     for headed in found {
-        copied.push(Vec::from_slice(alloc, headed.key)?)?;
+        copied.push(Bytes::from_slice(alloc, headed.key)?)?;
     }
     Ok(copied)
 }

@@ -6,7 +6,7 @@ use Rattle.rawk_frames.specs.declared.frames.FramesChange.TheVariants as frames
 use Rattle.rawk_frames.specs.declared.keys_left.KeysChange.{KeysChange}
 use Rattle.rawk_frames.specs.declared.keys_left.KeysChange.TheVariants as keys
 use Rattle.rawk_frames.specs.Frame.{Frame, new_frame, with_local, with_more}
-use Rattle.rawk_frames.specs.LaidKeys.{texts, without_first}
+use Rattle.rawk_frames.specs.LaidKeys.{without_first}
 
 -- the activations after a change, the newest first
 abbrev pub changed_frames : FramesChange → List Frame → List Frame
@@ -18,7 +18,7 @@ changed_frames frames.LeaveAll all = []
 
 -- the keys that are left after a change, the innermost loop first
 abbrev pub changed_keys : KeysChange → List (List Bytes) → List (List Bytes)
-changed_keys (keys.Begin list) all = texts list.items ∷ all
+changed_keys (keys.Begin list) all = list.items ∷ all
 changed_keys keys.Advance all = without_first all
 changed_keys (keys.End count) all = drop count all
 changed_keys keys.Clear all = []

@@ -1,7 +1,8 @@
 -- Slots that were added beyond the live ones change no activation and no key, and putting back works over them.
-use Rattle.std.specs.Prelude.{◌≡◌, ℕ, List, map, refl}
+use Rattle.std.specs.Prelude.{◌≡◌, List, map, refl}
 use Rattle.std.proofs.Common.{ap, ◌∙◌}
 use Rattle.std.specs.Global.{Vec}
+use Rattle.rawk_value.specs.Values.{Bytes}
 use Rattle.rawk_slots.specs.Stacked.{IsLive, live_slots, live_values}
 use Rattle.rawk_slots.specs.StackLaws.{live_slots-grown, live_values-grown, FitsStack-over, FitsStackIf-over, GrownStack-back, GrownStack-in, GrownStack-refl, GrownStack-trans, IsLive-grown, IsLive-stack_back, IsLive-stack_in}
 use Rattle.rawk_frames.specs.declared.frames.Local.{Local}
@@ -77,7 +78,7 @@ frames_lead_back-grown l m earlier group h e g =
 pub keys_of-grown : (l m : LaidKeys) → GrownKeys l m → AreKeysLive l → keys_of m ≡ keys_of l
 keys_of-grown l m g h =
     ap (λ xs. left_lists xs (live_values m.lists)) (live_values-grown l.visited m.visited g.visited h.visited)
-    ∙ ap (λ (xs : List (Vec (Vec ℕ))). left_lists (live_values l.visited) xs) (live_values-grown l.lists m.lists g.lists h.lists)
+    ∙ ap (λ (xs : List (Vec Bytes)). left_lists (live_values l.visited) xs) (live_values-grown l.lists m.lists g.lists h.lists)
 
 pub AreKeysLive-grown : (l m : LaidKeys) → GrownKeys l m → AreKeysLive l → AreKeysLive m
 AreKeysLive-grown l m g h = record { lists = IsLive-grown l.lists m.lists g.lists h.lists; visited = IsLive-grown l.visited m.visited g.visited h.visited }

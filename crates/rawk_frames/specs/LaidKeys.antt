@@ -1,24 +1,21 @@
 -- Keys that loops still visit: on one stack their lists, on another how many of each were visited.
-use Rattle.std.specs.Prelude.{◌≡◌, ℕ, List, [], ◌∷◌, drop, map}
+use Rattle.std.specs.Prelude.{◌≡◌, ℕ, List, [], ◌∷◌, drop}
 use Rattle.std.specs.Global.{Vec}
 use Rattle.rawk_value.specs.Values.{Bytes}
 use Rattle.rawk_slots.specs.Stacked.{Stacked, GrownStack, IsLive, empty_stack, live_values}
 
 pub record LaidKeys : Type 0 where
-  pub lists : Stacked (Vec (Vec ℕ))
+  pub lists : Stacked (Vec Bytes)
   pub visited : Stacked ℕ
 
 abbrev pub no_keys : LaidKeys
 no_keys = record { lists = empty_stack; visited = empty_stack }
 
-abbrev pub texts : List (Vec ℕ) → List Bytes
-texts keys = map (λ k. k.items) keys
-
 -- the lists without what was visited
-abbrev pub left_lists : List ℕ → List (Vec (Vec ℕ)) → List (List Bytes)
+abbrev pub left_lists : List ℕ → List (Vec Bytes) → List (List Bytes)
 left_lists [] lists = []
 left_lists (n ∷ visited) [] = []
-left_lists (n ∷ visited) (l ∷ lists) = drop n (texts l.items) ∷ left_lists visited lists
+left_lists (n ∷ visited) (l ∷ lists) = drop n l.items ∷ left_lists visited lists
 
 -- for each loop the keys that are left, the innermost loop first
 abbrev pub keys_of : LaidKeys → List (List Bytes)

@@ -5,11 +5,12 @@ ghost use Rattle.std.specs.Bool.{OnTrue};
 ghost use Rattle.std.specs.Option.{option_copied};
 ghost use Rattle.rawk_slots.specs.Journaled.{at_rest};
 ghost use Rattle.rawk_slots.specs.Stacked.{live_values};
-ghost use Rattle.rawk_frames.specs.LaidKeys.{AreKeysLive, GrownKeys, keys_now, keys_of, left_lists, no_keys, texts, without_first};
+ghost use Rattle.rawk_frames.specs.LaidKeys.{AreKeysLive, GrownKeys, keys_now, keys_of, left_lists, no_keys, without_first};
 ghost use Rattle.rawk_frames.specs.KeysBack.{FitsKeys, keys_back};
 ghost use Rattle.rawk_frames.specs.FramesChanges.{changed_keys};
 
 use rawk_slots::{Reversible, SlotGroup, Slots, Stack, StackGroup};
+use rawk_value::Bytes;
 use std::alloc::{AllocError, Global};
 use std::marker::Model;
 
@@ -24,7 +25,7 @@ pub type RangesGroup = SlotGroup<bool>;
 /// A loop's list stays whole, and a number says how many of its keys were visited: so a key is given back without memory.
 #[derive(Drop)]
 pub struct KeysLeft {
-    lists: Stack<Vec<Vec<u8>>>,
+    lists: Stack<Vec<Bytes>>,
     visited: Stack<usize>,
 }
 
@@ -43,14 +44,14 @@ impl Model for KeysLeft {
 /// What a step changed in the keys that are left.
 #[derive(Drop)]
 pub struct KeysLeftGroup {
-    pub lists: StackGroup<Vec<Vec<u8>>>,
+    pub lists: StackGroup<Vec<Bytes>>,
     pub visited: StackGroup<usize>,
 }
 
 /// A change of the keys that are left.
 #[derive(Drop)]
 pub enum KeysChange {
-    Begin(Vec<Vec<u8>>),
+    Begin(Vec<Bytes>),
     Advance,
     End(usize),
     Clear,
@@ -68,8 +69,8 @@ impl KeysLeft {
     }
 
     /// Begins a loop over these keys. It fails where memory is refused.
-    pub fn begin<const SAVES: bool>(&mut self, keys: Vec<Vec<u8>>) -> Result<(), AllocError>
-        ensures did { OnOk result (keys_of self.new.now ≡ texts keys.items ∷ keys_of self.old.now) }
+    pub fn begin<const SAVES: bool>(&mut self, keys: Vec<Bytes>) -> Result<(), AllocError>
+        ensures did { OnOk result (keys_of self.new.now ≡ keys.items ∷ keys_of self.old.now) }
         ensures start { OnTrue SAVES (GrownKeys self.old.start self.new.start) }
     {
         self.visited.push::<SAVES>(0)?;
@@ -77,7 +78,7 @@ impl KeysLeft {
     }
 
     /// The next key of the innermost loop, if one is left.
-    pub fn next(&self) -> Option<&[u8]>
+    pub fn next(&self) -> Option<&Bytes>
         ensures { option_copied result ≡ slice_get (keys_now (keys_of self.now.now)) 0 }
     {
         next_of(&self.lists, &self.visited)
@@ -234,7 +235,7 @@ impl Reversible for KeysLeft {
 }
 
 /// The next key of the innermost loop.
-fn next_of<'a>(lists: &'a Stack<Vec<Vec<u8>>>, visited: &Stack<usize>) -> Option<&'a [u8]>
+fn next_of<'a>(lists: &'a Stack<Vec<Bytes>>, visited: &Stack<usize>) -> Option<&'a Bytes>
     ensures { option_copied result ≡ slice_get (keys_now (left_lists (live_values visited.now.now) (live_values lists.now.now))) 0 }
 {
     match visited.newest(0) {
@@ -247,18 +248,15 @@ fn next_of<'a>(lists: &'a Stack<Vec<Vec<u8>>>, visited: &Stack<usize>) -> Option
 }
 
 /// A key of a list.
-fn key_of(list: &Vec<Vec<u8>>, number: usize) -> Option<&[u8]>
-    ensures { option_copied result ≡ slice_get (drop number (texts list.now.items)) 0 }
+fn key_of(list: &Vec<Bytes>, number: usize) -> Option<&Bytes>
+    ensures { option_copied result ≡ slice_get (drop number list.now.items) 0 }
 {
-    match list.get(number) {
-        Some(key) => Some(key.as_slice()),
-        None => None,
-    }
+    list.get(number)
 }
 
 /// One more key of the innermost loop is visited.
 fn advance_of<const SAVES: bool>(
-    lists: &Stack<Vec<Vec<u8>>>,
+    lists: &Stack<Vec<Bytes>>,
     visited: &mut Stack<usize>,
 ) -> Result<(), AllocError>
     ensures did { OnOk result (left_lists (live_values visited.new.now) (live_values lists.now.now) ≡ without_first (left_lists (live_values visited.old.now) (live_values lists.now.now))) }

@@ -8,7 +8,6 @@ ghost use Rattle.rawk_value.specs.Values.{is_empty, text_of};
 ghost use Rattle.rawk_record.specs.Changed.{rebuilt, with_value};
 ghost use Rattle.rawk_record.specs.Shown.{read_as};
 ghost use Rattle.rawk_arrays.specs.Laid.{GrownArrays, arrays_of};
-ghost use Rattle.rawk_arrays.specs.Walks.{texts};
 ghost use Rattle.rawk_frames.specs.LaidFrames.{frames_of};
 ghost use Rattle.rawk_store.specs.Assigned.{HasAssigned};
 ghost use Rattle.rawk_store.specs.Layout.{Grown};
@@ -27,7 +26,7 @@ use rawk_current::Current;
 use rawk_frames::{Frames, Local};
 use rawk_special::{FS, OFS, RS};
 use rawk_value::order::text_in;
-use rawk_value::{Fault, Value};
+use rawk_value::{Bytes, Fault, Value};
 use rawk_words::Array;
 use std::alloc::{AllocError, Global};
 
@@ -241,8 +240,8 @@ impl Store {
     }
 
     /// The keys of an array in byte order, none where it is not there: a copy of each. It fails where memory is refused.
-    pub fn array_keys(&self, alloc: Global, array: Array) -> Result<Vec<Vec<u8>>, AllocError>
-        ensures { IfOk result (λ keys. texts keys.items ≡ keys_in (array_in array (frames_of self.now.frames.now)) (arrays_of self.now.arrays.now)) }
+    pub fn array_keys(&self, alloc: Global, array: Array) -> Result<Vec<Bytes>, AllocError>
+        ensures { IfOk result (λ keys. keys.items ≡ keys_in (array_in array (frames_of self.now.frames.now)) (arrays_of self.now.arrays.now)) }
     {
         match array_number(&self.frames, array) {
             Some(number) => self.arrays.keys(alloc, number),
