@@ -169,7 +169,7 @@ fn keys(alloc: Global, arrays: &Arrays) -> Result<u64, AllocError> {
     let found = arrays.keys(alloc, 0)?;
     let mut bytes = 0u64;
     for key in &found {
-        bytes = bytes.wrapping_add(key.len() as u64);
+        bytes = bytes.wrapping_add(key.as_slice().len() as u64);
     }
     Ok(bytes)
 }

@@ -16,7 +16,7 @@ use rawk_machine::Machine;
 use rawk_store::{Ending, FieldRef, Target, ValueRef};
 use rawk_tape::Source;
 use rawk_tree::Program;
-use rawk_value::{Fault, Value};
+use rawk_value::{Bytes, Fault, Value};
 use rawk_words::Array;
 use std::alloc::{AllocError, Global};
 use std::marker::Model;
@@ -178,7 +178,7 @@ impl<R: Source + Drop, K: Keeper> Stepper for Stage<R, K> {
         self.machine.elements_named(array)
     }
 
-    fn array_keys(&self, alloc: Global, array: Array) -> Result<Vec<Vec<u8>>, AllocError> {
+    fn array_keys(&self, alloc: Global, array: Array) -> Result<Vec<Bytes>, AllocError> {
         self.machine.keys_named(alloc, array)
     }
 

@@ -6,7 +6,6 @@ ghost use Rattle.rawk_tape.specs.Inputs.{before as behind};
 ghost use Rattle.rawk_tape.specs.declared.source.Ending.TheVariants.{Failed};
 ghost use Rattle.rawk_record.specs.FieldRefs.{ref_value};
 ghost use Rattle.rawk_frames.specs.Frame.{locals_now};
-ghost use Rattle.rawk_arrays.specs.Walks.{texts};
 ghost use Rattle.rawk_store.specs.State.{array_in, assigned, count_in, element_in, keys_in};
 ghost use Rattle.rawk_code.specs.Actions.{fault_of};
 ghost use Rattle.rawk_answers.specs.Positions.{Position, Snapshot, IsPosition, Stands, IsTakenBack, gone_to, back_at, with_set, has_set_at};
@@ -21,7 +20,7 @@ use rawk_record::FieldRef;
 use rawk_store::{Ending, Target};
 use rawk_tape::Source;
 use rawk_tree::Program;
-use rawk_value::{Fault, Value};
+use rawk_value::{Bytes, Fault, Value};
 use rawk_words::Array;
 use std::alloc::{AllocError, Global};
 
@@ -131,8 +130,8 @@ pub trait Stepper: Drop {
         ensures { result ≡ count_in (array_in array (held self.now).state.frames) (held self.now).state.arrays };
 
     /// The keys of an array, in byte order. It fails where memory is refused.
-    fn array_keys(&self, alloc: Global, array: Array) -> Result<Vec<Vec<u8>>, AllocError>
-        ensures { IfOk result (λ keys. texts keys.items ≡ keys_in (array_in array (held self.now).state.frames) (held self.now).state.arrays) };
+    fn array_keys(&self, alloc: Global, array: Array) -> Result<Vec<Bytes>, AllocError>
+        ensures { IfOk result (λ keys. keys.items ≡ keys_in (array_in array (held self.now).state.frames) (held self.now).state.arrays) };
 
     /// Whether what a place holds differs between the points before and after the last step: the value, in kind or content, or whether an element is there.
     /// It takes no memory.

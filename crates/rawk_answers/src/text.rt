@@ -3,7 +3,6 @@
 ghost use Rattle.std.specs.Prelude.{◌≡◌, ◌++◌, ◌∷◌, [], drop, OnOk, slice_index_or};
 ghost use Rattle.rawk_value.specs.Values.{decimal};
 ghost use Rattle.rawk_tree.specs.Sites.{line_at};
-ghost use Rattle.rawk_arrays.specs.Walks.{texts};
 ghost use Rattle.rawk_commands.specs.Texts.{shown_held, shown_value};
 ghost use Rattle.rawk_store.specs.State.{local_value};
 ghost use Rattle.rawk_answers.specs.Activations.{function_at, name_of};
@@ -404,9 +403,9 @@ fn push_elements<M: Stepper>(
     out: &mut Vec<u8>,
     machine: &M,
     array: Array,
-    keys: &[Vec<u8>],
+    keys: &[Bytes],
 ) -> Result<(), AllocError>
-    ensures { OnOk result (out.new.items ≡ out.old.items ++ element_lines (M.position machine.now).program array (M.held machine.now) (texts keys.now)) }
+    ensures { OnOk result (out.new.items ≡ out.old.items ++ element_lines (M.position machine.now).program array (M.held machine.now) keys.now) }
 {
     for key in keys {
         push_element_line(out, machine, array, key.as_slice())?;

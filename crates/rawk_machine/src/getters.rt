@@ -5,7 +5,6 @@ ghost use Rattle.std.specs.FinMap.{len};
 ghost use Rattle.rawk_value.specs.Values.{Bytes};
 ghost use Rattle.rawk_frames.specs.Frame.{Frame, IsOf, locals_now};
 ghost use Rattle.rawk_arrays.specs.Elements.{array_at, element_at};
-ghost use Rattle.rawk_arrays.specs.Walks.{texts};
 ghost use Rattle.rawk_store.specs.State.{array_in, count_in, element_in, keys_in};
 ghost use Rattle.rawk_tape.specs.Records.{Input};
 ghost use Rattle.rawk_record.specs.FieldRefs.{ref_value};
@@ -17,7 +16,7 @@ use crate::machine::Machine;
 use rawk_history::Keeper;
 use rawk_store::{Activation, Ending, FieldRef, Local};
 use rawk_tape::Source;
-use rawk_value::Value;
+use rawk_value::{Bytes, Value};
 use rawk_words::Array;
 use std::alloc::{AllocError, Global};
 
@@ -91,8 +90,8 @@ impl<R: Source + Drop, K: Keeper> Machine<R, K> {
     }
 
     /// The keys of an array in byte order, none where it is not there: a copy of each. It fails where memory is refused.
-    pub fn keys_named(&self, alloc: Global, array: Array) -> Result<Vec<Vec<u8>>, AllocError>
-        ensures { IfOk result (λ keys. texts keys.items ≡ keys_in (array_in array self.now.state.frames) self.now.state.arrays) }
+    pub fn keys_named(&self, alloc: Global, array: Array) -> Result<Vec<Bytes>, AllocError>
+        ensures { IfOk result (λ keys. keys.items ≡ keys_in (array_in array self.now.state.frames) self.now.state.arrays) }
     {
         self.store.array_keys(alloc, array)
     }

@@ -21,12 +21,12 @@ use rawk_value::{Bytes, Value};
 use rawk_words::Array;
 use std::alloc::{AllocError, Global};
 
-/// The next key of the innermost loop, which is empty where none is left. It fails where memory is refused.
+/// A copy of the next key of the innermost loop, which is empty where none is left. It fails where memory, or one more owner of a long key, is refused.
 fn next_key(alloc: Global, keys: &KeysLeft) -> Result<Bytes, AllocError>
     ensures { IfOk result (λ key. key ≡ next_key (keys_of keys.now.now)) }
 {
     match keys.next() {
-        Some(key) => Bytes::from_slice(alloc, key),
+        Some(key) => key.copy(),
         None => Bytes::from_slice(alloc, b""),
     }
 }

@@ -116,6 +116,7 @@ fn shown(alloc: Global, arrays: &Arrays) -> Result<Vec<u8>, AllocError> {
     for array in 0..arrays.len() {
         out.push(b'[')?;
         for key in &arrays.keys(alloc, array)? {
+            let key = key.as_slice();
             push_element(&mut out, key, arrays.element(array, key))?;
         }
         out.push(b']')?;

@@ -4,6 +4,7 @@
 
 use crate::stepped::{self, as_step};
 use rawk_frames::{KeysChange, KeysLeft};
+use rawk_value::Bytes;
 use rows_cases::setting_of;
 use std::alloc::{AllocError, Global};
 
@@ -24,7 +25,10 @@ fn text_after(
     for change in changes {
         make(alloc, left, change)?;
     }
-    Vec::from_slice(alloc, left.next().unwrap_or(b"none"))
+    match left.next() {
+        Some(key) => Vec::from_slice(alloc, key.as_slice()),
+        None => Vec::from_slice(alloc, b"none"),
+    }
 }
 
 /// Makes one change.
@@ -56,7 +60,7 @@ fn change_of(alloc: Global, change: &[u8]) -> Result<KeysChange, AllocError> {
     if let Some(words) = change.strip_prefix(b"begin ".as_slice()) {
         let mut keys = Vec::new(alloc);
         for key in words.split(|b| *b == b' ') {
-            keys.push(Vec::from_slice(alloc, key)?)?;
+            keys.push(Bytes::from_slice(alloc, key)?)?;
         }
         return Ok(KeysChange::Begin(keys));
     }

@@ -8,7 +8,7 @@ use crate::kept::STEPS;
 use rawk_machine::{Full, Machine, Step};
 use rawk_store::{FieldRef, Local};
 use rawk_tape::BytesSource;
-use rawk_value::push_number;
+use rawk_value::{Bytes, push_number};
 use rawk_words::Array;
 use rows_cases::push_value;
 use std::alloc::{AllocError, Global};
@@ -199,7 +199,7 @@ fn push_elements(
     out: &mut Vec<u8>,
     machine: &Machine<BytesSource, Full>,
     array: usize,
-    keys: &[Vec<u8>],
+    keys: &[Bytes],
 ) -> Result<(), AllocError> {
     for key in keys {
         out.extend_from_slice(key.as_slice())?;
