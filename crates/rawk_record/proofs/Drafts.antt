@@ -1,6 +1,7 @@
 -- Fields that are added to a record in the making.
-use Rattle.std.proofs.Common.{◌≡◌, ◌≤◌, ◌<◌, ◌+◌, ◌-◌, ℕ, zero, suc, true, cond, List, [], ◌∷◌, Option, None, Some, length, ◌++◌, take, drop, get_or, slice_range, nat_lt, arith, subst, sym, ◌∙◌, ap, refl, map, max, replicate, inl, inr, append_assoc}
-use Rattle.std.proofs.lemmas.List.{length-append, append-nil, drop-append-le, take-append-le, drop_at, take_all, take_more, length-drop, length-take, length-replicate, length-map, map_push, drop_all, set_split}
+use Rattle.std.proofs.Common.{◌≡◌, ◌≤◌, ◌<◌, ◌+◌, ◌-◌, ℕ, zero, suc, Bool, true, cond, List, [], ◌∷◌, Option, None, Some, length, ◌++◌, take, drop, get_or, slice_range, nat_lt, arith, sym, ◌∙◌, ap, refl, map, max, replicate, inl, inr, append_assoc}
+use Rattle.std.proofs.lemmas.List.{length-append, append-nil, drop-append-le, take-append-le, drop_at, take_all, take_more, length-drop, length-take, length-replicate, length-map, map_push, drop_all, drop-drop, set_split}
+use Rattle.std.proofs.Math.Seq.{take-add}
 use Rattle.std.proofs.lemmas.Grind.{replicate_next}
 use Rattle.std.proofs.lemmas.Bool.{lt-ltb, cases_lt}
 use Rattle.std.proofs.lemmas.List.Elements.{All-head, All-tail}
@@ -11,16 +12,32 @@ use Rattle.rawk_pieces.specs.Laws.{AllInRange-push}
 use Rattle.rawk_pieces.specs.Pieces.{IsInRange, AllInRange}
 use Rattle.rawk_record.specs.Shown.{values, piece_value}
 use Rattle.rawk_record.specs.Changed.{joined, resized, with_value}
-use Rattle.rawk_record.specs.Drafts.{values_of, IsDraft, IsOwn, IsPlaced}
+use Rattle.rawk_record.specs.Drafts.{values_of, with_ahead, IsDraft, IsDraftOf, IsKept, IsOwn}
 use Rattle.rawk_pieces.specs.declared.pieces.Piece.{Piece}
 use Rattle.rawk_record.specs.declared.parts.Parts.{Parts}
 use Rattle.rawk_record.proofs.Values.{length-values}
 
-values-push : (text : List ℕ) (pieces : List Piece) (kept : List (Option Value)) (piece : Piece) (own : Option Value) → length kept ≡ length pieces → values text (pieces ++ piece ∷ []) (kept ++ own ∷ []) ≡ values text pieces kept ++ piece_value text piece own ∷ []
-values-push text [] [] piece own e = refl
-values-push text [] (k ∷ ks) piece own e = absurd (omega arith)
-values-push text (p ∷ ps) [] piece own e = absurd (omega arith)
-values-push text (p ∷ ps) (k ∷ ks) piece own e = ap (λ (x : List Value). piece_value text p k ∷ x) (values-push text ps ks piece own (omega arith))
+-- a field behind those that there are, without a value of its own and with one
+values-none : (text : List ℕ) (pieces : List Piece) (kept : List (Option Value)) (piece : Piece) → length kept ≤ length pieces → values text (pieces ++ piece ∷ []) kept ≡ values text pieces kept ++ piece_value text piece None ∷ []
+values-none text [] [] piece h = refl
+values-none text [] (k ∷ ks) piece h = absurd (omega arith)
+values-none text (p ∷ ps) [] piece h = ap (λ (x : List Value). piece_value text p None ∷ x) (values-none text ps [] piece (omega arith))
+values-none text (p ∷ ps) (k ∷ ks) piece h = ap (λ (x : List Value). piece_value text p k ∷ x) (values-none text ps ks piece (omega arith))
+
+values-some : (text : List ℕ) (pieces : List Piece) (kept : List (Option Value)) (n : ℕ) (piece : Piece) (v : Value) → length kept + n ≡ length pieces → values text (pieces ++ piece ∷ []) (kept ++ (replicate n None ++ Some v ∷ [])) ≡ values text pieces kept ++ v ∷ []
+values-some text [] [] zero piece v h = refl
+values-some text [] [] (suc n) piece v h = absurd (omega arith)
+values-some text [] (k ∷ ks) n piece v h = absurd (omega arith)
+values-some text (p ∷ ps) [] zero piece v h = absurd (omega arith)
+values-some text (p ∷ ps) [] (suc n) piece v h = ap (λ (x : List Value). piece_value text p None ∷ x) (values-some text ps [] n piece v (omega arith))
+values-some text (p ∷ ps) (k ∷ ks) n piece v h = ap (λ (x : List Value). piece_value text p k ∷ x) (values-some text ps ks n piece v (omega arith))
+
+pub kept-none : (count : ℕ) (kept : List (Option Value)) (own : Option Value) → own ≡ None → length kept ≤ count → IsKept count own kept kept
+kept-none count kept own is h = λ text pieces piece e. values-none text pieces kept piece (omega (arith, e)) ∙ ap (λ (o : Option Value). values text pieces kept ++ piece_value text piece o ∷ []) (sym is)
+
+pub kept-some : (count : ℕ) (kept new : List (Option Value)) (n : ℕ) (v : Value) (own : Option Value) → own ≡ Some v → length kept + n ≡ count → new ≡ kept ++ (replicate n None ++ Some v ∷ []) → IsKept count own kept new
+kept-some count kept new n v own is h all = λ text pieces piece e.
+    ap (values text (pieces ++ piece ∷ [])) all ∙ (values-some text pieces kept n piece v (h ∙ sym e) ∙ ap (λ (o : Option Value). values text pieces kept ++ piece_value text piece o ∷ []) (sym is))
 
 -- a place in a text stays when the text grows
 slice_range-grown : (text more : List ℕ) (start end : ℕ) → start ≤ end → end ≤ length text → slice_range (text ++ more) start end ≡ slice_range text start end
@@ -60,15 +77,15 @@ joined-more separator (first ∷ texts) more =
     joined-push separator first texts more ∙ ap (λ b. joined separator (first ∷ texts) ++ (cond b separator [] ++ more)) (sym t)
 
 -- one field more, behind what stands there
-module _ (separator spaced grown : Bytes) (old new : Parts) (n start end : ℕ) (v : Value) (own : Option Value) (draft : IsDraft separator old) (count : n ≡ length old.pieces.items)
-    (sep : spaced ≡ old.text.items ++ cond (nat_lt 0 n) separator []) (more : grown ≡ spaced ++ text_of v) (owns : IsOwn v own) (from : start ≡ length spaced) (to : end ≡ length grown) (new_text : new.text.items ≡ grown)
-    (new_pieces : new.pieces.items ≡ old.pieces.items ++ record { start = start; end = end } ∷ []) (new_kept : new.kept.items ≡ old.kept.items ++ own ∷ []) where
+module _ (separator text spaced grown : Bytes) (pieces new_pieces : List Piece) (kept new_kept : List (Option Value)) (n start end : ℕ) (v : Value) (own : Option Value) (draft : IsDraftOf separator text pieces kept) (count : n ≡ length pieces)
+    (sep : spaced ≡ text ++ cond (nat_lt 0 n) separator []) (more : grown ≡ spaced ++ text_of v) (owns : IsOwn v own) (from : start ≡ length spaced) (to : end ≡ length grown)
+    (pushed : new_pieces ≡ pieces ++ record { start = start; end = end } ∷ []) (keeps : IsKept (length pieces) own kept new_kept) (aligns : length new_kept ≤ length pieces + 1) where
   tail : Bytes
   tail = cond (nat_lt 0 n) separator [] ++ text_of v
 
-  grown-is : grown ≡ old.text.items ++ tail
+  grown-is : grown ≡ text ++ tail
   unfolding tail
-  grown-is = more ∙ (ap (λ (x : Bytes). x ++ text_of v) sep ∙ append_assoc old.text.items _ _)
+  grown-is = more ∙ (ap (λ (x : Bytes). x ++ text_of v) sep ∙ append_assoc text _ _)
 
   last-is : piece_value grown (record { start = start; end = end }) own ≡ v
   last-is =
@@ -77,41 +94,67 @@ module _ (separator spaced grown : Bytes) (old new : Parts) (n start end : ℕ) 
       ∙ (ap (λ k. piece_value (spaced ++ text_of v) (record { start = k; end = end }) own) from
       ∙ piece_value-end spaced (text_of v) end v own e refl owns)
 
-  pub more-fields : values_of new ≡ values_of old ++ v ∷ []
+  pub more-fields : values grown new_pieces new_kept ≡ values text pieces kept ++ v ∷ []
   more-fields =
-      ap (λ (x : Bytes). values x new.pieces.items new.kept.items) new_text
-      ∙ (ap (λ (x : List Piece). values grown x new.kept.items) new_pieces
-      ∙ (ap (values grown (old.pieces.items ++ record { start = start; end = end } ∷ [])) new_kept
-      ∙ (values-push grown old.pieces.items old.kept.items (record { start = start; end = end }) own draft.aligned
-      ∙ (ap (λ (x : Value). values grown old.pieces.items old.kept.items ++ x ∷ []) last-is
-      ∙ ap (λ (x : List Value). x ++ v ∷ []) (ap (λ (x : Bytes). values x old.pieces.items old.kept.items) grown-is ∙ values-grown old.text.items tail old.pieces.items old.kept.items draft.placed)))))
+      ap (λ (x : List Piece). values grown x new_kept) pushed
+      ∙ (keeps grown pieces (record { start = start; end = end }) refl
+      ∙ (ap (λ (x : Value). values grown pieces kept ++ x ∷ []) last-is
+      ∙ ap (λ (x : List Value). x ++ v ∷ []) (ap (λ (x : Bytes). values x pieces kept) grown-is ∙ values-grown text tail pieces kept draft.placed)))
 
-  more-text : new.text.items ≡ joined separator (map text_of (values_of new))
+  more-text : grown ≡ joined separator (map text_of (values grown new_pieces new_kept))
   unfolding tail
   more-text =
-      let texts : List Bytes = map text_of (values_of old) in
-      let len : n ≡ length texts = count ∙ sym (length-map (values_of old) text_of ∙ length-values old.text.items old.pieces.items old.kept.items) in
-      new_text ∙ (grown-is ∙ (ap (λ (x : Bytes). x ++ tail) draft.text ∙ (ap (λ k. joined separator texts ++ (cond (nat_lt 0 k) separator [] ++ text_of v)) len
-      ∙ (sym (joined-more separator texts (text_of v)) ∙ ap (joined separator) (sym (ap (map text_of) more-fields ∙ map_push text_of (values_of old) v))))))
+      let texts : List Bytes = map text_of (values text pieces kept) in
+      let len : n ≡ length texts = count ∙ sym (length-map (values text pieces kept) text_of ∙ length-values text pieces kept) in
+      grown-is ∙ (ap (λ (x : Bytes). x ++ tail) draft.text ∙ (ap (λ k. joined separator texts ++ (cond (nat_lt 0 k) separator [] ++ text_of v)) len
+      ∙ (sym (joined-more separator texts (text_of v)) ∙ ap (joined separator) (sym (ap (map text_of) more-fields ∙ map_push text_of (values text pieces kept) v)))))
 
-  more-placed : IsPlaced new
+  more-placed : AllInRange grown new_pieces
   more-placed =
       let g : length grown ≡ length spaced + length (text_of v) = ap length more ∙ length-append spaced (text_of v) in
-      let l : length spaced ≡ length old.text.items + length (cond (nat_lt 0 n) separator []) = ap length sep ∙ length-append old.text.items (cond (nat_lt 0 n) separator []) in
-      let wide : AllInRange grown old.pieces.items = λ k d h. let in_old = draft.placed k d h in (in_old.0, omega (arith, in_old.1)) in
-      subst (λ (x : Bytes). AllInRange x new.pieces.items) (sym new_text) (AllInRange-push grown old.pieces.items new.pieces.items start end new_pieces wide (omega arith) (omega arith))
+      let l : length spaced ≡ length text + length (cond (nat_lt 0 n) separator []) = ap length sep ∙ length-append text (cond (nat_lt 0 n) separator []) in
+      let wide : AllInRange grown pieces = λ k d h. let in_old = draft.placed k d h in (in_old.0, omega (arith, in_old.1)) in
+      AllInRange-push grown pieces new_pieces start end pushed wide (omega arith) (omega arith)
 
-  pub more-draft : IsDraft separator new
+  pub more-draft : IsDraftOf separator grown new_pieces new_kept
   more-draft = record {
-    aligned = omega (arith, draft.aligned, ap length new_pieces, ap length new_kept, length-append old.pieces.items (record { start = start; end = end } ∷ []), length-append old.kept.items (own ∷ []));
+    aligned = omega (arith, aligns, ap length pushed, length-append pieces (record { start = start; end = end } ∷ []));
     placed = more-placed;
     text = more-text;
   }
 
+-- two runs of a list, one behind the other
+slice_range-join : (xs : List ℕ) (a m b : ℕ) → a ≤ m → m ≤ b → slice_range xs a b ≡ slice_range xs a m ++ slice_range xs m b
+slice_range-join xs a m b p q =
+    let e : b - a ≡ (m - a) + (b - m) = omega arith in
+    let at : a + (m - a) ≡ m = omega arith in
+    ap (λ n. take n (drop a xs)) e ∙ (take-add (m - a) (b - m) (drop a xs) ∙ ap (λ (l : List ℕ). slice_range xs a m ++ take (b - m) l) (drop-drop (m - a) a xs ∙ ap (λ n. drop n xs) at))
+
+pub length-slice_range : (xs : List ℕ) (a b : ℕ) → b ≤ length xs → length (slice_range xs a b) ≡ b - a
+length-slice_range xs a b h = omega (arith, length-take (b - a) (drop a xs), length-drop a xs)
+
+pub length-with_ahead : (text from : List ℕ) (ahead : Piece) → IsInRange from ahead → length (with_ahead text from ahead) ≡ length text + (ahead.end - ahead.start)
+length-with_ahead text from ahead h = length-append text (slice_range from ahead.start ahead.end) ∙ ap (λ n. length text + n) (length-slice_range from ahead.start ahead.end h.1)
+
+-- a piece behind the bytes ahead and the separator
+pub ahead-more : (text from separator : Bytes) (needed : Bool) (ahead piece : Piece) → needed ≡ true → ahead.start ≤ ahead.end → piece.start ≤ piece.end → ahead.end + length separator ≡ piece.start → slice_range from ahead.end piece.start ≡ separator
+    → with_ahead text from (record { start = ahead.start; end = piece.end }) ≡ (with_ahead text from ahead ++ cond needed separator []) ++ slice_range from piece.start piece.end
+ahead-more text from separator needed ahead piece n a p at is =
+    let first : Bytes = slice_range from ahead.start ahead.end in
+    let last : Bytes = slice_range from piece.start piece.end in
+    ap (λ (x : Bytes). text ++ x) (slice_range-join from ahead.start ahead.end piece.end a (omega arith)
+    ∙ ap (λ (x : Bytes). first ++ x) (slice_range-join from ahead.end piece.start piece.end (omega arith) p ∙ ap (λ (x : Bytes). x ++ last) is))
+    ∙ (sym (append_assoc text first (separator ++ last))
+    ∙ (sym (append_assoc (text ++ first) separator last)
+    ∙ ap (λ b. ((text ++ first) ++ cond b separator []) ++ last) (sym n)))
+
+pub none-ahead : (text from : Bytes) → with_ahead text from (record { start = 0; end = 0 }) ≡ text
+none-ahead text from = append-nil text
+
 -- no text and no fields
 pub empty-draft : (separator : Bytes) (parts : Parts) → parts.text.items ≡ [] → parts.pieces.items ≡ [] → parts.kept.items ≡ [] → IsDraft separator parts
 empty-draft separator parts text pieces kept = record {
-  aligned = ap length kept ∙ sym (ap length pieces);
+  aligned = omega (arith, ap length kept);
   placed = λ k d h. absurd (omega (arith, ap length pieces));
   text = text ∙ ap (λ (x : List Piece). joined separator (map text_of (values parts.text.items x parts.kept.items))) (sym pieces);
 }

@@ -1,9 +1,11 @@
 //! What a record is made of.
 
-ghost use Rattle.std.specs.Prelude.{◌≡◌, ◌<◌, ◌-◌, [], None, slice_get, slice_index_or, vec_len};
+ghost use Rattle.std.specs.Prelude.{◌≡◌, ◌<◌, ◌-◌, [], IfSome, None, slice_get, slice_index_or, slice_range, vec_len};
 ghost use Rattle.std.specs.Option.{option_copied, option_map};
 ghost use Rattle.rawk_value.specs.declared.value.Value.{Value};
+ghost use Rattle.rawk_value.specs.declared.value.Value.TheVariants.{Input};
 ghost use Rattle.rawk_record.specs.Drafts.{IsPlaced, values_of};
+ghost use Rattle.rawk_pieces.specs.Pieces.{IsInRange};
 ghost use Rattle.rawk_record.specs.FieldRefs.{ref_value};
 
 use rawk_pieces::Piece;
@@ -48,6 +50,21 @@ fn field_at(parts: &Parts, place: usize) -> FieldRef<'_>
             let piece = parts.pieces[place];
             FieldRef::Piece(&parts.text[piece.start..piece.end])
         }
+    }
+}
+
+/// Where the field at a place, from 0, stands, where it has no value of its own; `None` past the last.
+pub(crate) fn piece_at(parts: &Parts, place: usize) -> Option<Piece>
+    requires placed { IsPlaced parts.now }
+    ensures range { IfSome result (IsInRange parts.now.text.items) }
+    ensures value { IfSome result (λ p. (d : Value) → slice_index_or (values_of parts.now) place d ≡ Input (slice_range parts.now.text.items p.start p.end)) }
+{
+    if parts.pieces.len() <= place {
+        return None;
+    }
+    match own_value(&parts.kept, place) {
+        Some(_) => None,
+        None => Some(parts.pieces[place]),
     }
 }
 

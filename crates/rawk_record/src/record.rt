@@ -4,13 +4,14 @@ ghost use Rattle.std.specs.Prelude.{◌≡◌, ◌<◌, ◌-◌, ◌^◌, IfSome
 ghost use Rattle.std.specs.Option.{option_map};
 ghost use Rattle.rawk_record.specs.Changed.{rebuilt, resized, with_value};
 ghost use Rattle.rawk_record.specs.Shown.{no_record, split_record};
+ghost use Rattle.rawk_record.specs.Drafts.{IsPlaced, shown_of};
 ghost use Rattle.rawk_record.specs.FieldRefs.{ref_value};
 ghost use Rattle.rawk_record.specs.Helds.{IsHeld, shown_in};
 ghost use Rattle.rawk_record.specs.Uncuts.{divided_record};
 
 use crate::build::{build_with_count, build_with_value};
 use crate::held::{Held, buffers_of, new_parts, refill_parts};
-use crate::parts::{FieldRef, field_in, no_parts};
+use crate::parts::{FieldRef, Parts, field_in, no_parts};
 use crate::short::Short;
 use crate::uncut::{Divider, Uncut, divider_of};
 use rawk_pieces::Separator;
@@ -80,6 +81,18 @@ impl Record {
                 }),
                 None => None,
             },
+            Held::InPlace(_) => None,
+            Held::Uncut(_) => None,
+        }
+    }
+
+    /// The parts, where it lies in buffers.
+    pub(crate) fn in_buffers(&self) -> Option<&Parts>
+        ensures same { IfSome result (λ parts. shown_of parts.now ≡ self.now) }
+        ensures placed { IfSome result (λ parts. IsPlaced parts.now) }
+    {
+        match &self.held {
+            Held::Wide(parts) => Some(parts),
             Held::InPlace(_) => None,
             Held::Uncut(_) => None,
         }
