@@ -17,7 +17,8 @@ use Rattle.rawk_code.specs.declared.code.Instr.TheVariants as instr
 use Rattle.rawk_code.specs.declared.code.Operand.TheVariants.{Given as Known, Popped}
 use Rattle.rawk_code.specs.declared.code.Destination.TheVariants as destination
 use Rattle.rawk_code.specs.declared.code.Simple.TheVariants as simple
-use Rattle.rawk_compiler.specs.Code.{expr_code, effect_code, stmt_code, nowhere}
+use Rattle.rawk_emission.specs.Expressions.{expr_code}
+use Rattle.rawk_compiler.specs.Code.{effect_code, stmt_code, nowhere}
 use Rattle.rawk_compiler.proofs.Rows.{vec, x}
 
 module _ (b : Box (Unit {0}) Global) (ptr : Ptr) (alloc : Global) where

@@ -19,7 +19,8 @@ use Rattle.rawk_code.specs.Actions.{Point, Run, Ended, Limited, Stops, Goes, Bre
 use Rattle.rawk_code.specs.Trace.{reads, start}
 use Rattle.rawk_code.specs.Machine.{Phase, InBegin, InEnd, to_main, has_next, Places, Config, Going, goes_on, act, steps}
 use Rattle.rawk_selection.specs.Jumps.{over}
-use Rattle.rawk_compiler.specs.Code.{fork_of, return_code, condition_code, condition_leap, Piece, nowhere, always, in_turn, Arm, then_to, branch_to, if_code, step_around, body_around, loop_code, keys_around, keys_code, scalar_destination, jump_code, stmt_code, stmt_codes, arms_of, main_code, begin_code, end_at_of, functions_at_of, functions_code, program_code, HasAt}
+use Rattle.rawk_emission.specs.Expressions.{fork_of}
+use Rattle.rawk_compiler.specs.Code.{return_code, condition_code, condition_leap, Piece, nowhere, always, in_turn, Arm, then_to, branch_to, if_code, step_around, body_around, loop_code, keys_around, keys_code, scalar_destination, jump_code, stmt_code, stmt_codes, arms_of, main_code, begin_code, end_at_of, functions_at_of, functions_code, program_code, HasAt}
 use Rattle.rawk_code.specs.Laws.{IsBeginning, FirstIsSilent, FirstOutputLaw}
 use Rattle.rawk_code.specs.Steps.{run_of, with_point, all_set_same, steps_grow, over_stays}
 use Rattle.rawk_compiler.proofs.Follows.{has_front, has_back, has_all}

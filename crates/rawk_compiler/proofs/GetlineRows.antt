@@ -23,7 +23,7 @@ use Rattle.rawk_code.specs.declared.code.Variable.TheVariants as cell
 use Rattle.rawk_code.specs.declared.code.Simple.TheVariants as simple
 use Rattle.rawk_code.specs.Actions.{Faulted}
 use Rattle.rawk_code.specs.Trace.{Trace, trace, out}
-use Rattle.rawk_compiler.specs.Code.{expr_code}
+use Rattle.rawk_emission.specs.Expressions.{expr_code}
 use Rattle.rawk_compiler.proofs.Rows.{vec, x, given}
 
 module _ (b : Box (Unit {0}) Global) (ptr : Ptr) (alloc : Global) where

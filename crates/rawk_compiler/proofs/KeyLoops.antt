@@ -16,7 +16,8 @@ use Rattle.rawk_code.specs.Actions.{Run, Stops, Exits, Nexts, Returns, Leaves, R
 use Rattle.rawk_code.specs.Meaning.{ignore, continued, left_by, after, each_key, scalar_target, take_key}
 use Rattle.rawk_code.specs.Machine.{Places, Config, Going, target_of, past, below, taking, returned, goes_on}
 use Rattle.rawk_code.specs.Steps.{goes_after, assign_keeps, delete_keeps}
-use Rattle.rawk_compiler.specs.Code.{Piece, always, unless_ready, keys_around, keys_code, scalar_destination, HasAt}
+use Rattle.rawk_emission.specs.Expressions.{unless_ready}
+use Rattle.rawk_compiler.specs.Code.{Piece, always, keys_around, keys_code, scalar_destination, HasAt}
 use Rattle.rawk_compiler.proofs.Follows.{has_front, has_back, Level, Leads, leads_here, leads_on, one_step, Later, Follows, after_leads, lower, follows_then, keeps_plain, keyed_runs, reach_plain, point_then}
 use Rattle.rawk_compiler.proofs.Expressions.{Seen, Good, operand_then}
 use Rattle.rawk_compiler.proofs.Statements.{Runs}

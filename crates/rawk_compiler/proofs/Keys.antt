@@ -16,7 +16,7 @@ use Rattle.rawk_code.specs.Actions.{Run, Outcome, Goes, Breaks, Action, and_then
 use Rattle.rawk_code.specs.Meaning.{values, eval, evals, Scene}
 use Rattle.rawk_code.specs.Machine.{Places, Config, Going, target_of, past, pushing, goes_on, act}
 use Rattle.rawk_code.specs.Steps.{goes_after, key_keeps, has_keeps, read_keeps}
-use Rattle.rawk_compiler.specs.Code.{key_code, key_operand, unless_ready, joined}
+use Rattle.rawk_emission.specs.Expressions.{key_code, key_operand, unless_ready, joined}
 use Rattle.rawk_compiler.proofs.Follows.{has_front, has_back, then_assoc, leads_here, one_step, Follows, follows_then, keeps_plain, instr_runs}
 use Rattle.rawk_compiler.proofs.Expressions.{Seen, seen, Good, AllGood, all_length, values_run, values_length, taking_good, Aims, gives_one}
 

@@ -40,7 +40,8 @@ use Rattle.rawk_selection.specs.Conditions.{Fork, agrees, leap_on, deciding, log
 use Rattle.rawk_selection.specs.Added.{appending, added, added_ops, appending_made, or_else, added_to}
 use Rattle.rawk_selection.specs.Readings.{part_dropped, missing_code, getline_to_code}
 use Rattle.rawk_selection.specs.Jumps.{over}
-use Rattle.rawk_compiler.specs.Code.{unless_constant, separator_operand, right_operand, unless_ready, unless_one, pushed, joined, key_code, key_operand, chained, forks_code, joined_fork, deciders, forks_by, fork_by, forks, link_fork, link_forks, fork_of, choice_code, decide_code, expr_code, expr_codes, effect_code, place_code, parts_code, link_code, link_codes, front_of, simples_behind, Piece, nowhere, always, in_turn, when_code, Arm, then_to, branch_to, if_code, step_around, body_around, loop_code, keys_around, keys_code, scalar_destination, jump_code, test_code, returns_code, return_code, condition_code, condition_leap, stmt_code, stmt_codes, arms_of, closing_code, opened_code, guard_code, rule_code, records_code, main_code, begin_code, record_at_of, end_at_of, functions_at_of, function_code, functions_code, entries_of, program_code, HasAt, behind_point}
+use Rattle.rawk_emission.specs.Expressions.{unless_constant, separator_operand, right_operand, unless_ready, unless_one, pushed, joined, key_code, key_operand, chained, forks_code, joined_fork, deciders, forks_by, fork_by, forks, link_fork, link_forks, fork_of, choice_code, decide_code, expr_code, expr_codes, place_code, parts_code, link_code, link_codes}
+use Rattle.rawk_compiler.specs.Code.{effect_code, front_of, simples_behind, Piece, nowhere, always, in_turn, when_code, Arm, then_to, branch_to, if_code, step_around, body_around, loop_code, keys_around, keys_code, scalar_destination, jump_code, test_code, returns_code, return_code, condition_code, condition_leap, stmt_code, stmt_codes, arms_of, closing_code, opened_code, guard_code, rule_code, records_code, main_code, begin_code, record_at_of, end_at_of, functions_at_of, function_code, functions_code, entries_of, program_code, HasAt, behind_point}
 use Rattle.rawk_code.specs.Valid.{rank_of, rank, IsEntry, Descends, IsValid}
 use Rattle.rawk_compiler.proofs.Follows.{has_front, has_back, has_all}
 use Rattle.rawk_compiler.proofs.Statements.{branches_length}

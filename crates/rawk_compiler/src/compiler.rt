@@ -1,14 +1,15 @@
 // The whole program.
 
 ghost use Rattle.std.specs.Prelude.{◌≡◌, [], ◌∷◌, ◌++◌, ◌+◌, IfOk, OnOk, false, map, length};
-ghost use Rattle.rawk_compiler.specs.Code.{behind_point, condition_code, fork_of, condition_leap, in_turn, nowhere, when_code, closing_code, opened_code, guard_code, rule_code, function_code, functions_code, entries_from, records_code, main_code, stmt_code, IsCompiled, HasPlaces};
+ghost use Rattle.rawk_emission.specs.Expressions.{fork_of};
+ghost use Rattle.rawk_compiler.specs.Code.{behind_point, condition_code, condition_leap, in_turn, nowhere, when_code, closing_code, opened_code, guard_code, rule_code, function_code, functions_code, entries_from, records_code, main_code, stmt_code, IsCompiled, HasPlaces};
 ghost use Rattle.rawk_code.specs.Correct.{CodeOf};
 ghost use Rattle.rawk_code.specs.Trace.{reads};
 
-use crate::emit::emit_skip;
 use crate::emit_statements::{emit_block, emit_condition, emit_stmt};
 use crate::loops::Around;
 use rawk_code::{Code, Entry, Instr, Operand, Simple};
+use rawk_emission::expressions::emit_skip;
 use rawk_selection::instructions::{
     items_of, pass_rest, patch, put, put_go_to, put_point, put_range,
 };

@@ -1,12 +1,13 @@
 // Loops over the keys of arrays, and what is deleted of arrays.
 
 ghost use Rattle.std.specs.Prelude.{◌≡◌, [], ◌∷◌, ◌++◌, ◌+◌, ◌<◌, ◌≤◌, ◌^◌, Some, IfOk, OnOk, length, map};
-ghost use Rattle.rawk_compiler.specs.Code.{expr_code, key_code, key_operand, keys_around, scalar_destination, unless_ready};
+ghost use Rattle.rawk_emission.specs.Expressions.{expr_code, key_code, key_operand, unless_ready};
+ghost use Rattle.rawk_compiler.specs.Code.{keys_around, scalar_destination};
 ghost use Rattle.rawk_compiler.specs.Written.{keys_written};
 
-use crate::emit::emit_key_operand;
 use crate::loops::Around;
 use rawk_code::{Destination, Instr, Op, Variable};
+use rawk_emission::expressions::emit_key_operand;
 use rawk_selection::instructions::{patch, put, put_open, put_point};
 use rawk_tree::{Expr, Scalar};
 use rawk_words::Array;

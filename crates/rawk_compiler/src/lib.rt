@@ -2,7 +2,6 @@
 #![tactic(auto)]
 
 pub mod compiler;
-mod emit;
 mod emit_statements;
 mod key_loops;
 pub mod laws;

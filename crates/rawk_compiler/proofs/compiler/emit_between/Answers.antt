@@ -1,6 +1,7 @@
 use Rattle.std.proofs.Common.{◌∙◌, Some, false}
 use Rattle.rawk_code.specs.declared.code.Instr.TheVariants.{Point}
-use Rattle.rawk_compiler.specs.Code.{fork_of, condition_leap, nowhere, when_code, opened_code, stmt_code}
+use Rattle.rawk_emission.specs.Expressions.{fork_of}
+use Rattle.rawk_compiler.specs.Code.{condition_leap, nowhere, when_code, opened_code, stmt_code}
 use Rattle.rawk_compiler.proofs.Patch.{patch_range}
 use Rattle.rawk_compiler.proofs.compiler.emit_between.Goals as goal
 

@@ -1,7 +1,8 @@
 use Rattle.std.proofs.Common.{◌∙◌, true, false}
 use Rattle.rawk_code.specs.declared.code.Op.TheVariants.{SetRange}
 use Rattle.rawk_code.specs.declared.code.Instr.TheVariants.{Do}
-use Rattle.rawk_compiler.specs.Code.{fork_of, condition_leap, nowhere, closing_code, opened_code, stmt_code}
+use Rattle.rawk_emission.specs.Expressions.{fork_of}
+use Rattle.rawk_compiler.specs.Code.{condition_leap, nowhere, closing_code, opened_code, stmt_code}
 use Rattle.rawk_compiler.proofs.Patch.{opened_put, patch_when}
 use Rattle.rawk_compiler.proofs.compiler.emit_range.Goals as goal
 
