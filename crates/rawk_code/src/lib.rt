@@ -2,7 +2,7 @@
 #![tactic(auto)]
 
 pub mod code;
-mod fields_asked;
+mod fields_sought;
 pub mod fitting;
 pub mod formula;
 pub mod quick;
