@@ -116,7 +116,7 @@ impl Current {
         }
     }
 
-    /// From now on texts that are read are left uncut: their fields are sought each time that they are asked for, which is for programs that do not ask.
+    /// From now on texts that are read are left uncut: their fields are sought each time that they are asked for, which is for programs that ask for few.
     pub fn leave_uncut(&mut self)
         ensures { self.new ≡ self.old }
     {

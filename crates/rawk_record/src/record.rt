@@ -156,7 +156,7 @@ impl Record {
         }
     }
 
-    /// The same, but the text is not cut where that can wait: its fields are sought each time that they are asked for. It is for texts whose fields nobody asks for.
+    /// The same, but the text is not cut where that can wait: its fields are sought each time that they are asked for. It is for texts of which few fields are asked for.
     #[inline(always)]
     pub fn refill_uncut(
         &mut self,
