@@ -82,7 +82,7 @@ impl<R: Source + Drop, K: Keeper> Machine<R, K> {
         self.store.element(array, key)
     }
 
-    /// How many elements an array has, 0 where it is not there. It is linear in the slots of the array.
+    /// How many elements an array has, 0 where it is not there. The number is kept.
     pub fn elements_named(&self, array: Array) -> usize
         ensures { result ≡ count_in (array_in array self.now.state.frames) self.now.state.arrays }
     {

@@ -123,6 +123,10 @@ module _ (separator text spaced grown : Bytes) (pieces new_pieces : List Piece) 
     text = more-text;
   }
 
+  -- both
+  pub more-both : IsDraftOf separator grown new_pieces new_kept × (values grown new_pieces new_kept ≡ values text pieces kept ++ v ∷ [])
+  more-both = (more-draft, more-fields)
+
 -- two runs of a list, one behind the other
 slice_range-join : (xs : List ℕ) (a m b : ℕ) → a ≤ m → m ≤ b → slice_range xs a b ≡ slice_range xs a m ++ slice_range xs m b
 slice_range-join xs a m b p q =
