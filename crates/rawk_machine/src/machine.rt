@@ -180,7 +180,7 @@ impl<R: Source + Drop, K: Keeper> Machine<R, K> {
         };
         let mut tape = Tape::new(alloc, source);
         let mut executed = Count::new();
-        let mut expressions = Expressions::new();
+        let mut expressions = Expressions::new(alloc);
         match step(
             alloc,
             &mut expressions,

@@ -9,8 +9,7 @@ use Rattle.rawk_format.specs.Format.{formatted}
 use Rattle.rawk_builtins.specs.Builtins.{place_of, substring, lower, upper}
 use Rattle.rawk_search.specs.declared.span.Span.{Span}
 use Rattle.rawk_search.specs.Patterns.{pattern_of, match_of, is_found}
-use Rattle.rawk_replacements.specs.declared.replacing.Replaced.{Replaced}
-use Rattle.rawk_replacements.specs.Replaced.{replaced_by}
+use Rattle.rawk_replacements.specs.Replaced.{Replaced, replaced_by}
 use Rattle.rawk_words.specs.declared.operator.Extent.{Extent}
 use Rattle.rawk_search.specs.Expressions.{ere_of}
 use Rattle.rawk_pieces.specs.Fields.{dynamic_parts, fields_of}

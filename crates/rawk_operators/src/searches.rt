@@ -5,14 +5,13 @@ ghost use Rattle.std.specs.Option.{IfSome};
 ghost use Rattle.rawk_value.specs.Values.{next_ok, text_of};
 ghost use Rattle.rawk_operators.specs.Borrowed.{borrowed_value};
 ghost use Rattle.rawk_operators.specs.Operators.{found_in, found_or, matched, replaced_in, told};
-ghost use Rattle.rawk_replacements.specs.Replaced.{replaced_by};
+ghost use Rattle.rawk_replacements.specs.Replaced.{made_with, replaced_by};
 ghost use Rattle.rawk_search.specs.Found.{IsWithin};
 ghost use Rattle.rawk_search.specs.Patterns.{is_found, match_of};
 
 use crate::borrowed::{Borrowed, text_borrowed};
 use itoa::Buffer;
 use rawk_patterns::Expressions;
-use rawk_replacements::Replaced;
 use rawk_search::Span;
 use rawk_value::Fault;
 use rawk_words::Extent;
@@ -131,7 +130,8 @@ pub fn find(
     }
 }
 
-/// A text where matches of the expression that another one is are replaced, or nothing where it has none, or the fault of a text that is none. An error: memory was refused.
+/// How many matches of the expression that another text is are replaced in a text, which is made in `expressions.made`, or nothing where it has none and no text was made, or the fault of
+/// a text that is no expression. An error: memory was refused.
 fn replace_text(
     alloc: Global,
     expressions: &mut Expressions,
@@ -139,20 +139,27 @@ fn replace_text(
     expression: &[u8],
     by: &[u8],
     text: &[u8],
-) -> Result<Result<Option<Replaced>, Fault>, AllocError>
-    ensures { IfOk result (λ r. r ≡ found_or (replaced_by extent expression.now by.now text.now)) }
+) -> Result<Result<Option<usize>, Fault>, AllocError>
+    ensures { IfOk result (λ r. next_ok r (λ count. Ok (made_with expressions.new.made.items count)) ≡ found_or (replaced_by extent expression.now by.now text.now)) }
 {
     match expressions.get(alloc, expression)? {
         None => Ok(Err(Fault::BadEre)),
         Some(pattern) => {
-            let replaced = rawk_replacements::replace(alloc, &pattern, by, text, extent)?;
-            Ok(Ok(replaced))
+            let count = rawk_replacements::replace(
+                alloc,
+                &pattern,
+                by,
+                text,
+                extent,
+                &mut expressions.made,
+            )?;
+            Ok(Ok(count))
         }
     }
 }
 
-/// The text of a value where matches of the expression that the text of another one is are replaced, and how many, or nothing where it has none, or the fault of a text that is none
-/// (POSIX awk, String Functions, `sub`, `gsub`). An error: memory was refused.
+/// How many matches of the expression that the text of a value is are replaced in the text of another one, which is made in `expressions.made`, or nothing where it has none and no text
+/// was made, or the fault of a text that is no expression (POSIX awk, String Functions, `sub`, `gsub`). An error: memory was refused.
 pub fn replace(
     alloc: Global,
     expressions: &mut Expressions,
@@ -160,8 +167,8 @@ pub fn replace(
     expression: Borrowed<'_>,
     by: Borrowed<'_>,
     value: Borrowed<'_>,
-) -> Result<Result<Option<Replaced>, Fault>, AllocError>
-    ensures { IfOk result (λ r. r ≡ replaced_in extent (borrowed_value expression.entry) (borrowed_value by.entry) (borrowed_value value.entry)) }
+) -> Result<Result<Option<usize>, Fault>, AllocError>
+    ensures { IfOk result (λ r. next_ok r (λ count. Ok (made_with expressions.new.made.items count)) ≡ replaced_in extent (borrowed_value expression.entry) (borrowed_value by.entry) (borrowed_value value.entry)) }
 {
     let mut digits = Buffer::new();
     let mut by_digits = Buffer::new();
@@ -170,8 +177,15 @@ pub fn replace(
     let by = text_borrowed(by, &mut by_digits);
     match expression {
         Borrowed::Pattern(pattern) => {
-            let replaced = rawk_replacements::replace(alloc, pattern, by, text, extent)?;
-            Ok(Ok(replaced))
+            let count = rawk_replacements::replace(
+                alloc,
+                pattern,
+                by,
+                text,
+                extent,
+                &mut expressions.made,
+            )?;
+            Ok(Ok(count))
         }
         _ => replace_text(
             alloc,

@@ -11,13 +11,15 @@ use std::num::NonZeroUsize;
 /// How many expressions are kept at most.
 const KEPT: usize = 64;
 
-/// The expressions of the texts that were asked for last, at most 64, by these texts. No answer depends on what is kept.
+/// The expressions of the texts that were asked for last, at most 64, by these texts, and a buffer. No answer depends on what is kept.
 #[derive(Drop)]
 pub struct Expressions {
     // that of the last text
     last: Option<Pattern>,
     // nothing before the first text
     kept: Option<LruCache<Vec<u8>, Pattern>>,
+    /// Where texts are made whose matches are replaced: its memory is used again.
+    pub made: Vec<u8>,
 }
 
 /// A copy of a pattern, where this is its text.
@@ -81,10 +83,11 @@ fn keep(
 
 impl Expressions {
     /// Nothing is kept. It takes no memory.
-    pub fn new() -> Self {
+    pub fn new(alloc: Global) -> Self {
         Expressions {
             last: None,
             kept: None,
+            made: Vec::new(alloc),
         }
     }
 

@@ -42,3 +42,16 @@ pub fn put_in<const SAVES: bool>(
 {
     store.assign::<SAVES>(alloc, place, value)
 }
+
+/// Assigns a place the text in a buffer, as `put_in` does; the buffer may hold anything then. It fails where memory is refused.
+pub fn put_text_in<const SAVES: bool>(
+    alloc: Global,
+    store: &mut Store,
+    place: &Target,
+    text: &mut Vec<u8>,
+) -> Result<Option<Fault>, AllocError>
+    ensures did { IfOk result (λ fault. HasPut place.now (Value.String text.old.items) fault (moving store.old) (moving store.new)) }
+    ensures start { OnTrue SAVES (Grown (start_of store.old) (start_of store.new)) }
+{
+    store.assign_text::<SAVES>(alloc, place, text)
+}

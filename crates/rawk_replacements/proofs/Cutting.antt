@@ -7,8 +7,7 @@ use Rattle.rawk_value.specs.Values.{Bytes}
 use Rattle.rawk_words.specs.declared.operator.Extent.{Extent}
 use Rattle.rawk_words.specs.declared.operator.Extent.TheVariants.{First, All}
 use Rattle.rawk_search.specs.Expressions.{ere_of}
-use Rattle.rawk_replacements.specs.declared.replacing.Replaced.{Replaced}
-use Rattle.rawk_replacements.specs.Replaced.{taken, made, replaced_by}
+use Rattle.rawk_replacements.specs.Replaced.{Replaced, taken, made, replaced_by}
 use Rattle.rawk_ere_tree.specs.Tree.{Tree}
 use Rattle.rawk_search.specs.declared.span.Span.{Span}
 use Rattle.rawk_search.specs.Found.{IsWithin}
@@ -115,11 +114,12 @@ no_cuts s e is = cuts_none s e 0 None (sym is)
 pub first_within : (s : Bytes) (e : Tree) (m : Span) → Some m ≡ next_cut s e 0 None → IsWithin 0 s m
 first_within s e m is = cut_within s e 0 None m (sym is)
 
-pub made_first : (by s text out : Bytes) (e : Tree) (m : Span) → Some m ≡ next_cut s e 0 None → out ≡ up_to s by 0 m → text ≡ out ++ slice_range s m.end (length s) → Some (record { text = text; count = 1 }) ≡ made by s (taken First (cuts s e))
-made_first by s text out e m is first rest =
+pub made_first : (by s text : Bytes) (count : ℕ) (e : Tree) (m : Span) → Some m ≡ next_cut s e 0 None → text ≡ replaced by s 0 (m ∷ []) → count ≡ 1 → Some (record { text = text; count = count }) ≡ made by s (taken First (cuts s e))
+made_first by s text count e m is whole counted =
     let all = first_of_cuts s e m is in
-    let whole : text ≡ replaced by s 0 (m ∷ []) = last_text by s out text m.end rest ∙ one_text by s [] out 0 m [] first in
-    ap (λ (t : Bytes). let r : Option Replaced = Some (record { text = t; count = 1 }) in r) whole ∙ ap (λ ms. made by s (taken First ms)) (sym all.1)
+    ap (λ (t : Bytes). let r : Option Replaced = Some (record { text = t; count = count }) in r) whole
+    ∙ ap (λ (n : ℕ). let r : Option Replaced = Some (record { text = replaced by s 0 (m ∷ []); count = n }) in r) counted
+    ∙ ap (λ ms. made by s (taken First ms)) (sym all.1)
 
 pub made_all : (by s text : Bytes) (count : ℕ) (e : Tree) (m : Span) → Some m ≡ next_cut s e 0 None → text ≡ replaced by s 0 (cuts s e) → count ≡ length (cuts s e) → Some (record { text = text; count = count }) ≡ made by s (taken All (cuts s e))
 made_all by s text count e m is whole counted =

@@ -1,9 +1,12 @@
 -- What the bytes of a replacement stand for.
-use Rattle.std.proofs.Common.{◌≡◌, ◌≢◌, ℕ, Bool, true, false, ◌&&◌, ◌||◌, if◌then◌else◌, List, [], ◌∷◌, ◌++◌, refl, sym, ap, ◌∙◌, append_assoc}
+use Rattle.std.proofs.Common.{◌≡◌, ◌≢◌, ℕ, ◌+◌, arith, Bool, true, false, ◌&&◌, ◌||◌, if◌then◌else◌, List, [], ◌∷◌, ◌++◌, refl, sym, ap, ◌∙◌, append_assoc}
+use native.Mathlib.Numerals.{unary_clauses}
+use Rattle.std.proofs.Math.ListN.{get_or}
 use Rattle.std.specs.Prelude.{nat_eq}
 use Rattle.std.proofs.lemmas.List.{append-nil}
 use Rattle.std.proofs.lemmas.Bool.{ne_eqb}
 use Rattle.rawk_search.specs.Replacements.{replacement}
+use Rattle.rawk_replacements.specs.Replaced.{IsPlain}
 
 escaped : (found rest : List ℕ) (b : ℕ) → (nat_eq b 38 || nat_eq b 92) ≡ true → replacement found (92 ∷ b ∷ rest) ≡ b ∷ replacement found rest
 unfolding replacement
@@ -28,6 +31,14 @@ left_false false y h = refl
 right_false : (x y : Bool) → (x || y) ≡ false → y ≡ false
 right_false true y h = absurd (cc)
 right_false false y h = h
+
+-- a replacement whose bytes stand for themselves
+pub plain : (found by : List ℕ) → IsPlain by → replacement found by ≡ by
+unfolding replacement
+plain found [] h = refl
+plain found (b ∷ rest) h =
+    let at = h 0 (omega arith) in
+    other found rest b (left_false (nat_eq b 38) (nat_eq b 92) at) (right_false (nat_eq b 38) (nat_eq b 92) at) ∙ ap (λ l. b ∷ l) (plain found rest (λ k lt. let at_next : (nat_eq (get_or (b ∷ rest) (k + 1) 0) 38 || nat_eq (get_or (b ∷ rest) (k + 1) 0) 92) ≡ false = h (k + 1) (omega (arith, lt)) in simp unary_clauses at at_next))
 
 behind_other : (found rest : List ℕ) (b : ℕ) → (nat_eq b 38 || nat_eq b 92) ≡ false → replacement found (92 ∷ b ∷ rest) ≡ 92 ∷ b ∷ replacement found rest
 unfolding replacement

@@ -4,4 +4,4 @@
 pub mod replacing;
 
 pub use rawk_words::Extent;
-pub use replacing::{Replaced, replace};
+pub use replacing::replace;

@@ -1,22 +1,15 @@
 //! Matches that give way to a replacement (POSIX awk, String Functions, `sub` and `gsub`).
 
+ghost use Rattle.std.specs.Bool.{OnTrue};
 ghost use Rattle.std.specs.Prelude.{◌≡◌, ◌∷◌, ◌++◌, ℕ, List, [], Some, None, IfOk, OnOk, length, nat_eq, slice_range, ◌||◌};
 ghost use Rattle.rawk_search.specs.Found.{IsWithin};
 ghost use Rattle.rawk_search.specs.Replacements.{cuts, next_cut, replaced, replacement};
-ghost use Rattle.rawk_replacements.specs.Replaced.{held, made, replaced_by, taken};
+ghost use Rattle.rawk_replacements.specs.Replaced.{IsPlain, held, made_with, replaced_by};
 
 use rawk_ere::Ere;
 use rawk_search::{Pattern, Span, next_cut};
-use rawk_value::Bytes;
 use rawk_words::Extent;
 use std::alloc::{AllocError, Global};
-
-/// A text with replacements, and how many there are.
-#[derive(Drop)]
-pub struct Replaced {
-    pub text: Bytes,
-    pub count: usize,
-}
 
 /// Whether a backslash before a byte of a replacement stands for nothing.
 fn is_escaped(byte: u8) -> bool
@@ -65,8 +58,31 @@ fn push_byte(out: &mut Vec<u8>, holds: bool, byte: u8, found: &[u8]) -> Result<b
     }
 }
 
+/// Whether each byte of a replacement stands for itself.
+fn is_plain(by: &[u8]) -> bool
+    ensures { OnTrue result (IsPlain by.now) }
+{
+    by.iter().all(|byte| !is_escaped(*byte))
+}
+
+/// Adds bytes; a single one takes no call. An error: memory was refused.
+#[inline(always)]
+fn extend(out: &mut Vec<u8>, bytes: &[u8]) -> Result<(), AllocError>
+    ensures { OnOk result (out.new.items ≡ out.old.items ++ bytes.now) }
+{
+    match bytes {
+        [] => Ok(()),
+        [byte] => {
+            out.push(*byte)?;
+            Ok(())
+        }
+        _ => out.extend_from_slice(bytes),
+    }
+}
+
 /// Adds what stands for a match: a `&` is the match, `\&` an ampersand, `\\` a backslash, and any other byte itself. An error: memory was refused.
-fn push_replacement(out: &mut Vec<u8>, by: &[u8], found: &[u8]) -> Result<(), AllocError>
+#[inline(never)]
+fn push_marked(out: &mut Vec<u8>, by: &[u8], found: &[u8]) -> Result<(), AllocError>
     ensures { OnOk result (out.new.items ≡ out.old.items ++ replacement found.now by.now) }
 {
     let mut holds = false;
@@ -79,19 +95,39 @@ fn push_replacement(out: &mut Vec<u8>, by: &[u8], found: &[u8]) -> Result<(), Al
     Ok(())
 }
 
+/// The same; `plain` says that each byte stands for itself. An error: memory was refused.
+#[inline(always)]
+fn push_replacement(
+    out: &mut Vec<u8>,
+    by: &[u8],
+    plain: bool,
+    found: &[u8],
+) -> Result<(), AllocError>
+    requires { OnTrue plain (IsPlain by.now) }
+    ensures { OnOk result (out.new.items ≡ out.old.items ++ replacement found.now by.now) }
+{
+    if plain {
+        return extend(out, by);
+    }
+    push_marked(out, by, found)
+}
+
 /// Adds a text from a place on up to a match, and what stands for the match. An error: memory was refused.
+#[inline(always)]
 fn push_match(
     out: &mut Vec<u8>,
     by: &[u8],
+    plain: bool,
     text: &[u8],
     from: usize,
     found: Span,
 ) -> Result<(), AllocError>
-    requires { IsWithin from text.now found }
+    requires within { IsWithin from text.now found }
+    requires plain { OnTrue plain (IsPlain by.now) }
     ensures { OnOk result (out.new.items ≡ out.old.items ++ (slice_range text.now from found.start ++ replacement (slice_range text.now found.start found.end) by.now)) }
 {
-    out.extend_from_slice(&text[from..found.start])?;
-    push_replacement(out, by, &text[found.start..found.end])
+    extend(out, &text[from..found.start])?;
+    push_replacement(out, by, plain, &text[found.start..found.end])
 }
 
 /// Adds a text with all its matches replaced, of which this is the first, and answers how many there are. An error: memory was refused.
@@ -107,12 +143,13 @@ fn push_cuts(
     ensures items { IfOk result (λ n. out.new.items ≡ out.old.items ++ replaced by.now text.now 0 (cuts text.now ere.now)) }
     ensures count { IfOk result (λ n. n ≡ length (cuts text.now ere.now)) }
 {
+    let plain = is_plain(by);
     let mut next = Some(first);
     let mut copied = 0;
     let mut at = 0;
     let mut count = 0;
     while let Some(found) = next {
-        push_match(out, by, text, copied, found)?;
+        push_match(out, by, plain, text, copied, found)?;
         copied = found.end;
         count += 1;
         if found.start < found.end {
@@ -131,59 +168,38 @@ fn push_cuts(
     Ok(count)
 }
 
-/// A text with its first match replaced, which is this. An error: memory was refused.
-fn with_first(
-    alloc: Global,
-    ere: &Ere,
-    by: &[u8],
-    text: &[u8],
-    first: Span,
-) -> Result<Replaced, AllocError>
-    requires first { Some first ≡ next_cut text.now ere.now 0 None }
-    requires within { IsWithin 0 text.now first }
-    ensures { IfOk result (λ r. Some r ≡ made by.now text.now (taken Extent.First (cuts text.now ere.now))) }
+/// Adds a text with its first match replaced, which is this, and answers that there is one. An error: memory was refused.
+fn push_first(out: &mut Vec<u8>, by: &[u8], text: &[u8], first: Span) -> Result<usize, AllocError>
+    requires { IsWithin 0 text.now first }
+    ensures items { OnOk result (out.new.items ≡ out.old.items ++ replaced by.now text.now 0 (first ∷ [])) }
+    ensures count { IfOk result (λ n. n ≡ 1) }
 {
-    let mut out = Vec::with_capacity(alloc, text.len().saturating_add(by.len()))?;
-    push_match(&mut out, by, text, 0, first)?;
+    push_match(out, by, is_plain(by), text, 0, first)?;
     out.extend_from_slice(&text[first.end..])?;
-    let text = Bytes::from_vec(alloc, out)?;
-    Ok(Replaced { text, count: 1 })
+    Ok(1)
 }
 
-/// A text with all its matches replaced, of which this is the first. An error: memory was refused.
-fn with_all(
-    alloc: Global,
-    ere: &Ere,
-    by: &[u8],
-    text: &[u8],
-    first: Span,
-) -> Result<Replaced, AllocError>
-    requires { Some first ≡ next_cut text.now ere.now 0 None }
-    ensures { IfOk result (λ r. Some r ≡ made by.now text.now (taken Extent.All (cuts text.now ere.now))) }
-{
-    let mut out = Vec::with_capacity(alloc, text.len().saturating_add(by.len()))?;
-    let count = push_cuts(alloc, &mut out, ere, by, text, first)?;
-    let text = Bytes::from_vec(alloc, out)?;
-    Ok(Replaced { text, count })
-}
-
-/// A text where the first match of an expression, or each, gives way to a replacement, in which a `&` stands for the match, `\&` for an ampersand and `\\` for a backslash; nothing where
-/// there is no match. It takes time by the length of the text and of what is made. An error: memory was refused.
+/// Makes a text where the first match of an expression, or each, gives way to a replacement, in which a `&` stands for the match, `\&` for an ampersand and `\\` for a backslash, and
+/// answers how many do; nothing where there is no match, and then no text was made. It takes time by the length of the text and of what is made. An error: memory was refused.
 pub fn replace(
     alloc: Global,
     pattern: &Pattern,
     by: &[u8],
     text: &[u8],
     extent: Extent,
-) -> Result<Option<Replaced>, AllocError>
-    ensures { IfOk result (λ o. Some o ≡ replaced_by extent pattern.now by.now text.now) }
+    out: &mut Vec<u8>,
+) -> Result<Option<usize>, AllocError>
+    ensures { IfOk result (λ count. Some (made_with out.new.items count) ≡ replaced_by extent pattern.now by.now text.now) }
 {
     let ere = pattern.ere();
     let Some(first) = next_cut(alloc, ere, text, 0, None)? else {
         return Ok(None);
     };
-    match extent {
-        Extent::First => Ok(Some(with_first(alloc, ere, by, text, first)?)),
-        Extent::All => Ok(Some(with_all(alloc, ere, by, text, first)?)),
-    }
+    out.clear();
+    out.reserve(text.len().saturating_add(by.len()))?;
+    let count = match extent {
+        Extent::First => push_first(out, by, text, first)?,
+        Extent::All => push_cuts(alloc, out, ere, by, text, first)?,
+    };
+    Ok(Some(count))
 }

@@ -29,6 +29,10 @@ use rawk_value::order::text_in;
 use rawk_value::{Bytes, Fault, Value};
 use rawk_words::Array;
 use std::alloc::{AllocError, Global};
+use std::mem;
+
+/// A text of more bytes than this takes a buffer of its own size.
+const LONG: usize = 64;
 
 /// The text of a global, in place but for a number's digits, which stand in the buffer. It takes no memory.
 fn text_of_global<'a>(globals: &'a Cells, number: usize, digits: &'a mut Buffer) -> &'a [u8]
@@ -57,6 +61,28 @@ fn assign_field<const SAVES: bool>(
     current.set_field::<SAVES>(alloc, number, value, separator)
 }
 
+/// Makes a text the record, with its fields by the separators of now, or answers the fault of the field separator, which changes nothing. It fails where memory is
+/// refused.
+fn assign_record_text<const SAVES: bool>(
+    alloc: Global,
+    globals: &Cells,
+    current: &mut Current,
+    text: &[u8],
+) -> Result<Option<Fault>, AllocError>
+    ensures did { IfOk result (λ fault. Becomes fault (read_as text.now (text_of (slice_index_or globals.now.now FS Value.Uninitialized)) (is_empty (text_of (slice_index_or globals.now.now RS Value.Uninitialized)))) current.old.now current.new.now) }
+    ensures start { OnTrue SAVES (current.new.start ≡ current.old.start) }
+{
+    let mut field_digits = Buffer::new();
+    let mut record_digits = Buffer::new();
+    let separator = text_of_global(globals, FS, &mut field_digits);
+    let record_separator = text_of_global(globals, RS, &mut record_digits);
+    match current.read::<SAVES>(alloc, text, separator, record_separator.len() == 0) {
+        Ok(()) => Ok(None),
+        Err(Fault::OutOfMemory) => Err(AllocError),
+        Err(fault) => Ok(Some(fault)),
+    }
+}
+
 /// Makes the text of a value the record, with its fields by the separators of now, or answers the fault of the field separator, which changes nothing. It fails
 /// where memory is refused.
 fn assign_record<const SAVES: bool>(
@@ -69,16 +95,8 @@ fn assign_record<const SAVES: bool>(
     ensures start { OnTrue SAVES (current.new.start ≡ current.old.start) }
 {
     let mut digits = Buffer::new();
-    let mut field_digits = Buffer::new();
-    let mut record_digits = Buffer::new();
     let text = text_in(value, &mut digits);
-    let separator = text_of_global(globals, FS, &mut field_digits);
-    let record_separator = text_of_global(globals, RS, &mut record_digits);
-    match current.read::<SAVES>(alloc, text, separator, record_separator.len() == 0) {
-        Ok(()) => Ok(None),
-        Err(Fault::OutOfMemory) => Err(AllocError),
-        Err(fault) => Ok(Some(fault)),
-    }
+    assign_record_text::<SAVES>(alloc, globals, current, text)
 }
 
 /// Cuts or extends the fields to the number of a value, and builds `$0` anew with the OFS of now, or answers the fault of the number, which changes nothing. It
@@ -101,6 +119,16 @@ fn assign_count<const SAVES: bool>(
             Ok(None)
         }
     }
+}
+
+/// The text in a buffer: moved where it is long and fills at least half of the buffer, and else copied. It fails where memory is refused.
+fn taken(alloc: Global, text: &mut Vec<u8>) -> Result<Bytes, AllocError>
+    ensures { IfOk result (λ t. t ≡ text.old.items) }
+{
+    if text.len() > LONG && text.capacity() / 2 <= text.len() {
+        return Bytes::from_vec(alloc, mem::replace(text, Vec::new(alloc)));
+    }
+    Bytes::from_slice(alloc, text.as_slice())
 }
 
 /// The number of the array that a name stands for; a local that holds a value names none. It takes no memory.
@@ -328,5 +356,30 @@ impl Store {
             }
         }
         Ok(None)
+    }
+
+    /// Assigns a place the text in a buffer, or answers the fault of that, which changes nothing, as `assign` does; the buffer may hold anything then. A long text is moved;
+    /// the record copies it into its own buffer. It fails where memory is refused.
+    pub fn assign_text<const SAVES: bool>(
+        &mut self,
+        alloc: Global,
+        target: &Target,
+        text: &mut Vec<u8>,
+    ) -> Result<Option<Fault>, AllocError>
+        ensures did { IfOk result (λ fault. HasAssigned target.now (Value.String text.old.items) fault (now_of self.old) (now_of self.new)) }
+        ensures start { OnTrue SAVES (Grown (start_of self.old) (start_of self.new)) }
+    {
+        match target {
+            Target::Field(0) => assign_record_text::<SAVES>(
+                alloc,
+                &self.globals,
+                &mut self.current,
+                text.as_slice(),
+            ),
+            _ => {
+                let text = taken(alloc, text)?;
+                self.assign::<SAVES>(alloc, target, Value::String(text))
+            }
+        }
     }
 }

@@ -9,8 +9,7 @@ use Rattle.rawk_value.specs.Values.{Bytes, next_ok, number_of, text_of}
 use Rattle.rawk_ere_tree.specs.Tree.{Tree}
 use Rattle.rawk_search.specs.Expressions.{ere_of}
 use Rattle.rawk_search.specs.Replacements.{cuts}
-use Rattle.rawk_replacements.specs.declared.replacing.Replaced.{Replaced}
-use Rattle.rawk_replacements.specs.Replaced.{made, taken}
+use Rattle.rawk_replacements.specs.Replaced.{Replaced, made, taken}
 use Rattle.rawk_operators.specs.Operators.{both_make, found_or, one_makes, replaced_in}
 use Rattle.rawk_store.specs.declared.target.Target.TheVariants as target
 use Rattle.rawk_store.specs.State.{Target, field_number}

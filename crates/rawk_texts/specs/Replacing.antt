@@ -3,7 +3,7 @@ use Rattle.std.specs.Prelude.{drop, Option, Result}
 use Rattle.rawk_words.specs.declared.operator.Extent.{Extent}
 use Rattle.rawk_value.specs.declared.fault.Fault.{Fault}
 use Rattle.rawk_value.specs.Values.{next_ok}
-use Rattle.rawk_replacements.specs.declared.replacing.Replaced.{Replaced}
+use Rattle.rawk_replacements.specs.Replaced.{Replaced}
 use Rattle.rawk_operators.specs.Operators.{replaced_in}
 use Rattle.rawk_store.specs.State.{Target}
 use Rattle.rawk_code.specs.declared.code.Operand.{Operand}

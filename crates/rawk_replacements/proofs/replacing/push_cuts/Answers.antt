@@ -5,8 +5,8 @@ use Rattle.rawk_replacements.proofs.replacing.push_cuts.Goals as goal
 pub loop-next-init : goal.loop-next-init
 loop-next-init c = begins c.args.text.now c.args.ere.now c.args.by.now c.args.out.now.items c.args.first c.requires
 
-pub push_match-requires : goal.push_match-requires
-push_match-requires c = within c.args.text.now c.args.ere.now c.args.by.now c.args.out.now.items c.loop-next.next c.loop-next.out.items c.loop-next.copied c.loop-next.at c.loop-next.count c.loop-next.invariant c.in-Some.found c.in-Some.is
+pub push_match-requires-clause-within : goal.push_match-requires-clause-within
+push_match-requires-clause-within c = within c.args.text.now c.args.ere.now c.args.by.now c.args.out.now.items c.loop-next.next c.loop-next.out.items c.loop-next.copied c.loop-next.at c.loop-next.count c.loop-next.invariant c.in-Some.found c.in-Some.is
 
 pub next_cut-requires : goal.next_cut-requires
 next_cut-requires c =

@@ -7,7 +7,7 @@ use Rattle.rawk_operate.specs.Line.{pieces_behind}
 use Rattle.rawk_operands.specs.Moving.{moving, simple_of}
 use Rattle.rawk_texts.proofs.Lines.{print_line}
 use Rattle.rawk_texts.proofs.Prints.{print_done}
-use Rattle.rawk_texts.proofs.print.print.Goals as goal
+use Rattle.rawk_texts.proofs.print.print_pieces.Goals as goal
 
 pub returns-clause-did : goal.returns-clause-did
 returns-clause-did c =
