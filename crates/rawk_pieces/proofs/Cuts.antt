@@ -72,7 +72,7 @@ kept_piece text start end more low high =
     ]
 
 -- a run that ends at a separator
-run-step : (b : Bool) (p : ℕ → Bool) (text : List ℕ) (start end : ℕ) → start ≤ end → end < length text → ((k : ℕ) → start ≤ k → k < end → p (get_or text k 0) ≡ false) → p (get_or text end 0) ≡ true →
+pub run-step : (b : Bool) (p : ℕ → Bool) (text : List ℕ) (start end : ℕ) → start ≤ end → end < length text → ((k : ℕ) → start ≤ k → k < end → p (get_or text k 0) ≡ false) → p (get_or text end 0) ≡ true →
     runs_by b p (drop start text) ≡ texts text (run_piece b start end) ++ runs_by b p (drop (end + 1) text)
 run-step true p text start end low high none here = slice_split-part p text start end low high none here
 run-step false p text start end low high none here = ap (filter has_bytes) (slice_split-part p text start end low high none here) ∙ kept_piece text start end (slice_split p (drop (end + 1) text)) low (omega arith)

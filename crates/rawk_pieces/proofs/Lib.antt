@@ -3,3 +3,4 @@ pub mod Masks
 pub mod Newlines
 pub mod Separated
 pub mod Rows
+pub mod Nths

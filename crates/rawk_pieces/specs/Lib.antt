@@ -1,5 +1,6 @@
 pub mod Fields
 pub mod Masks
 pub mod Pieces
+pub mod Nth
 pub mod Separators
 pub mod Laws

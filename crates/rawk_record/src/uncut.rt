@@ -9,7 +9,7 @@ ghost use Rattle.rawk_record.specs.Shown.{Shown};
 ghost use Rattle.rawk_record.specs.Uncuts.{DividesAs, divided, divided_record};
 
 use crate::parts::FieldRef;
-use rawk_pieces::{Blank, ByteClass, Class, Separator};
+use rawk_pieces::{Blank, ByteClass, Class, Separator, nth_run};
 use std::alloc::{AllocError, Global};
 use std::marker::Model;
 
@@ -66,9 +66,10 @@ fn word_count(text: &[u8]) -> usize
 fn word(text: &[u8], place: usize) -> Option<&[u8]>
     ensures { option_map (λ s. s.now) result ≡ slice_get (words text.now) place }
 {
-    text.split(|byte| Blank.has(*byte))
-        .filter(|word| word.len() != 0)
-        .nth(place)
+    match nth_run(&Blank, false, text, place) {
+        Some(piece) => Some(&text[piece.start..piece.end]),
+        None => None,
+    }
 }
 
 /// How many parts a text has between bytes of a class.
@@ -88,7 +89,10 @@ fn part(class: ByteClass, text: &[u8], place: usize) -> Option<&[u8]>
     if text.len() == 0 {
         return None;
     }
-    text.split(|byte| class.has(*byte)).nth(place)
+    match nth_run(&class, true, text, place) {
+        Some(piece) => Some(&text[piece.start..piece.end]),
+        None => None,
+    }
 }
 
 /// How many fields a text has.
