@@ -14,3 +14,4 @@ pub mod ReadingLemmas
 pub mod ByteSetLemmas
 pub mod ScanLemmas
 pub mod PatternOfLemmas
+pub mod Sought

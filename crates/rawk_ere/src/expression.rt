@@ -7,7 +7,7 @@ ghost use Rattle.rawk_ere.specs.PatternOf.{IsPatternOf, IsRefused};
 ghost use Rattle.rawk_ere_tree.specs.Code.{code_of};
 ghost use Rattle.rawk_ere_tree.specs.Ends.{IsLongest, IsMatch, HasMatch};
 ghost use Rattle.rawk_ere_tree.specs.Open.{IsOpenMatch, IsSettled, IsOpenFrom};
-ghost use Rattle.rawk_ere_automaton.specs.Search.{IsBetween, AreBetween};
+ghost use Rattle.rawk_ere_automaton.specs.Search.{IsBetween, AreBetween, Knows};
 
 use crate::error::EreError;
 use crate::read::read;
@@ -16,6 +16,7 @@ use rawk_ere_automaton::search::{
     first, first_by, first_open, is_found_by, is_found_by_walk, longest, open_start,
 };
 use rawk_ere_automaton::table::{Table, run};
+use rawk_ere_begins::block::Block;
 use rawk_ere_tree::code::Code;
 use rawk_ere_tree::emit::emit;
 use rawk_ere_tree::node::Node;
@@ -145,12 +146,31 @@ impl Ere {
         ensures is { IfOk result (IsMatch text.now self.now from) }
         ensures within { IfOk result (AreBetween from (length text.now)) }
     {
+        let mut known = Block::none();
+        self.find_on(alloc, text, from, &mut known)
+    }
+
+    /// The same, with what earlier searches in the text have left of its places, where this one leaves what it finds out.
+    #[inline(always)]
+    pub(crate) fn find_on(
+        &self,
+        alloc: Global,
+        text: &[u8],
+        from: usize,
+        known: &mut Block,
+    ) -> Result<Option<(usize, usize)>, AllocError>
+        requires from { from ≤ length text.now }
+        requires known { Knows (code_of self.now) text.now known.old }
+        ensures is { IfOk result (IsMatch text.now self.now from) }
+        ensures within { IfOk result (AreBetween from (length text.now)) }
+        ensures known { Knows (code_of self.now) text.now known.new }
+    {
         if text.len() == 0 {
             return Ok(self.on_empty.then_some((0, 0)));
         }
         match &self.table {
             None => first(alloc, &self.code, text, from),
-            Some(table) => first_by(alloc, table, &self.wide, &self.code, text, from),
+            Some(table) => first_by(alloc, table, &self.wide, &self.code, text, from, known),
         }
     }
 

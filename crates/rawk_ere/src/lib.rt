@@ -7,6 +7,7 @@ pub mod byte_set;
 pub mod bytes;
 pub mod error;
 pub mod expression;
+pub mod finder;
 pub mod interval;
 pub mod part;
 pub mod read;
@@ -16,3 +17,4 @@ pub mod token;
 
 pub use error::EreError;
 pub use expression::Ere;
+pub use finder::Finder;

@@ -1,5 +1,5 @@
 -- A walk by the table is a walk of state sets.
-use Rattle.std.proofs.Common.{◌≡◌, ℕ, zero, suc, ◌+◌, ◌*◌, ◌/◌, ◌%◌, ◌<◌, ◌≤◌, ◌⊎◌, inl, inr, Bool, true, false, List, [], length, get_or, Option, Some, None, refl, sym, ◌∙◌, subst, arith, true≢false}
+use Rattle.std.proofs.Common.{◌≡◌, ℕ, zero, suc, ◌+◌, ◌-◌, ◌*◌, ◌/◌, ◌%◌, ◌<◌, ◌≤◌, ◌⊎◌, inl, inr, Bool, true, false, List, [], length, get_or, Option, Some, None, refl, sym, ◌∙◌, subst, arith, true≢false}
 use Rattle.std.specs.Prelude.{◌↔◌, IsTrue, Contains, slice_index}
 use Rattle.std.proofs.lemmas.Option.{slice_get_within}
 use Rattle.std.proofs.lemmas.Bool.{cases_eq, cases_lt}
@@ -9,8 +9,9 @@ use Rattle.rawk_ere_tree.specs.Ends.{IsLast}
 use Rattle.rawk_ere_tree.specs.Code.{Hops, Step, Path, wide_code}
 use Rattle.rawk_ere_tree.specs.StateSets.{Adds}
 use Rattle.rawk_ere_automaton.specs.Sets.{Closes, AreReached, IsFarthestBefore, IsFarthest}
-use Rattle.rawk_ere_automaton.specs.Search.{EndsFrom, Widens, BeginsNone, MayStart, NoneMay}
-use Rattle.rawk_ere_begins.specs.Filters.{IsPassedOver}
+use Rattle.rawk_ere_automaton.specs.Search.{EndsFrom, Widens, BeginsNone, MayStart, NoneMay, Knows}
+use Rattle.rawk_ere_begins.specs.Filters.{IsPassedOver, Tells, IsNextMarked, IsUnmarked, pair_marks}
+use Rattle.rawk_ere_begins.specs.declared.block.Block.{Block}
 use Rattle.rawk_ere_automaton.specs.declared.table.Table.{Table}
 use Rattle.rawk_ere_automaton.specs.Table.{members, Begins, LeadsBy, EndsLast, AreFilled, AreStarts, IsTable}
 use Rattle.rawk_ere_tree.specs.SetLemmas.{Contains-none}
@@ -328,6 +329,35 @@ module _ (code : List Instruction) (s : List ℕ) where
 
   pub begins_none_seek : (t : Table) (is : IsTable code t) (from upto : ℕ) → IsLater t from → upto ≤ length s → ((k : ℕ) → get_or s k 0 < 256) → get_or t.ends.items t.later false ≡ false → ((k : ℕ) → from ≤ k → k < upto → IsPassedOver t.begins s k) → BeginsNone code s from upto
   begins_none_seek t is from upto pos le fits ne h = λ i j low lt w. begins_not_here t is i (later_on t from i low pos) (omega (arith, lt, le)) fits ne (h i low lt) j w
+
+  -- what the filter tells of 32 places
+  pub knows_told : (t : Table) (is : IsTable code t) (b : Block) → ((k : ℕ) → get_or s k 0 < 256) → get_or t.ends.items t.later false ≡ false → Tells t.begins s b → Knows code s b
+  knows_told t is b fits ne told = record {
+    within = λ k h. let o = told.only k h in (o.0, omega (arith, o.0, told.long));
+    none = λ i j pos low high end zero w.
+        let here : b.start + (i - b.start) ≡ i = omega (arith, low) in
+        let none = elim (cases_eq (pair_marks t.begins (get_or s (b.start + (i - b.start)) 0) (get_or s (b.start + (i - b.start) + 1) 0)) 0) as (λ _. pair_marks t.begins (get_or s (b.start + (i - b.start)) 0) (get_or s (b.start + (i - b.start) + 1) 0) ≡ 0) [
+          | inl e ↦ e
+          | inr n ↦ absurd (omega (arith, zero, told.set (i - b.start) (omega (arith, low, high)) n))
+        ] in
+        begins_not_here t is i (inl pos) end fits ne (inr (inr (omega (arith, high, told.long), subst (λ x. pair_marks t.begins (get_or s x 0) (get_or s (x + 1) 0) ≡ 0) here none))) j w;
+  }
+
+  pub knows_still : (t : Table) (is : IsTable code t) (old new : Block) → ((k : ℕ) → get_or s k 0 < 256) → get_or t.ends.items t.later false ≡ false → (new ≡ old) ⊎ Tells t.begins s new → Knows code s old → Knows code s new
+  knows_still t is old new fits ne (inl e) h = subst (Knows code s) (sym e) h
+  knows_still t is old new fits ne (inr told) h = knows_told t is new fits ne told
+
+  -- the next place that a block tells of
+  pub begins_none_next : (b : Block) (from at : ℕ) → 0 < from → Knows code s b → IsNextMarked b from at → BeginsNone code s from at
+  begins_none_next b from at pos h n =
+      let there = h.within (at - b.start) n.here in
+      let start = n.start in
+      let low = n.low in
+      λ i j from_i i_at w. h.none i j (omega (arith, pos, from_i)) (omega (arith, start, from_i)) (omega (arith, there, start, low, i_at)) (omega (arith, there, start, low, i_at)) (n.before i from_i i_at) w
+
+  -- the places that a block tells of where no bit is set
+  pub begins_none_unmarked : (b : Block) (from at : ℕ) → 0 < from → at ≤ length s → Knows code s b → ((k : ℕ) → from ≤ k → k < at → IsUnmarked b k) → BeginsNone code s from at
+  begins_none_unmarked b from at pos le h n = λ i j from_i i_at w. let u = n i from_i i_at in h.none i j (omega (arith, pos, from_i)) u.0 u.1 (omega (arith, i_at, le)) u.2 w
 
   -- nor where each byte leads to the row without states
   pub begins_none_dead : (t : Table) (is : IsTable code t) (from first upto : ℕ) → IsLater t from → upto ≤ length s → ((k : ℕ) → get_or s k 0 < 256) → get_or t.ends.items t.later false ≡ false

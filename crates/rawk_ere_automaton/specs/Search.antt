@@ -1,5 +1,7 @@
 -- Ways through a code, found from a place on.
-use Rattle.std.specs.Prelude.{◌≡◌, ◌↔◌, IsTrue, ℕ, ◌<◌, ◌≤◌, ◌⊎◌, Bool, true, false, List, length, Option, Some, None}
+use Rattle.std.specs.Prelude.{◌≡◌, ◌↔◌, IsTrue, ℕ, ◌+◌, ◌-◌, ◌<◌, ◌≤◌, ◌⊎◌, Bool, true, false, List, length, Option, Some, None}
+use Rattle.std.specs.Int.{bit_at}
+use Rattle.rawk_ere_begins.specs.declared.block.Block.{Block}
 use Rattle.rawk_ere_tree.specs.declared.code.Instruction.{Instruction}
 use Rattle.rawk_ere_tree.specs.Code.{Path, wide_code}
 use Rattle.rawk_ere_automaton.specs.Sets.{IsFarthest, WantsFrom}
@@ -44,6 +46,11 @@ module _ (code : List Instruction) (s : List ℕ) where
   -- no way begins from here on before there
   abbrev pub BeginsNone : ℕ → ℕ → Type 0
   BeginsNone from upto = (i j : ℕ) → from ≤ i → i < upto → Way true i j → ⊥
+
+  -- what a block tells of 32 places: no way begins at one behind the start of the text whose bit is not set; its bits that are set are those of places in the text
+  pub record Knows (b : Block) : Type 0 where
+    pub within : (k : ℕ) → bit_at b.marked k ≡ 1 → (k < 32) × (b.start + k < length s)
+    pub none : (i j : ℕ) → 0 < i → b.start ≤ i → i < b.start + 32 → i < length s → bit_at b.marked (i - b.start) ≡ 0 → Way true i j → ⊥
 
   -- the first place from `from` on where a way begins
   pub record IsFirstBegin (from begin : ℕ) : Type 0 where

@@ -1,15 +1,16 @@
 //! Searches for a way through a code, from a place on.
 
-ghost use Rattle.std.specs.Prelude.{◌≡◌, ℕ, ◌+◌, ◌-◌, ◌*◌, ◌<◌, ◌≤◌, ◌↔◌, true, false, length, Option, Some, IfOk, IsTrue};
+ghost use Rattle.std.specs.Prelude.{◌≡◌, ℕ, ◌+◌, ◌-◌, ◌*◌, ◌<◌, ◌≤◌, ◌↔◌, ◌⊎◌, true, false, length, Option, Some, IfOk, IsTrue};
 ghost use Rattle.rawk_ere_automaton.specs.Sets.{IsFarthest, WantsFrom};
 ghost use Rattle.rawk_ere_tree.specs.Code.{wide_code};
 ghost use Rattle.rawk_ere_automaton.specs.Table.{IsTable};
 ghost use Rattle.std.specs.Option.{ForSome};
-ghost use Rattle.rawk_ere_automaton.specs.Search.{BeginsIn, BeginsNone, EndsFrom, IsFirstBegin, IsProgress, Widens, IsBetween, AreBetween, IsFound, IsFirstOpen, IsOpenStart, MayStart, MayIn, NoneMay, IsOpening, IsOpened};
+ghost use Rattle.rawk_ere_automaton.specs.Search.{BeginsIn, BeginsNone, EndsFrom, IsFirstBegin, IsProgress, Widens, IsBetween, AreBetween, IsFound, IsFirstOpen, IsOpenStart, MayStart, MayIn, NoneMay, IsOpening, IsOpened, Knows};
 
 use crate::progress::{Opening, Progress};
-use crate::table::{Table, first_end_by, first_stop, run, run_open, skip, skip_open};
+use crate::table::{Table, first_end_by, first_stop, run, run_open, skip, skip_on, skip_open};
 use crate::walk::{Walked, first_end, may_begin_by, no_states, walk};
+use rawk_ere_begins::block::Block;
 use rawk_ere_tree::code::Code;
 use rawk_ere_tree::set::StateSet;
 use std::alloc::{AllocError, Global};
@@ -93,7 +94,15 @@ pub fn first(
     }
 }
 
-/// The first place from `from` on where a way may begin; the start of the text may differ from later places.
+/// Whether what may begin at a place is what may begin at all later ones: the start of the text may differ from these.
+#[inline(always)]
+fn is_later(table: &Table, from: usize) -> bool
+    ensures { IsTrue result → (0 < from) ⊎ (table.now.start ≡ table.now.later) }
+{
+    from > 0 || table.start == table.later
+}
+
+/// The first place from `from` on where a way may begin.
 fn first_place(table: &Table, code: &Code, text: &[u8], from: usize) -> usize
     requires within { from ≤ length text.now }
     requires table { IsTable code.now table.now }
@@ -101,21 +110,47 @@ fn first_place(table: &Table, code: &Code, text: &[u8], from: usize) -> usize
     ensures high { result ≤ length text.now }
     ensures none { BeginsNone code.now text.now from result }
 {
-    if from == 0 && table.start != table.later {
+    if !is_later(table, from) {
         return from;
     }
     skip(table, code, text, from)
 }
 
+/// The same, by what a block tells, where it does; else the block that is found is left in it.
+#[inline(always)]
+fn first_place_on(table: &Table, code: &Code, text: &[u8], from: usize, known: &mut Block) -> usize
+    requires within { from ≤ length text.now }
+    requires table { IsTable code.now table.now }
+    requires known { Knows code.now text.now known.old }
+    ensures low { from ≤ result }
+    ensures high { result ≤ length text.now }
+    ensures none { BeginsNone code.now text.now from result }
+    ensures known { Knows code.now text.now known.new }
+{
+    if !is_later(table, from) {
+        return from;
+    }
+    skip_on(table, code, text, from, known)
+}
+
 /// Looks for a way from place to place, until it has read `most` bytes in vain, and a share of those that it passed over.
 #[inline(always)]
-fn restart(table: &Table, code: &Code, text: &[u8], from: usize, most: usize) -> Progress
+fn restart(
+    table: &Table,
+    code: &Code,
+    text: &[u8],
+    from: usize,
+    most: usize,
+    known: &mut Block,
+) -> Progress
     requires within { from ≤ length text.now }
     requires some { 0 < length text.now }
     requires table { IsTable code.now table.now }
-    ensures { IsProgress code.now text.now from result }
+    requires known { Knows code.now text.now known.old }
+    ensures progress { IsProgress code.now text.now from result }
+    ensures known { Knows code.now text.now known.new }
 {
-    let mut begin = first_place(table, code, text, from);
+    let mut begin = first_place_on(table, code, text, from, known);
     let mut left = most;
     while begin < text.len() {
         let ran = run(table, code, text, begin);
@@ -123,7 +158,7 @@ fn restart(table: &Table, code: &Code, text: &[u8], from: usize, most: usize) ->
             Some(end) => return Progress::Found(begin, end),
             None => {}
         }
-        let next = skip(table, code, text, begin + 1);
+        let next = skip_on(table, code, text, begin + 1, known);
         let spent = ran.stop - begin;
         if spent >= left {
             return Progress::Paused(next);
@@ -197,6 +232,7 @@ fn halve(
 }
 
 /// Goes on with a search that has read much in vain: one pass tells whether there is a way, and then how far it may begin.
+#[inline(never)]
 fn resume(
     alloc: Global,
     table: &Table,
@@ -204,20 +240,23 @@ fn resume(
     code: &Code,
     text: &[u8],
     from: usize,
+    known: &mut Block,
 ) -> Result<Option<(usize, usize)>, AllocError>
     requires within { from ≤ length text.now }
     requires some { 0 < length text.now }
     requires table { IsTable code.now table.now }
     requires wide { ForSome wide.now (IsTable (wide_code code.now)) }
     requires widens { Widens code.now text.now }
-    ensures { IfOk result (IsFound code.now text.now from) }
+    requires known { Knows code.now text.now known.old }
+    ensures found { IfOk result (IsFound code.now text.now from) }
+    ensures known { Knows code.now text.now known.new }
 {
     let passed = pass(alloc, wide, code, text, from)?;
     match passed {
         None => Ok(None),
         Some(end) => {
             let most = (end - from).saturating_mul(8).saturating_add(1024);
-            match restart(table, code, text, from, most) {
+            match restart(table, code, text, from, most, known) {
                 Progress::Found(begin, end) => Ok(Some((begin, end))),
                 Progress::Nothing => Ok(at_end(table, code, text, from)),
                 Progress::Paused(at) => {
@@ -229,7 +268,8 @@ fn resume(
     }
 }
 
-/// The same by a table of the code and one of the wide code.
+/// The same by a table of the code and one of the wide code, with what earlier searches in the text have left of its places, where this one leaves what it finds out.
+#[inline(always)]
 pub fn first_by(
     alloc: Global,
     table: &Table,
@@ -237,22 +277,25 @@ pub fn first_by(
     code: &Code,
     text: &[u8],
     from: usize,
+    known: &mut Block,
 ) -> Result<Option<(usize, usize)>, AllocError>
     requires from { from ≤ length text.now }
     requires table { IsTable code.now table.now }
     requires wide { ForSome wide.now (IsTable (wide_code code.now)) }
     requires widens { Widens code.now text.now }
-    ensures { IfOk result (IsFound code.now text.now from) }
+    requires known { Knows code.now text.now known.old }
+    ensures found { IfOk result (IsFound code.now text.now from) }
+    ensures known { Knows code.now text.now known.new }
 {
     if text.len() == 0 {
         let found = first(alloc, code, text, from)?;
         return Ok(found);
     }
-    match restart(table, code, text, from, FEW) {
+    match restart(table, code, text, from, FEW, known) {
         Progress::Found(begin, end) => Ok(Some((begin, end))),
         Progress::Nothing => Ok(at_end(table, code, text, from)),
         Progress::Paused(at) => {
-            let found = resume(alloc, table, wide, code, text, at)?;
+            let found = resume(alloc, table, wide, code, text, at, known)?;
             Ok(found)
         }
     }

@@ -5,12 +5,13 @@ ghost use Rattle.rawk_ere_tree.specs.StateSets.{Adds};
 ghost use Rattle.rawk_ere_automaton.specs.Sets.{Closes, IsFarthest, AsksIn, WantsFrom};
 ghost use Rattle.rawk_ere_automaton.specs.Table.{members, Begins, LeadsBy, EndsLast, AreFilled, AreStarts, IsTable, IsPlaced, Extends, AreAlike, AreMarkedAlike, IsTarget};
 ghost use Rattle.rawk_ere_tree.specs.Code.{wide_code};
-ghost use Rattle.rawk_ere_automaton.specs.Search.{EndsFrom, Widens, Way, BeginsNone, NoneMay};
+ghost use Rattle.rawk_ere_automaton.specs.Search.{EndsFrom, Widens, Way, BeginsNone, NoneMay, Knows};
 ghost use Rattle.std.specs.Option.{ForSome};
 
 use crate::walk::{asks_in, close, has_end, no_states, read, reads_from};
+use rawk_ere_begins::block::Block;
 use rawk_ere_begins::filter::{Filter, find_filter};
-use rawk_ere_begins::seek::{LONG, seek};
+use rawk_ere_begins::seek::{LONG, seek, seek_noting};
 use rawk_ere_tree::code::Code;
 use rawk_ere_tree::set::StateSet;
 use std::alloc::{AllocError, Global};
@@ -82,14 +83,16 @@ pub fn run(table: &Table, code: &Code, text: &[u8], from: usize) -> Ran
     ensures low { from ≤ result.stop }
     ensures high { result.stop ≤ length text.now }
 {
+    let ends = table.ends.as_slice();
+    let next = table.next.as_slice();
     let mut row = if from == 0 { table.start } else { table.later };
     let mut longest = None;
     for at in from..text.len() {
         if row == table.dead {
             return Ran { longest, stop: at };
         }
-        longest = marked(table.ends[row], at, longest);
-        row = table.next[row * 256 + text[at] as usize] as usize;
+        longest = marked(ends[row], at, longest);
+        row = next[row * 256 + text[at] as usize] as usize;
     }
     longest = marked(table.last_ends[row], text.len(), longest);
     Ran {
@@ -232,6 +235,63 @@ pub fn skip(table: &Table, code: &Code, text: &[u8], from: usize) -> usize
         return first;
     }
     seek(&table.begins, text, upto)
+}
+
+/// The same, by what a block tells, where it does; else the block that is found is left in it.
+#[inline(always)]
+pub fn skip_on(table: &Table, code: &Code, text: &[u8], from: usize, known: &mut Block) -> usize
+    requires begun { (0 < from) ⊎ (table.now.start ≡ table.now.later) }
+    requires within { from ≤ length text.now }
+    requires table { IsTable code.now table.now }
+    requires known { Knows code.now text.now known.old }
+    ensures low { from ≤ result }
+    ensures high { result ≤ length text.now }
+    ensures none { BeginsNone code.now text.now from result }
+    ensures known { Knows code.now text.now known.new }
+{
+    if from > 0 {
+        if let Some(at) = known.next(from) {
+            return at;
+        }
+    }
+    skip_noting(table, code, text, from, known)
+}
+
+/// From where on the block tells nothing of the places that follow.
+#[inline(always)]
+fn beyond(code: &Code, text: &[u8], from: usize, known: &Block) -> usize
+    requires within { from ≤ length text.now }
+    requires known { Knows code.now text.now known.now }
+    ensures low { from ≤ result }
+    ensures high { result ≤ length text.now }
+    ensures none { BeginsNone code.now text.now from result }
+{
+    if from == 0 {
+        return from;
+    }
+    known.past(from).min(text.len())
+}
+
+/// The same where the block has no place that is next.
+#[inline(never)]
+fn skip_noting(table: &Table, code: &Code, text: &[u8], from: usize, known: &mut Block) -> usize
+    requires begun { (0 < from) ⊎ (table.now.start ≡ table.now.later) }
+    requires within { from ≤ length text.now }
+    requires table { IsTable code.now table.now }
+    requires known { Knows code.now text.now known.old }
+    ensures low { from ≤ result }
+    ensures high { result ≤ length text.now }
+    ensures none { BeginsNone code.now text.now from result }
+    ensures known { Knows code.now text.now known.new }
+{
+    if table.ends[table.later] {
+        return from;
+    }
+    if text.len() < LONG {
+        return skip(table, code, text, from);
+    }
+    let at = beyond(code, text, from, known);
+    seek_noting(&table.begins, text, at, known)
 }
 
 /// The first place from `from` on where a way may begin that reads a byte; the end of the text, if none is left.

@@ -1,7 +1,8 @@
 -- Marks of bytes, and what they tell of the places of a text.
-use Rattle.std.specs.Prelude.{◌≡◌, ◌≢◌, ◌↔◌, ℕ, ◌+◌, ◌*◌, ◌/◌, ◌%◌, ◌<◌, ◌⊎◌, Bool, true, false, List, length, slice_index, slice_index_or, bit_and}
+use Rattle.std.specs.Prelude.{◌≡◌, ◌≢◌, ◌↔◌, ℕ, ◌+◌, ◌-◌, ◌*◌, ◌/◌, ◌%◌, ◌<◌, ◌≤◌, ◌⊎◌, Bool, true, false, List, length, slice_index, slice_index_or, bit_and}
 use Rattle.std.specs.Int.{bit_at}
 use Rattle.std.specs.Option.{ForSome}
+use Rattle.rawk_ere_begins.specs.declared.block.Block.{Block}
 use Rattle.rawk_ere_begins.specs.declared.nibbles.Nibbles.{Nibbles}
 use Rattle.rawk_ere_begins.specs.declared.filter.Filter.{Filter}
 
@@ -38,3 +39,25 @@ pub record IsFilter (next : List ℕ) (ends : List Bool) (later dead : ℕ) (f :
 -- no place passes, or the byte at the place has no marks, or it and the next one have none in common
 abbrev pub IsPassedOver : Filter → List ℕ → ℕ → Type 0
 IsPassedOver f s k = (f.is_empty ≡ true) ⊎ ((marks_of f.first (slice_index s k) ≡ 0) ⊎ ((k + 1 < length s) × (pair_marks f (slice_index s k) (slice_index s (k + 1)) ≡ 0)))
+
+-- the block tells of 32 places of the text: its bits are set where the byte and the next one have a mark in common
+pub record Tells (f : Filter) (s : List ℕ) (b : Block) : Type 0 where
+  pub long : b.start + 33 ≤ length s
+  pub set : (k : ℕ) → k < 32 → pair_marks f (slice_index s (b.start + k)) (slice_index s (b.start + k + 1)) ≢ 0 → bit_at b.marked k ≡ 1
+  pub only : (k : ℕ) → bit_at b.marked k ≡ 1 → (k < 32) × (pair_marks f (slice_index s (b.start + k)) (slice_index s (b.start + k + 1)) ≢ 0)
+
+-- the places of its bits that are set are less than n
+abbrev pub StandsBelow : Block → ℕ → Type 0
+StandsBelow b n = (k : ℕ) → bit_at b.marked k ≡ 1 → b.start + k < n
+
+-- at the place a bit is set, and at none from `from` on before it, of which the block tells
+pub record IsNextMarked (b : Block) (from at : ℕ) : Type 0 where
+  pub start : b.start ≤ from
+  pub tells : from < b.start + 32
+  pub low : from ≤ at
+  pub here : bit_at b.marked (at - b.start) ≡ 1
+  pub before : (k : ℕ) → from ≤ k → k < at → bit_at b.marked (k - b.start) ≡ 0
+
+-- the block tells of the place, and its bit is not set
+abbrev pub IsUnmarked : Block → ℕ → Type 0
+IsUnmarked b k = (b.start ≤ k) × (k < b.start + 32) × (bit_at b.marked (k - b.start) ≡ 0)

@@ -1,10 +1,11 @@
 //! The next place where a way may begin.
 
-ghost use Rattle.std.specs.Prelude.{◌≡◌, ◌≢◌, ℕ, ◌+◌, ◌<◌, ◌≤◌, length, slice_index};
+ghost use Rattle.std.specs.Prelude.{◌≡◌, ◌≢◌, ℕ, ◌+◌, ◌<◌, ◌≤◌, ◌⊎◌, length, slice_index};
 ghost use Rattle.std.specs.Int.{bit_at};
 ghost use Rattle.std.specs.Option.{ForSome};
-ghost use Rattle.rawk_ere_begins.specs.Filters.{pair_marks, IsPassedOver, IsOnly};
+ghost use Rattle.rawk_ere_begins.specs.Filters.{pair_marks, IsPassedOver, IsOnly, Tells};
 
+use crate::block::Block;
 use crate::filter::Filter;
 use crate::lanes::{
     bits_from, both, both_bits, by_high_bits, by_low_bits, equal, load, lowest, nonzero,
@@ -66,6 +67,21 @@ pub fn seek(filter: &Filter, text: &[u8], from: usize) -> usize
     ensures passed { (k : ℕ) → from ≤ k → k < result → IsPassedOver filter.now text.now k }
     ensures stops { 33 ≤ length text.now → result < length text.now → IsPassedOver filter.now text.now result → ⊥ }
 {
+    let mut last = Block::none();
+    seek_noting(filter, text, from, &mut last)
+}
+
+/// The same, and what was found out of the 32 places around it is left in `known`, where places were looked at together.
+#[inline(always)]
+pub fn seek_noting(filter: &Filter, text: &[u8], from: usize, known: &mut Block) -> usize
+    requires within { from ≤ length text.now }
+    requires only { ForSome filter.now.only (IsOnly filter.now.first filter.now.second) }
+    ensures low { from ≤ result }
+    ensures high { result ≤ length text.now }
+    ensures passed { (k : ℕ) → from ≤ k → k < result → IsPassedOver filter.now text.now k }
+    ensures stops { 33 ≤ length text.now → result < length text.now → IsPassedOver filter.now text.now result → ⊥ }
+    ensures known { (known.new ≡ known.old) ⊎ Tells filter.now text.now known.new }
+{
     if filter.is_empty {
         return text.len();
     }
@@ -77,8 +93,10 @@ pub fn seek(filter: &Filter, text: &[u8], from: usize) -> usize
     let mut at = from;
     while at < end {
         let start = at.min(last);
-        let marked = bits_from(may_begin(filter, text, start), at - start);
+        let all = may_begin(filter, text, start);
+        let marked = bits_from(all, at - start);
         if marked != 0 {
+            *known = Block { start, marked: all };
             return at + lowest(marked);
         }
         at = start + 32;

@@ -8,7 +8,7 @@ ghost use Rattle.rawk_search.specs.Found.{IsWithin, spans_of};
 ghost use Rattle.rawk_search.specs.Laws.{IsSpan, IsSkip};
 
 use crate::Span;
-use rawk_ere::Ere;
+use rawk_ere::{Ere, Finder};
 use std::alloc::{AllocError, Global};
 
 /// The span from a begin to an end.
@@ -36,6 +36,22 @@ pub fn next_match(
     Ok(span(found))
 }
 
+/// The same where one match after another is sought: the expression and the text stay. An error: memory was refused.
+#[inline(always)]
+pub fn next_match_on(
+    alloc: Global,
+    finder: &mut Finder<'_>,
+    from: usize,
+) -> Result<Option<Span>, AllocError>
+    requires { from ≤ length finder.old.text }
+    ensures same { finder.new ≡ finder.old }
+    ensures is { IfOk result (λ o. o ≡ first_match finder.old.text finder.old.ere from) }
+    ensures within { IfOk result (λ o. IfSome o (IsWithin from finder.old.text)) }
+{
+    let found = finder.find(alloc, from)?;
+    Ok(span(found))
+}
+
 /// The leftmost match from `from` on that is not empty, and the longest there. An error: memory was refused.
 pub fn next_nonempty(
     alloc: Global,
@@ -47,12 +63,28 @@ pub fn next_nonempty(
     ensures is { IfOk result (λ o. o ≡ first_nonempty true text.now ere.now from) }
     ensures within { IfOk result (λ o. IfSome o (IsSpan from text.now)) }
 {
+    let mut finder = Finder::new(ere, text);
+    next_nonempty_on(alloc, &mut finder, from)
+}
+
+/// The same where one match after another is sought: the expression and the text stay. An error: memory was refused.
+#[inline]
+pub fn next_nonempty_on(
+    alloc: Global,
+    finder: &mut Finder<'_>,
+    from: usize,
+) -> Result<Option<Span>, AllocError>
+    requires { from ≤ length finder.old.text }
+    ensures same { finder.new ≡ finder.old }
+    ensures is { IfOk result (λ o. o ≡ first_nonempty true finder.old.text finder.old.ere from) }
+    ensures within { IfOk result (λ o. IfSome o (IsSpan from finder.old.text)) }
+{
     let mut at = from;
-    while let Some((start, end)) = ere.find(alloc, text, at)? {
+    while let Some((start, end)) = finder.find(alloc, at)? {
         if start < end {
             return Ok(Some(Span { start, end }));
         }
-        if start == text.len() {
+        if start == finder.len() {
             return Ok(None);
         }
         at = start + 1;

@@ -7,16 +7,16 @@ overflow_sub-end c = (begins_of c.args.code.now c.args.text.now c.args.from (len
 
 pub halve-requires-clause-from : goal.halve-requires-clause-from
 halve-requires-clause-from c =
-    (begins_left c.args.code.now c.args.text.now c.args.from c.in-Paused.at (length c.args.text.now) c.in-Some.end c.in_ok-passed.passed c.in-Some.is (omega arith) c.in_ok-passed.ensures c.in-Paused.ensures.2).0
+    (begins_left c.args.code.now c.args.text.now c.args.from c.in-Paused.at (length c.args.text.now) c.in-Some.end c.in_ok-passed.passed c.in-Some.is (omega arith) c.in_ok-passed.ensures c.in-Paused.ensures.progress.2).0
 
 pub halve-requires-clause-upto : goal.halve-requires-clause-upto
 halve-requires-clause-upto c =
-    (begins_left c.args.code.now c.args.text.now c.args.from c.in-Paused.at (length c.args.text.now) c.in-Some.end c.in_ok-passed.passed c.in-Some.is (omega arith) c.in_ok-passed.ensures c.in-Paused.ensures.2).1
+    (begins_left c.args.code.now c.args.text.now c.args.from c.in-Paused.at (length c.args.text.now) c.in-Some.end c.in_ok-passed.passed c.in-Some.is (omega arith) c.in_ok-passed.ensures c.in-Paused.ensures.progress.2).1
 
 pub halve-requires-clause-some : goal.halve-requires-clause-some
 halve-requires-clause-some c =
-    (begins_left c.args.code.now c.args.text.now c.args.from c.in-Paused.at (length c.args.text.now) c.in-Some.end c.in_ok-passed.passed c.in-Some.is (omega arith) c.in_ok-passed.ensures c.in-Paused.ensures.2).2
+    (begins_left c.args.code.now c.args.text.now c.args.from c.in-Paused.at (length c.args.text.now) c.in-Some.end c.in_ok-passed.passed c.in-Some.is (omega arith) c.in_ok-passed.ensures c.in-Paused.ensures.progress.2).2
 
-pub returns-in_ok-found-in-Paused : goal.returns-in_ok-found-in-Paused
-returns-in_ok-found-in-Paused c =
-    found_from c.args.code.now c.args.text.now c.args.from c.in-Paused.at c.in_ok-found-in-Paused.found c.in-Paused.ensures.0 c.in-Paused.ensures.2 c.in_ok-found-in-Paused.ensures
+pub returns-in_ok-found-in-Paused-clause-found : goal.returns-in_ok-found-in-Paused-clause-found
+returns-in_ok-found-in-Paused-clause-found c =
+    found_from c.args.code.now c.args.text.now c.args.from c.in-Paused.at c.in_ok-found-in-Paused.found c.in-Paused.ensures.progress.0 c.in-Paused.ensures.progress.2 c.in_ok-found-in-Paused.ensures

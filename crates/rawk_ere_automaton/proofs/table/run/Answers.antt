@@ -1,4 +1,4 @@
-use Rattle.std.proofs.Common.{◌≡◌, ◌+◌, ◌*◌, ◌<◌, inl, inr, false, length, get_or, arith, sym, subst, refl}
+use Rattle.std.proofs.Common.{◌≡◌, ◌+◌, ◌*◌, ◌<◌, inl, inr, false, length, get_or, arith, sym, subst, refl, ap}
 use Rattle.std.specs.Prelude.{◌↔◌, IsTrue, Contains}
 use Rattle.std.proofs.lemmas.List.{get_or_read}
 use Rattle.rawk_ere_automaton.specs.Table.{members, EndsLast, IsTable}
@@ -21,12 +21,11 @@ loop-at-preserved c =
     let lb : b < 256 = (c.type_inv.text c.loop-at.at).fits in
     let known = c.requires.table in
     let lr = c.loop-at.invariant.within in
-    let within : row * 256 + b < length table.next.items = omega (arith, lr, known.all, known.ends_all, lb) in
-    let to = get_or_read table.next.items (row * 256 + b) _ within c.index-in-loop-at.ensures 0 in
-    let ends = get_or_read table.ends.items row _ lr c.index.ensures false in
+    let to = ap (λ l. get_or l (row * 256 + b) 0) c.as_slice-next.ensures.value in
+    let ends = ap (λ l. get_or l row false) c.as_slice-ends.ensures.value in
     let runs = λ (t : IsTable c.args.code.now table).
     let r = c.loop-at.invariant.runs t in
-    running_next c.args.code.now c.args.text.now t.sets table.next.items c.args.from c.loop-at.at row b c.index-in-loop-at.result.now c.loop-at.longest c.marked-longest.result c.index.result.now t.filled t.all
+    running_next c.args.code.now c.args.text.now t.sets table.next.items c.args.from c.loop-at.at row b (get_or c.as_slice-next.result.now (row * 256 + b) 0) c.loop-at.longest c.marked-longest.result (get_or c.as_slice-ends.result.now row false) t.filled t.all
     (omega arith) (omega arith) refl lb to (subst (λ x. IsTrue x ↔ Contains (members t.sets row) (length c.args.code.now)) (sym ends) (t.ends_are row r.within)) c.marked-longest.ensures r in
     record { within = omega (arith, (runs known).within, known.ends_all); runs = runs }
 
@@ -44,6 +43,6 @@ returns-clause-farthest c =
     let end = length c.args.text.now in
     let e : c.loop-at.at ≡ end = omega arith in
     let r = subst (λ a. Running c.args.code.now c.args.text.now t.sets c.args.from a c.loop-at.row c.loop-at.longest) e (c.loop-at.invariant.runs t) in
-    let read = get_or_read table.last_ends.items c.loop-at.row _ (omega (arith, r.within, t.last_all)) c.index-2.ensures false in
-    running_end c.args.code.now c.args.text.now t.sets c.args.from end c.loop-at.row c.loop-at.longest c.marked-longest-2.result c.index-2.result.now
+    let read = get_or_read table.last_ends.items c.loop-at.row _ (omega (arith, r.within, t.last_all)) c.index.ensures false in
+    running_end c.args.code.now c.args.text.now t.sets c.args.from end c.loop-at.row c.loop-at.longest c.marked-longest-2.result c.index.result.now
     (subst (λ x. EndsLast c.args.code.now (members t.sets c.loop-at.row) x) (sym read) (t.last c.loop-at.row r.within)) c.requires.within c.requires.some refl r c.marked-longest-2.ensures

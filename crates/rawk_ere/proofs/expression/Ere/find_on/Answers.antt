@@ -4,7 +4,7 @@ use Rattle.rawk_ere_tree.specs.Ends.{IsMatch}
 use Rattle.rawk_ere_automaton.specs.Search.{IsFound, AreBetween}
 use Rattle.rawk_ere.proofs.EreLemmas.{match_from_first, match_on_empty, if_ok_where}
 use Rattle.rawk_ere.proofs.WideLemmas.{widened}
-use Rattle.rawk_ere.proofs.expression.Ere.find.Goals as goal
+use Rattle.rawk_ere.proofs.expression.Ere.find_on.Goals as goal
 
 pub first_by-requires-clause-widens : goal.first_by-requires-clause-widens
 first_by-requires-clause-widens c =
@@ -15,7 +15,7 @@ pub returns-then-text-eq0-clause-is : goal.returns-then-text-eq0-clause-is
 returns-then-text-eq0-clause-is c =
     let is = c.self.invariant.0 ∙ ap code_of c.self.view_is in
     subst (IsMatch c.args.text.now c.args.self.now c.args.from) (sym c.then_some.ensures)
-    (match_on_empty c.self.inside.code c.args.text.now c.args.self.now c.args.from c.self.inside.on_empty is c.if-text-eq0.true c.requires c.self.invariant.3)
+    (match_on_empty c.self.inside.code c.args.text.now c.args.self.now c.args.from c.self.inside.on_empty is c.if-text-eq0.true c.requires.from c.self.invariant.3)
 
 pub returns-in-None-clause-is : goal.returns-in-None-clause-is
 returns-in-None-clause-is c =
@@ -31,8 +31,8 @@ pub returns-in-Some-clause-is : goal.returns-in-Some-clause-is
 returns-in-Some-clause-is c =
     let is = c.self.invariant.0 ∙ ap code_of c.self.view_is in
     if_ok_where (IsFound c.self.inside.code c.args.text.now c.args.from) (IsMatch c.args.text.now c.args.self.now c.args.from) c.first_by.result
-    (λ r f. match_from_first c.self.inside.code c.args.text.now c.args.self.now c.args.from r is f.0) c.first_by.ensures
+    (λ r f. match_from_first c.self.inside.code c.args.text.now c.args.self.now c.args.from r is f.0) c.first_by.ensures.found
 
 pub returns-in-Some-clause-within : goal.returns-in-Some-clause-within
 returns-in-Some-clause-within c =
-    if_ok_where (IsFound c.self.inside.code c.args.text.now c.args.from) (AreBetween c.args.from (length c.args.text.now)) c.first_by.result (λ r f. f.1) c.first_by.ensures
+    if_ok_where (IsFound c.self.inside.code c.args.text.now c.args.from) (AreBetween c.args.from (length c.args.text.now)) c.first_by.result (λ r f. f.1) c.first_by.ensures.found
