@@ -1,5 +1,5 @@
 -- A walk by the table is a walk of state sets.
-use Rattle.std.proofs.Common.{◌≡◌, ℕ, zero, suc, ◌+◌, ◌-◌, ◌*◌, ◌/◌, ◌%◌, ◌<◌, ◌≤◌, ◌⊎◌, inl, inr, Bool, true, false, List, [], length, get_or, Option, Some, None, refl, sym, ◌∙◌, subst, arith, true≢false}
+use Rattle.std.proofs.Common.{◌≡◌, ℕ, zero, suc, ◌+◌, ◌-◌, ◌*◌, ◌/◌, ◌%◌, ◌<◌, ◌≤◌, ◌⊎◌, inl, inr, Bool, true, false, List, [], length, get_or, Option, Some, None, refl, sym, ap, ◌∙◌, subst, arith, true≢false}
 use Rattle.std.specs.Prelude.{◌↔◌, IsTrue, Contains, slice_index}
 use Rattle.std.proofs.lemmas.Option.{slice_get_within}
 use Rattle.std.proofs.lemmas.Bool.{cases_eq, cases_lt}
@@ -10,7 +10,7 @@ use Rattle.rawk_ere_tree.specs.Code.{Hops, Step, Path, wide_code}
 use Rattle.rawk_ere_tree.specs.StateSets.{Adds}
 use Rattle.rawk_ere_automaton.specs.Sets.{Closes, AreReached, IsFarthestBefore, IsFarthest}
 use Rattle.rawk_ere_automaton.specs.Search.{EndsFrom, Widens, BeginsNone, MayStart, NoneMay, Knows}
-use Rattle.rawk_ere_begins.specs.Filters.{IsPassedOver, Tells, IsNextMarked, IsUnmarked, pair_marks}
+use Rattle.rawk_ere_begins.specs.Filters.{IsPassedOver, Tells, IsLastRow, IsNextMarked, IsUnmarked, pair_marks}
 use Rattle.rawk_ere_begins.specs.declared.block.Block.{Block}
 use Rattle.rawk_ere_automaton.specs.declared.table.Table.{Table}
 use Rattle.rawk_ere_automaton.specs.Table.{members, Begins, LeadsBy, EndsLast, AreFilled, AreStarts, IsTable}
@@ -298,6 +298,35 @@ module _ (code : List Instruction) (s : List ℕ) where
       ] in
       f j w.0 w.1
 
+  -- an end at the end of the text as well
+  ends_also_last : (t : Table) (is : IsTable code t) (row : ℕ) → row < length is.sets → get_or t.ends.items row false ≡ true → IsTrue (get_or t.last_ends.items row false)
+  ends_also_last t is row lt e =
+      let l = is.last row lt in
+      let here = (is.ends_are row lt).0 e in
+      l.is.1 (l.closes.keeps (length code) (l.copies.has (length code) here (omega arith)))
+
+  -- a way of one byte is the longest, where no byte leads on from its end
+  pub single_farthest : (t : Table) (is : IsTable code t) (at b to : ℕ) → IsLater t at → at < length s → b ≡ get_or s at 0 → b < 256 → ((k : ℕ) → get_or s k 0 < 256) → to ≡ get_or t.next.items (t.later * 256 + b) 0
+      → get_or t.ends.items t.later false ≡ false → get_or t.ends.items to false ≡ true → IsLastRow t.next.items t.dead to → IsFarthest code true s at (Some (at + 1))
+  single_farthest t is at b to pos lt eb lb fits e ne ends last =
+      let r0 = running_later t is at pos in
+      let r1 = running_next is.sets t.next.items at at t.later b to None None (get_or t.ends.items t.later false) is.filled is.all (omega arith) lt eb lb e (is.ends_are t.later r0.within) (inr (λ x. true≢false (sym x ∙ ne), refl)) r0 in
+      elim (cases_lt (at + 1) (length s)) [
+        | inr end ↦
+            running_end is.sets at (at + 1) to None (Some (at + 1)) (get_or t.last_ends.items to false) (is.last to r1.within) (omega arith) (omega arith) (omega (arith, end, lt)) r1
+            (inl (ends_also_last t is to r1.within ends, refl))
+        | inl more ↦
+            let next = get_or s (at + 1) 0 in
+            let r2 = running_next is.sets t.next.items at (at + 1) to next t.dead None (Some (at + 1)) (get_or t.ends.items to false) is.filled is.all (omega arith) more refl (fits (at + 1)) (sym (last next (fits (at + 1)))) (is.ends_are to r1.within) (inl (ends, refl)) r1 in
+            let z = is.none r2.within in
+            elim (cases_lt (at + 1 + 1) (length s)) [
+              | inl on ↦ running_stop is.sets at (at + 1 + 1) t.dead (Some (at + 1)) (omega arith) on z r2
+              | inr end ↦
+                  running_end is.sets at (at + 1 + 1) t.dead (Some (at + 1)) (Some (at + 1)) (get_or t.last_ends.items t.dead false) (is.last t.dead r2.within) (omega arith) (omega arith) (omega (arith, end, more)) r2
+                  (inr (none_last (members is.sets t.dead) (get_or t.last_ends.items t.dead false) z (is.last t.dead r2.within), refl))
+            ]
+      ]
+
   -- no way begins with the byte at the place
   pub begins_not : (t : Table) (is : IsTable code t) (at b : ℕ) → IsLater t at → at < length s → b ≡ get_or s at 0 → b < 256 → get_or t.ends.items t.later false ≡ false → get_or t.next.items (t.later * 256 + b) 0 ≡ t.dead
       → (j : ℕ) → (n : ℕ) × Path code true s n 0 at (length code) j → ⊥
@@ -305,6 +334,19 @@ module _ (code : List Instruction) (s : List ℕ) where
       let r0 = running_later t is at pos in
       let r1 = running_next is.sets t.next.items at at t.later b t.dead None None (get_or t.ends.items t.later false) is.filled is.all (omega arith) lt eb lb (sym nd) (is.ends_are t.later r0.within) (inr (λ x. true≢false (sym x ∙ ne), refl)) r0 in
       none_ends t is at (at + 1) (omega arith) (omega (arith, lt)) r1 j w
+
+  -- the longest way of those that are one byte long
+  pub single_is : (t : Table) (is : IsTable code t) (at to : ℕ) → 0 < at → at < length s → ((k : ℕ) → get_or s k 0 < 256) → t.begins.is_single ≡ true → to ≡ get_or t.next.items (t.later * 256 + get_or s at 0) 0
+      → ((to ≡ t.dead) → IsFarthest code true s at None) × ((to ≡ t.dead → ⊥) → IsFarthest code true s at (Some (at + 1)))
+  single_is t is at to pos lt fits single e =
+      let one = is.begin_with.one single in
+      let b = get_or s at 0 in (
+        λ d. λ j n p. begins_not t is at b (inl pos) lt refl (fits at) one.begin (sym e ∙ d) j (n, p),
+        λ nd. elim (one.each b (fits at)) as (λ _. IsFarthest code true s at (Some (at + 1))) [
+          | inl d ↦ absurd (nd (e ∙ d))
+          | inr h ↦ single_farthest t is at b to (inl pos) lt refl (fits at) fits e one.begin (ap (λ x. get_or t.ends.items x false) e ∙ h.0) (subst (IsLastRow t.next.items t.dead) (sym e) h.1)
+        ],
+      )
 
   -- nor with that and the next one
   begins_not_pair : (t : Table) (is : IsTable code t) (at a b : ℕ) → IsLater t at → at + 1 < length s → a ≡ get_or s at 0 → a < 256 → b ≡ get_or s (at + 1) 0 → b < 256 → get_or t.ends.items t.later false ≡ false

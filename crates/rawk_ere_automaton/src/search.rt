@@ -8,7 +8,9 @@ ghost use Rattle.std.specs.Option.{ForSome};
 ghost use Rattle.rawk_ere_automaton.specs.Search.{BeginsIn, BeginsNone, EndsFrom, IsFirstBegin, IsProgress, Widens, IsBetween, AreBetween, IsFound, IsFirstOpen, IsOpenStart, MayStart, MayIn, NoneMay, IsOpening, IsOpened, Knows};
 
 use crate::progress::{Opening, Progress};
-use crate::table::{Table, first_end_by, first_stop, run, run_open, skip, skip_on, skip_open};
+use crate::table::{
+    Table, first_end_by, first_stop, run, run_here, run_open, skip, skip_on, skip_open,
+};
 use crate::walk::{Walked, first_end, may_begin_by, no_states, walk};
 use rawk_ere_begins::block::Block;
 use rawk_ere_tree::code::Code;
@@ -153,7 +155,7 @@ fn restart(
     let mut begin = first_place_on(table, code, text, from, known);
     let mut left = most;
     while begin < text.len() {
-        let ran = run(table, code, text, begin);
+        let ran = run_here(table, code, text, begin);
         match ran.longest {
             Some(end) => return Progress::Found(begin, end),
             None => {}

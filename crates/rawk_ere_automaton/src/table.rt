@@ -101,6 +101,30 @@ pub fn run(table: &Table, code: &Code, text: &[u8], from: usize) -> Ran
     }
 }
 
+/// The same from a byte of the text on; where each way is one byte long, that byte alone is looked at.
+#[inline(always)]
+pub fn run_here(table: &Table, code: &Code, text: &[u8], from: usize) -> Ran
+    requires within { from < length text.now }
+    requires table { IsTable code.now table.now }
+    ensures farthest { IsFarthest code.now true text.now from result.longest }
+    ensures low { from ≤ result.stop }
+    ensures high { result.stop ≤ length text.now }
+{
+    if from == 0 || !table.begins.is_single {
+        return run(table, code, text, from);
+    }
+    let to = table.next[table.later * 256 + text[from] as usize] as usize;
+    let longest = if to == table.dead {
+        None
+    } else {
+        Some(from + 1)
+    };
+    Ran {
+        longest,
+        stop: from + 1,
+    }
+}
+
 /// Walks from a place to the first end of a way.
 pub fn first_stop(table: &Table, code: &Code, text: &[u8], from: usize) -> Stopped
     requires within { from ≤ length text.now }

@@ -6,7 +6,7 @@ use Rattle.std.proofs.lemmas.Bool.{cases_eq}
 use Rattle.std.proofs.lemmas.Nat.Bits.{bit_at_and, bit_at-zero}
 use Rattle.rawk_ere_begins.specs.declared.nibbles.Nibbles.{Nibbles}
 use Rattle.rawk_ere_begins.specs.declared.filter.Filter.{Filter}
-use Rattle.rawk_ere_begins.specs.Filters.{HasMark, IsOnly, KeepsMarks, marks_of, pair_marks, IsFilter}
+use Rattle.rawk_ere_begins.specs.Filters.{AreSingle, HasMark, IsOnly, KeepsMarks, marks_of, pair_marks, IsFilter}
 
 module _ (next : List ℕ) (ends : List Bool) where
   -- the bytes that may come after one that led to the row have the mark
@@ -32,8 +32,8 @@ not_true true h = absurd (h refl)
 not_true false h = refl
 
 -- what bytes without marks tell
-pub is_filter : (next : List ℕ) (ends : List Bool) (later dead : ℕ) (f : Filter) → ForSome f.only (IsOnly f.first f.second) → (f.is_empty ≡ true → (a : ℕ) → a < 256 → get_or next (later * 256 + a) 0 ≡ dead) → ((a : ℕ) → a < 256 → get_or next (later * 256 + a) 0 ≢ dead → Marked next ends later dead f.first f.second a) → IsFilter next ends later dead f
-is_filter next ends later dead f only none marked = record { only = only; empty = none; single = one; pair = two }
+pub is_filter : (next : List ℕ) (ends : List Bool) (later dead : ℕ) (f : Filter) → ForSome f.only (IsOnly f.first f.second) → (f.is_empty ≡ true → (a : ℕ) → a < 256 → get_or next (later * 256 + a) 0 ≡ dead) → ((a : ℕ) → a < 256 → get_or next (later * 256 + a) 0 ≢ dead → Marked next ends later dead f.first f.second a) → (f.is_single ≡ true → AreSingle next ends later dead) → IsFilter next ends later dead f
+is_filter next ends later dead f only none marked long = record { only = only; empty = none; one = long; single = one; pair = two }
   where
     one : (a : ℕ) → a < 256 → marks_of f.first a ≡ 0 → get_or next (later * 256 + a) 0 ≡ dead
     one a la z = elim (cases_eq (get_or next (later * 256 + a) 0) dead) [

@@ -1,8 +1,8 @@
 //! Which bytes a way may begin with, and which may come next.
 
-ghost use Rattle.std.specs.Prelude.{◌≡◌, ◌≢◌, ℕ, ◌+◌, ◌*◌, ◌<◌, ◌≤◌, ◌⊎◌, true, false, length, slice_index, slice_index_or};
+ghost use Rattle.std.specs.Prelude.{◌≡◌, ◌≢◌, ℕ, ◌+◌, ◌*◌, ◌<◌, ◌≤◌, ◌⊎◌, IsTrue, true, false, length, slice_index, slice_index_or};
 ghost use Rattle.std.specs.Option.{ForSome};
-ghost use Rattle.rawk_ere_begins.specs.Filters.{HasMark, KeepsMarks, IsFilter, IsOnly, marks_of};
+ghost use Rattle.rawk_ere_begins.specs.Filters.{AreSingle, HasMark, KeepsMarks, IsFilter, IsLastRow, IsOnly, marks_of};
 
 use crate::nibbles::Nibbles;
 
@@ -13,6 +13,8 @@ pub struct Filter {
     pub second: Nibbles,
     /// Whether no way reads a byte.
     pub is_empty: bool,
+    /// Whether each way is one byte long.
+    pub is_single: bool,
     /// The only two bytes that have a mark in common, if no others do.
     pub only: Option<(u8, u8)>,
 }
@@ -59,6 +61,42 @@ fn find_only(first: &Nibbles, second: &Nibbles) -> Option<(u8, u8)>
     Some((a, b))
 }
 
+/// Whether no byte leads on from a row.
+fn is_last(next: &[u8], row: usize, dead: usize) -> bool
+    requires { 256 * (row + 1) ≤ length next.now }
+    ensures { IsTrue result → IsLastRow next.now dead row }
+{
+    for byte in 0..256usize {
+        if next[row * 256 + byte] as usize != dead {
+            return false;
+        }
+    }
+    true
+}
+
+/// Whether each byte that leads on from the row `later`, which is no end, leads to an end from which no byte leads on.
+fn are_single(next: &[u8], ends: &[bool], later: usize, dead: usize) -> bool
+    requires later { later < length ends.now }
+    requires all { length next.now ≡ 256 * length ends.now }
+    requires rows { (k : ℕ) → k < length next.now → slice_index next.now k < length ends.now }
+    ensures { IsTrue result → AreSingle next.now ends.now later dead }
+{
+    if ends[later] {
+        return false;
+    }
+    let mut row = dead;
+    for byte in 0..256usize {
+        let to = next[later * 256 + byte] as usize;
+        if to != dead && to != row {
+            if !ends[to] || !is_last(next, to, dead) {
+                return false;
+            }
+            row = to;
+        }
+    }
+    true
+}
+
 /// The filter of a table of rows: by the bytes that lead on from the row `later`, and those that lead on from there. Bytes that
 /// lead to the same row have the same mark.
 pub fn find_filter(next: &[u8], ends: &[bool], later: usize, dead: usize) -> Filter
@@ -86,6 +124,7 @@ pub fn find_filter(next: &[u8], ends: &[bool], later: usize, dead: usize) -> Fil
         first,
         second,
         is_empty: row == dead,
+        is_single: are_single(next, ends, later, dead),
         only: find_only(&first, &second),
     }
 }

@@ -8,8 +8,8 @@ ghost use Rattle.rawk_pieces.specs.Separators.{IsAhead};
 
 use crate::pieces::Piece;
 use memchr::memchr;
-use rawk_ere::Ere;
-use rawk_search::{Span, next_nonempty};
+use rawk_ere::{Ere, Finder};
+use rawk_search::{Span, next_nonempty_on};
 use std::alloc::{AllocError, Global};
 
 /// What comes next from a place on: a match, and where newlines separate too, a newline.
@@ -58,15 +58,15 @@ fn nearer(a: Option<Span>, b: Option<Span>) -> Option<Span>
 /// The next match from a place on. The one that was found before is kept until it is passed.
 fn match_from(
     alloc: Global,
-    ere: &Ere,
-    text: &[u8],
+    finder: &mut Finder<'_>,
     ahead: Ahead,
     from: usize,
 ) -> Result<Option<Span>, AllocError>
-    requires found { ahead.found ≡ first_nonempty true text.now ere.now ahead.from }
+    requires found { ahead.found ≡ first_nonempty true finder.old.text finder.old.ere ahead.from }
     requires low { ahead.from ≤ from }
-    requires high { from ≤ length text.now }
-    ensures { IfOk result (λ o. o ≡ first_nonempty true text.now ere.now from) }
+    requires high { from ≤ length finder.old.text }
+    ensures same { finder.new ≡ finder.old }
+    ensures found { IfOk result (λ o. o ≡ first_nonempty true finder.old.text finder.old.ere from) }
 {
     match ahead.found {
         None => Ok(None),
@@ -74,7 +74,7 @@ fn match_from(
             if from <= span.start {
                 return Ok(Some(span));
             }
-            next_nonempty(alloc, ere, text, from)
+            next_nonempty_on(alloc, finder, from)
         }
     }
 }
@@ -98,10 +98,17 @@ fn line_from(newline: bool, text: &[u8], ahead: Ahead, from: usize) -> Option<Sp
 }
 
 /// What comes next from the beginning of a text.
-fn first_ahead(alloc: Global, ere: &Ere, newline: bool, text: &[u8]) -> Result<Ahead, AllocError>
-    ensures { IfOk result (λ ahead. IsAhead ere.now newline text.now ahead × (ahead.from ≡ 0)) }
+fn first_ahead(
+    alloc: Global,
+    finder: &mut Finder<'_>,
+    newline: bool,
+    text: &[u8],
+) -> Result<Ahead, AllocError>
+    requires { finder.old.text ≡ text.now }
+    ensures same { finder.new ≡ finder.old }
+    ensures ahead { IfOk result (λ ahead. IsAhead finder.old.ere newline text.now ahead × (ahead.from ≡ 0)) }
 {
-    let found = next_nonempty(alloc, ere, text, 0)?;
+    let found = next_nonempty_on(alloc, finder, 0)?;
     let line = newline_from(newline, text, 0);
     Ok(Ahead {
         from: 0,
@@ -113,18 +120,20 @@ fn first_ahead(alloc: Global, ere: &Ere, newline: bool, text: &[u8]) -> Result<A
 /// What comes next from a later place on.
 fn ahead_from(
     alloc: Global,
-    ere: &Ere,
+    finder: &mut Finder<'_>,
     newline: bool,
     text: &[u8],
     ahead: Ahead,
     from: usize,
 ) -> Result<Ahead, AllocError>
-    requires was { IsAhead ere.now newline text.now ahead }
+    requires text { finder.old.text ≡ text.now }
+    requires was { IsAhead finder.old.ere newline text.now ahead }
     requires low { ahead.from ≤ from }
     requires high { from ≤ length text.now }
-    ensures { IfOk result (λ new. IsAhead ere.now newline text.now new × (new.from ≡ from)) }
+    ensures same { finder.new ≡ finder.old }
+    ensures ahead { IfOk result (λ new. IsAhead finder.old.ere newline text.now new × (new.from ≡ from)) }
 {
-    let found = match_from(alloc, ere, text, ahead, from)?;
+    let found = match_from(alloc, finder, ahead, from)?;
     let line = line_from(newline, text, ahead, from);
     Ok(Ahead { from, found, line })
 }
@@ -144,13 +153,14 @@ pub(crate) fn cut_matches(
     if text.len() == 0 {
         return Ok(());
     }
-    let mut ahead = first_ahead(alloc, ere, newline, text)?;
+    let mut finder = Finder::new(ere, text);
+    let mut ahead = first_ahead(alloc, &mut finder, newline, text)?;
     while let Some(cut) = nearer(ahead.found, ahead.line) {
         pieces.push(Piece {
             start: ahead.from,
             end: cut.start,
         })?;
-        ahead = ahead_from(alloc, ere, newline, text, ahead, cut.end)?;
+        ahead = ahead_from(alloc, &mut finder, newline, text, ahead, cut.end)?;
     }
     pieces.push(Piece {
         start: ahead.from,
