@@ -1,7 +1,7 @@
 //! The reading of a record.
 
 ghost use Rattle.std.specs.Bool.{OnTrue};
-ghost use Rattle.std.specs.Prelude.{◌≡◌, ◌≢◌, ◌≤◌, ◌⊎◌, List, Ok, Some, false, length, slice_range, IfOk, IfSome, OnOk};
+ghost use Rattle.std.specs.Prelude.{◌≡◌, ◌≢◌, ◌≤◌, ◌⊎◌, ◌∷◌, [], List, Ok, Some, false, length, slice_range, IfOk, IfSome, OnOk};
 ghost use Rattle.rawk_store.specs.Layout.{Grown};
 ghost use Rattle.rawk_store.specs.Stores.{start_of};
 ghost use Rattle.rawk_travel.specs.Plain.{IsPlainMove};
@@ -69,6 +69,32 @@ fn separator_in<'a>(globals: &'a Cells, separator: usize, digits: &'a mut Buffer
     }
 }
 
+/// The byte that a separator is; none of one of more bytes or of none, and of one that is not text of the program.
+#[inline(always)]
+fn separator_byte(globals: &Cells, separator: usize) -> Option<u8>
+    ensures { IfSome result (λ byte. text_of (global_in separator globals.now.now) ≡ byte ∷ []) }
+{
+    match globals.value(separator) {
+        Some(Value::String(text)) => match text.as_slice() {
+            [byte] => Some(*byte),
+            _ => None,
+        },
+        _ => None,
+    }
+}
+
+/// NR and FNR with one more, where both hold numbers that have one more; none else.
+#[inline(always)]
+fn counters_up(globals: &Cells) -> Option<(i64, i64)>
+    ensures { IfSome result (λ c. (counter_up NR globals.now.now ≡ Ok c.0) × (counter_up FNR globals.now.now ≡ Ok c.1)) }
+{
+    let nr = global_number(globals, NR)?;
+    let fnr = global_number(globals, FNR)?;
+    let nr_up = rawk_value::add(nr, 1).ok()?;
+    let fnr_up = rawk_value::add(fnr, 1).ok()?;
+    Some((nr_up, fnr_up))
+}
+
 /// The record of a text, by the field separator of now, and the counters; a separator that is refused changes nothing. It fails where memory is refused.
 #[inline(always)]
 fn show_counted<const SAVES: bool>(
@@ -99,10 +125,10 @@ fn show_counted<const SAVES: bool>(
     }
 }
 
-/// A text becomes the record, and is counted; a fault of a counter or a separator changes nothing. It fails where memory is
+/// A text becomes the record, and is counted, whatever the counters and the separator are; a fault of a counter or a separator changes nothing. It fails where memory is
 /// refused.
-#[inline(always)]
-fn take_text<const SAVES: bool>(
+#[inline(never)]
+fn take_any_text<const SAVES: bool>(
     alloc: Global,
     store: &mut Store,
     text: &[u8],
@@ -122,6 +148,51 @@ fn take_text<const SAVES: bool>(
     }
 }
 
+/// The record of a text, by a byte that separates fields, and the counters, which are written first, since such a separator is not refused. It fails where memory is refused.
+#[inline(always)]
+fn show_by_byte<const SAVES: bool>(
+    alloc: Global,
+    store: &mut Store,
+    text: &[u8],
+    paragraph: bool,
+    byte: u8,
+    nr: i64,
+    fnr: i64,
+) -> Result<Reading, AllocError>
+    ensures did { IfOk result (λ r. Counts r nr fnr (read_as text.now (byte ∷ []) paragraph) (moving store.old) (moving store.new)) }
+    ensures start { OnTrue SAVES (start_of store.new ≡ start_of store.old) }
+    ensures plain { IsPlainMove store.old store.new }
+{
+    store.globals.set_number::<SAVES>(NR, nr)?;
+    store.globals.set_number::<SAVES>(FNR, fnr)?;
+    match store.current.read::<SAVES>(alloc, text, &[byte], paragraph) {
+        Ok(()) => Ok(Reading::Taken),
+        Err(_) => Err(AllocError),
+    }
+}
+
+/// A text becomes the record, and is counted; a fault of a counter or a separator changes nothing. It fails where memory is
+/// refused.
+#[inline(always)]
+fn take_text<const SAVES: bool>(
+    alloc: Global,
+    store: &mut Store,
+    text: &[u8],
+    paragraph: bool,
+) -> Result<Reading, AllocError>
+    requires { paragraph ≡ is_empty (text_of (global_in RS store.old.globals.now)) }
+    ensures did { IfOk result (λ r. Takes r (taken_of text.now (moving store.old)) (moving store.old) (moving store.new)) }
+    ensures start { OnTrue SAVES (start_of store.new ≡ start_of store.old) }
+    ensures plain { IsPlainMove store.old store.new }
+{
+    if let Some(byte) = separator_byte(&store.globals, FS) {
+        if let Some((nr, fnr)) = counters_up(&store.globals) {
+            return show_by_byte::<SAVES>(alloc, store, text, paragraph, byte, nr, fnr);
+        }
+    }
+    take_any_text::<SAVES>(alloc, store, text, paragraph)
+}
+
 /// A text becomes the newest operand, with these counters. It fails where memory is refused.
 #[inline(always)]
 fn put_counted<const SAVES: bool>(
@@ -139,9 +210,9 @@ fn put_counted<const SAVES: bool>(
     push_input::<SAVES>(alloc, &mut store.operands, text)
 }
 
-/// A text becomes the newest operand, and is counted; a fault of a counter changes nothing. It fails where memory is refused.
-#[inline(always)]
-fn put_text<const SAVES: bool>(
+/// A text becomes the newest operand, and is counted, whatever the counters are; a fault of a counter changes nothing. It fails where memory is refused.
+#[inline(never)]
+fn put_any_text<const SAVES: bool>(
     alloc: Global,
     store: &mut Store,
     text: &[u8],
@@ -159,6 +230,23 @@ fn put_text<const SAVES: bool>(
             }
         },
     }
+}
+
+/// A text becomes the newest operand, and is counted; a fault of a counter changes nothing. It fails where memory is refused.
+#[inline(always)]
+fn put_text<const SAVES: bool>(
+    alloc: Global,
+    store: &mut Store,
+    text: &[u8],
+) -> Result<Reading, AllocError>
+    ensures did { IfOk result (λ r. Takes r (text_taken_of text.now (moving store.old)) (moving store.old) (moving store.new)) }
+    ensures start { OnTrue SAVES (Grown (start_of store.old) (start_of store.new)) }
+{
+    if let Some((nr, fnr)) = counters_up(&store.globals) {
+        put_counted::<SAVES>(alloc, store, text, nr, fnr)?;
+        return Ok(Reading::Taken);
+    }
+    put_any_text::<SAVES>(alloc, store, text)
 }
 
 /// A fault of a reading, or the want of memory.
@@ -248,7 +336,7 @@ fn read_any<R: Source + Drop, const SAVES: bool>(
 
 /// Reads a record: it becomes the present one and is counted, all or nothing. It fails where memory is refused; bytes may be read
 /// ahead then.
-#[inline(never)]
+#[inline(always)]
 pub fn read<R: Source + Drop, const SAVES: bool>(
     alloc: Global,
     store: &mut Store,
