@@ -3,5 +3,6 @@
 
 mod call;
 pub mod count;
+mod onward;
 mod reading;
 pub mod travel;
