@@ -38,6 +38,7 @@ impl<'a> Separator<'a> {
     /// The separator that a text names; the expression that several bytes are stands beside, and is read anew only where the text is another one than last time.
     ///
     /// Several bytes that are no extended regular expression are refused: `BadEre`. Where memory is refused the answer is `OutOfMemory`.
+    #[inline(always)]
     pub fn named(
         alloc: Global,
         fs: &[u8],

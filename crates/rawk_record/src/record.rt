@@ -22,6 +22,23 @@ use std::marker::Model;
 /// A text of this many bytes, or more, is always cut, so that its fields can be counted.
 const LONG: usize = 1 << 62;
 
+/// A text that is not cut comes in the place of a record, whatever that is. It fails where memory is refused.
+#[inline(never)]
+fn put_uncut(
+    alloc: Global,
+    held: &mut Held,
+    text: &[u8],
+    divider: Divider,
+) -> Result<(), AllocError>
+    requires short { length text.now < 2 ^ 62 }
+    requires held { IsHeld held.old }
+    ensures did { OnOk result (shown_in held.new ≡ divided_record divider text.now) }
+    ensures held { IsHeld held.new }
+{
+    *held = Held::Uncut(Uncut::new(alloc, text, divider)?);
+    Ok(())
+}
+
 /// A text that is not cut comes in the place of a record, whose buffer is used again where it is one too. It fails where memory is refused, and then it may be any record.
 #[inline(always)]
 fn leave_uncut(
@@ -38,8 +55,7 @@ fn leave_uncut(
     if let Held::Uncut(uncut) = held {
         return uncut.refill(text, divider);
     }
-    *held = Held::Uncut(Uncut::new(alloc, text, divider)?);
-    Ok(())
+    put_uncut(alloc, held, text, divider)
 }
 
 /// A record and its fields.
