@@ -278,6 +278,12 @@ pub fn skip_on(table: &Table, code: &Code, text: &[u8], from: usize, known: &mut
             return at;
         }
     }
+    if table.ends[table.later] {
+        return from;
+    }
+    if text.len() < LONG {
+        return skip(table, code, text, from);
+    }
     skip_noting(table, code, text, from, known)
 }
 
@@ -296,10 +302,11 @@ fn beyond(code: &Code, text: &[u8], from: usize, known: &Block) -> usize
     known.past(from).min(text.len())
 }
 
-/// The same where the block has no place that is next.
+/// The same where the block has no place that is next, and each way reads a byte.
 #[inline(never)]
 fn skip_noting(table: &Table, code: &Code, text: &[u8], from: usize, known: &mut Block) -> usize
     requires begun { (0 < from) ⊎ (table.now.start ≡ table.now.later) }
+    requires reads { slice_index_or table.now.ends.items table.now.later false ≡ false }
     requires within { from ≤ length text.now }
     requires table { IsTable code.now table.now }
     requires known { Knows code.now text.now known.old }
@@ -308,12 +315,6 @@ fn skip_noting(table: &Table, code: &Code, text: &[u8], from: usize, known: &mut
     ensures none { BeginsNone code.now text.now from result }
     ensures known { Knows code.now text.now known.new }
 {
-    if table.ends[table.later] {
-        return from;
-    }
-    if text.len() < LONG {
-        return skip(table, code, text, from);
-    }
     let at = beyond(code, text, from, known);
     seek_noting(&table.begins, text, at, known)
 }

@@ -9,6 +9,7 @@ use Rattle.rawk_words.specs.declared.operator.Extent.TheVariants.{First, All}
 use Rattle.rawk_search.specs.Expressions.{ere_of}
 use Rattle.rawk_replacements.specs.Replaced.{Replaced, taken, made, replaced_by}
 use Rattle.rawk_ere_tree.specs.Tree.{Tree}
+use Rattle.rawk_ere.specs.Sought.{Sought}
 use Rattle.rawk_search.specs.declared.span.Span.{Span}
 use Rattle.rawk_search.specs.Found.{IsWithin}
 use Rattle.rawk_search.specs.Replacements.{next_cut, cuts_on, cuts, replacement, replaced}
@@ -93,6 +94,17 @@ module _ (s : Bytes) (e : Tree) (by start : Bytes) where
 
     pub all_counted : next ≡ None → count ≡ length (cuts s e)
     all_counted is = omega (arith, c.counted, ap length (none_left is))
+
+-- what a finder of this text finds
+pub sought_as : (f g : Sought) (s : Bytes) (at : ℕ) (after : Option ℕ) (more : Option Span) → f ≡ g → g.text ≡ s → more ≡ next_cut f.text f.ere at after → more ≡ next_cut s g.ere at after
+sought_as f g s at after more same text is = is ∙ ap (λ (x : Sought). next_cut x.text x.ere at after) same ∙ ap (λ (t : Bytes). next_cut t g.ere at after) text
+
+pub sought_of : (f : Sought) (s : Bytes) (e : Tree) (more : Option Span) → f.text ≡ s → f.ere ≡ e → more ≡ next_cut f.text f.ere 0 None → more ≡ next_cut s e 0 None
+sought_of f s e more text ere is = is ∙ ap (λ (t : Bytes). next_cut t f.ere 0 None) text ∙ ap (λ (t : Tree). next_cut s t 0 None) ere
+
+-- how long the text of a finder is
+pub sought_length : (f g : Sought) (s : Bytes) → f ≡ g → g.text ≡ s → length s ≡ length f.text
+sought_length f g s same text = ap length (sym text) ∙ ap (λ (x : Sought). length x.text) (sym same)
 
 -- beyond the end of a text nothing is found
 pub past_end : (s : Bytes) (e : Tree) (p : ℕ) → length s < p → None ≡ next_cut s e p None

@@ -6,8 +6,8 @@ ghost use Rattle.rawk_search.specs.Found.{IsWithin};
 ghost use Rattle.rawk_search.specs.Replacements.{cuts, next_cut, replaced, replacement};
 ghost use Rattle.rawk_replacements.specs.Replaced.{IsPlain, held, made_with, replaced_by};
 
-use rawk_ere::Ere;
-use rawk_search::{Pattern, Span, next_cut};
+use rawk_ere::Finder;
+use rawk_search::{Pattern, Span, next_cut_on};
 use rawk_words::Extent;
 use std::alloc::{AllocError, Global};
 
@@ -134,14 +134,15 @@ fn push_match(
 fn push_cuts(
     alloc: Global,
     out: &mut Vec<u8>,
-    ere: &Ere,
+    finder: &mut Finder<'_>,
     by: &[u8],
     text: &[u8],
     first: Span,
 ) -> Result<usize, AllocError>
-    requires { Some first ≡ next_cut text.now ere.now 0 None }
-    ensures items { IfOk result (λ n. out.new.items ≡ out.old.items ++ replaced by.now text.now 0 (cuts text.now ere.now)) }
-    ensures count { IfOk result (λ n. n ≡ length (cuts text.now ere.now)) }
+    requires text { finder.old.text ≡ text.now }
+    requires first { Some first ≡ next_cut text.now finder.old.ere 0 None }
+    ensures items { IfOk result (λ n. out.new.items ≡ out.old.items ++ replaced by.now text.now 0 (cuts text.now finder.old.ere)) }
+    ensures count { IfOk result (λ n. n ≡ length (cuts text.now finder.old.ere)) }
 {
     let plain = is_plain(by);
     let mut next = Some(first);
@@ -154,11 +155,11 @@ fn push_cuts(
         count += 1;
         if found.start < found.end {
             at = found.end;
-            next = next_cut(alloc, ere, text, at, Some(at))?;
+            next = next_cut_on(alloc, finder, at, Some(at))?;
         } else {
             at = found.start + 1;
             next = if at <= text.len() {
-                next_cut(alloc, ere, text, at, None)?
+                next_cut_on(alloc, finder, at, None)?
             } else {
                 None
             };
@@ -191,15 +192,15 @@ pub fn replace(
 ) -> Result<Option<usize>, AllocError>
     ensures { IfOk result (λ count. Some (made_with out.new.items count) ≡ replaced_by extent pattern.now by.now text.now) }
 {
-    let ere = pattern.ere();
-    let Some(first) = next_cut(alloc, ere, text, 0, None)? else {
+    let mut finder = Finder::new(pattern.ere(), text);
+    let Some(first) = next_cut_on(alloc, &mut finder, 0, None)? else {
         return Ok(None);
     };
     out.clear();
     out.reserve(text.len().saturating_add(by.len()))?;
     let count = match extent {
         Extent::First => push_first(out, by, text, first)?,
-        Extent::All => push_cuts(alloc, out, ere, by, text, first)?,
+        Extent::All => push_cuts(alloc, out, &mut finder, by, text, first)?,
     };
     Ok(Some(count))
 }
