@@ -42,7 +42,7 @@ impl Model for Short {
 
 /// Writes bytes into the front of others.
 #[inline(always)]
-fn put_bytes(to: &mut [u8], bytes: &[u8])
+pub(crate) fn put_bytes(to: &mut [u8], bytes: &[u8])
     requires { length bytes.now ≤ length to.old }
     ensures { take (length bytes.now) to.new ≡ bytes.now }
 {

@@ -9,6 +9,7 @@ ghost use Rattle.rawk_record.specs.Shown.{Shown};
 ghost use Rattle.rawk_record.specs.Uncuts.{DividesAs, divided, divided_record};
 
 use crate::parts::FieldRef;
+use crate::short::put_bytes;
 use rawk_pieces::{Blank, ByteClass, Class, Separator, nth_run};
 use std::alloc::{AllocError, Global};
 use std::marker::Model;
@@ -22,23 +23,25 @@ pub enum Divider {
     Byte(ByteClass),
 }
 
-/// A text that is not cut into its fields, which are sought each time that they are asked for: for programs that do not ask. It has fewer than 2^62 bytes.
+/// A text that is not cut into its fields, which are sought each time that they are asked for: for programs that do not ask. It has fewer than 2^62 bytes, which are the first `size` of a buffer: behind
+/// them stand bytes of longer texts before it.
 #[derive(Drop)]
 pub struct Uncut {
-    text: Vec<u8>,
+    buffer: Vec<u8>,
+    size: usize,
     divider: Divider,
 }
 
 impl Model for Uncut {
-    ghost use Rattle.std.specs.Prelude.{◌<◌, ◌^◌, length};
+    ghost use Rattle.std.specs.Prelude.{◌<◌, ◌≤◌, ◌^◌, length, take};
     ghost use Rattle.rawk_record.specs.Shown.{Shown};
     ghost use Rattle.rawk_record.specs.Uncuts.{divided_record};
 
     ghost Value = { Shown };
 
-    ghost view = { λ u. divided_record u.divider u.text.items };
+    ghost view = { λ u. divided_record u.divider (take u.size u.buffer.items) };
 
-    ghost invariant = { λ u. length u.text.items < 2 ^ 62 };
+    ghost invariant = { λ u. (u.size ≤ length u.buffer.items) × (u.size < 2 ^ 62) };
 }
 
 /// The divider that a separator is, where it is no expression and separates something; `newline` says whether a newline separates too.
@@ -121,8 +124,13 @@ impl Uncut {
         requires { length text.now < 2 ^ 62 }
         ensures { IfOk result (λ u. u ≡ divided_record divider text.now) }
     {
-        let text = Vec::from_slice(alloc, text)?;
-        Ok(Uncut { text, divider })
+        let buffer = Vec::from_slice(alloc, text)?;
+        let size = buffer.len();
+        Ok(Uncut {
+            buffer,
+            size,
+            divider,
+        })
     }
 
     /// Becomes another text with its divider. Its buffer is used again. It fails where memory is refused, and then it may be any text.
@@ -132,13 +140,16 @@ impl Uncut {
         ensures { OnOk result (self.new ≡ divided_record divider text.now) }
     {
         self.divider = divider;
-        if text.len() <= self.text.len() {
-            self.text.truncate(text.len());
-            self.text.copy_from_slice(text);
+        if text.len() <= self.buffer.len() {
+            put_bytes(&mut self.buffer, text);
+            self.size = text.len();
             return Ok(());
         }
-        self.text.clear();
-        self.text.extend_from_slice(text)
+        self.size = 0;
+        self.buffer.clear();
+        self.buffer.extend_from_slice(text)?;
+        self.size = text.len();
+        Ok(())
     }
 
     /// The bytes of `$0`.
@@ -146,7 +157,7 @@ impl Uncut {
     pub(crate) fn text(&self) -> &[u8]
         ensures { result.now ≡ self.now.text }
     {
-        self.text.as_slice()
+        &self.buffer[..self.size]
     }
 
     /// How many fields there are. It goes through the text.
@@ -154,7 +165,7 @@ impl Uncut {
         ensures value { result ≡ length self.now.fields }
         ensures small { result < 2 ^ 63 }
     {
-        piece_count(self.divider, &self.text)
+        piece_count(self.divider, self.text())
     }
 
     /// A field by its number, from 1, and `None` past the last. It goes through the text.
@@ -162,7 +173,7 @@ impl Uncut {
         requires { 0 < number }
         ensures { option_map ref_value result ≡ slice_get self.now.fields (number - 1) }
     {
-        match piece(self.divider, &self.text, number - 1) {
+        match piece(self.divider, self.text(), number - 1) {
             Some(bytes) => Some(FieldRef::Piece(bytes)),
             None => None,
         }
