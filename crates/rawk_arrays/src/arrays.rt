@@ -13,8 +13,7 @@ ghost use Rattle.rawk_arrays.specs.ArraysBack.{FitsArrays, arrays_back};
 ghost use Rattle.rawk_arrays.specs.Slotted.{IsSlotOf};
 
 use crate::cells::{
-    ElementSlots, element, empty, filled, is_filled, keys, pack, put, set_slot, slot_for,
-    slot_for_number,
+    ElementSlots, element, empty, filled, keys, pack, put, set_slot, slot_for, slot_for_number,
 };
 use crate::counts::{count, recount_back};
 use itoa::Buffer;
@@ -92,23 +91,19 @@ pub enum ArraysChange {
     Truncate(usize),
 }
 
-/// Of the `emptied` slots, how many are left empty where this one is filled. One that was added last was not emptied.
+/// Counts a slot that is filled, one of `count`, off the emptied ones. One that was filled before or was added last was not emptied.
 #[inline(always)]
-fn left_empty(emptied: usize, cells: &ElementSlots, place: usize) -> usize {
-    if place < cells.len().saturating_sub(1) && !is_filled(cells, place) {
-        emptied.saturating_sub(1)
-    } else {
-        emptied
+fn count_filled(emptied: &mut usize, was_filled: bool, place: usize, count: usize) {
+    if !was_filled && place < count.saturating_sub(1) {
+        *emptied = emptied.saturating_sub(1);
     }
 }
 
-/// With the `emptied` slots, how many are empty where this one is emptied.
+/// Counts a slot that is emptied among the emptied ones, where it was filled.
 #[inline(always)]
-fn more_empty(emptied: usize, cells: &ElementSlots, place: usize) -> usize {
-    if is_filled(cells, place) {
-        emptied.saturating_add(1)
-    } else {
-        emptied
+fn count_emptied(emptied: &mut usize, was_filled: bool) {
+    if was_filled {
+        *emptied = emptied.saturating_add(1);
     }
 }
 
@@ -350,14 +345,15 @@ impl Arrays {
         ensures err { OnErr result (self.new.now ≡ self.old.now) }
         ensures start { OnTrue SAVES (self.new.start ≡ self.old.start) }
     {
-        self.emptied = left_empty(self.emptied, &self.cells, place);
-        set_slot::<SAVES>(
+        let was_filled = set_slot::<SAVES>(
             &self.index,
             &mut self.cells,
             &mut self.counts,
             place,
             Some(value),
         )?;
+        let count = self.cells.len();
+        count_filled(&mut self.emptied, was_filled, place, count);
         Ok(())
     }
 
@@ -404,8 +400,14 @@ impl Arrays {
         ensures err { OnErr result (self.new.now ≡ self.old.now) }
         ensures start { OnTrue SAVES (self.new.start ≡ self.old.start) }
     {
-        self.emptied = more_empty(self.emptied, &self.cells, place);
-        set_slot::<SAVES>(&self.index, &mut self.cells, &mut self.counts, place, None)?;
+        let was_filled = set_slot::<SAVES>(
+            &self.index,
+            &mut self.cells,
+            &mut self.counts,
+            place,
+            None,
+        )?;
+        count_emptied(&mut self.emptied, was_filled);
         Ok(())
     }
 
@@ -531,7 +533,7 @@ impl Arrays {
     /// Whether `pack` removes slots.
     #[inline(always)]
     pub fn is_sparse(&self) -> bool {
-        self.emptied > FEW && self.emptied / 2 > self.cells.len() / 4 + FEW
+        self.emptied > FEW && self.emptied / 2 > self.cells.len() / 8 * 3 + FEW
     }
 
     /// Removes the slots that are empty, and those of array numbers that are not in use, where most slots were emptied. What leads back to earlier

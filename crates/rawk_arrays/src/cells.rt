@@ -59,15 +59,12 @@ fn number_of(alloc: Global, index: &mut Keys, array: usize, key: &[u8]) -> Resul
     ensures added { IsAddedTo array index.old index.new }
     ensures distinct { AreDistinct index.old → AreDistinct index.new }
 {
-    if let Some(number) = index.find(array, key) {
-        return Ok(number);
-    }
-    let number = index.len();
-    index.add(alloc, array, key)?;
+    let number = index.entry(alloc, array, key)?;
     Ok(number)
 }
 
 // Adds empty slots until there are `count`. It fails where memory is refused; those that were added stay.
+#[inline(never)]
 fn cover(cells: &mut ElementSlots, count: usize) -> Result<(), AllocError>
     ensures covered { IsCovered count cells.old cells.new }
     ensures enough { OnOk result (count ≤ length cells.new.now) }
@@ -138,7 +135,8 @@ pub(crate) fn slot_for_number(
     Ok(number)
 }
 
-/// Fills or empties a slot, and counts what it was and is; a number that is no slot changes nothing. It fails where memory is refused, and then nothing has changed.
+/// Fills or empties a slot, counts what it was and is, and answers whether it was filled; a number that is no slot changes nothing, and is not filled. It fails where memory is refused, and
+/// then nothing has changed.
 #[inline(always)]
 pub(crate) fn set_slot<const SAVES: bool>(
     index: &Keys,
@@ -146,7 +144,7 @@ pub(crate) fn set_slot<const SAVES: bool>(
     counts: &mut Vec<usize>,
     number: usize,
     value: Option<Value>,
-) -> Result<(), AllocError>
+) -> Result<bool, AllocError>
     requires laid { AreLaid index.now cells.old }
     requires counted { AreCounted index.now cells.old.now counts.old.items }
     ensures laid { AreLaid index.now cells.new }
@@ -157,14 +155,14 @@ pub(crate) fn set_slot<const SAVES: bool>(
     ensures size { length cells.new.start ≡ length cells.old.start }
 {
     if number >= cells.len() {
-        return Ok(());
+        return Ok(false);
     }
     let _names = index.len();
     let was = is_filled(cells, number);
     let is = value.is_some();
     cells.write::<SAVES>(number, value)?;
     recount(index, counts, number, was, is);
-    Ok(())
+    Ok(was)
 }
 
 /// Fills or empties the slot of a key. It fails where memory is refused, and then no element has changed.
@@ -329,7 +327,7 @@ fn pack_one(
     match filled(cells, number) {
         Some(value) => {
             let copy = value.copy(alloc)?;
-            put::<true>(
+            put::<false>(
                 alloc,
                 packed_names,
                 packed,

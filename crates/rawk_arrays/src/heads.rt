@@ -1,6 +1,6 @@
 //! Keys behind their first bytes as numbers, by which most of them are told apart.
 
-ghost use Rattle.std.specs.Prelude.{◌≡◌, ◌≤◌, IfOk, slice_index_or};
+ghost use Rattle.std.specs.Prelude.{◌≡◌, ◌≤◌, ◌+◌, IfOk, length, slice_index_or};
 ghost use Rattle.rawk_arrays.specs.Heads.{IsHeaded, headed_keys, number_with};
 
 use rawk_value::Bytes;
@@ -25,6 +25,24 @@ fn byte_or_zero(key: &[u8], place: usize) -> u8
     }
 }
 
+// Eight bytes that a key has from a place on as a number, the first of them the highest.
+#[inline(always)]
+fn full_word(key: &[u8], place: usize) -> u64
+    requires { place + 8 ≤ length key.now }
+    ensures { result ≡ number_with 0 8 place key.now }
+{
+    u64::from_be_bytes([
+        key[place],
+        key[place + 1],
+        key[place + 2],
+        key[place + 3],
+        key[place + 4],
+        key[place + 5],
+        key[place + 6],
+        key[place + 7],
+    ])
+}
+
 // Eight bytes of a key from a place on as a number, the first of them the highest; zeros follow where the key ends.
 fn word(key: &[u8], place: usize) -> u64
     requires { place ≤ 8 }
@@ -32,6 +50,9 @@ fn word(key: &[u8], place: usize) -> u64
 {
     if key.len() <= place {
         return 0;
+    }
+    if key.len() >= place + 8 {
+        return full_word(key, place);
     }
     u64::from_be_bytes([
         byte_or_zero(key, place),

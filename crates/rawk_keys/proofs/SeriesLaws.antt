@@ -1,5 +1,5 @@
 -- Series stay what they are where keys are added.
-use Rattle.std.proofs.Common.{◌≡◌, ℕ, zero, suc, ◌+◌, List, [], ◌∷◌, ◌++◌, Some, OnErr, OnOk, Result, Ok, Err, arith, slice_get}
+use Rattle.std.proofs.Common.{◌≡◌, ℕ, zero, suc, ◌+◌, List, [], ◌∷◌, ◌++◌, length, refl, Some, OnErr, OnOk, Result, Ok, Err, arith, slice_get}
 use Rattle.std.proofs.lemmas.Option.{slice_get_within}
 use Rattle.rawk_keys.specs.declared.series.Series.{Series}
 use Rattle.rawk_keys.specs.ArrayKey.{ArrayKey}
@@ -12,6 +12,12 @@ entry_more (x ∷ keys) more (suc i) key e = entry_more keys more i key e
 
 series_more : (series : List Series) (keys more : List ArrayKey) → AreSeries series keys → AreSeries series (keys ++ more)
 series_more series keys more h = record { at = λ array own is i lt. entry_more keys more (own.first + i) _ (h.at array own is i lt) }
+
+-- the entry that was added last
+pub entry_last : (keys : List ArrayKey) (entry : ArrayKey) (i : ℕ) → i ≡ length keys → slice_get (keys ++ entry ∷ []) i ≡ Some entry
+entry_last [] entry i e = rw e refl
+entry_last (x ∷ keys) entry zero e = absurd (omega (arith, e))
+entry_last (x ∷ keys) entry (suc i) e = entry_last keys entry i (omega (arith, e))
 
 -- where one was added, and where none was
 pub series_added : {A E : Type 0} (r : Result A E) (series : List Series) (keys new more : List ArrayKey) → OnOk r (new ≡ keys ++ more) → OnErr r (new ≡ keys) → AreSeries series keys → AreSeries series new

@@ -1,5 +1,5 @@
 -- Keys with their arrays, in a list.
-use Rattle.std.specs.Prelude.{◌≡◌, ◌≢◌, ◌<◌, ℕ, List, slice_get, Option, None, Some}
+use Rattle.std.specs.Prelude.{◌≡◌, ◌≢◌, ◌<◌, ◌⊎◌, ◌++◌, ◌∷◌, [], ℕ, List, slice_get, Option, None, Some}
 
 abbrev pub Bytes : Type 0
 Bytes = List ℕ
@@ -15,6 +15,10 @@ array_key array key = record { array = array; key = key }
 -- the entry stands at none of the first n places
 abbrev pub IsAbsent : ArrayKey → List ArrayKey → Type 0
 IsAbsent entry keys = (i : ℕ) → slice_get keys i ≢ Some entry
+
+-- nothing was added, or the entry, which was not there
+abbrev pub HasEntry : ArrayKey → List ArrayKey → List ArrayKey → Type 0
+HasEntry entry keys new = (new ≡ keys) ⊎ (IsAbsent entry keys × (new ≡ keys ++ entry ∷ []))
 
 -- of the first n keys, the last one of an array's, if it has one there
 abbrev pub IsLastOf : ℕ → List ArrayKey → ℕ → Option ℕ → Type 0

@@ -1,5 +1,5 @@
--- Keys of an array that are the numbers from 1 on, one behind another.
-use Rattle.std.specs.Prelude.{◌≡◌, ℕ, suc, ◌+◌, ◌<◌, pos, List, slice_get, Some}
+-- Keys of an array that are the numbers from one on, one behind another.
+use Rattle.std.specs.Prelude.{◌≡◌, ℕ, ◌+◌, ◌<◌, pos, List, slice_get, Some}
 use Rattle.rawk_value.specs.Values.{text_of}
 use Rattle.rawk_value.specs.declared.value.Value.TheVariants.{Number}
 use Rattle.rawk_keys.specs.declared.keys.KeyRange.{KeyRange}
@@ -7,9 +7,9 @@ use Rattle.rawk_keys.specs.declared.series.Series.{Series}
 use Rattle.rawk_keys.specs.ArrayKey.{Bytes, ArrayKey, array_key}
 use Rattle.rawk_keys.specs.KeysLaid.{AreLaid, keys_of}
 
--- the entries of a series are an array's keys of the numbers from 1 on, in decimal
+-- the entries of a series are an array's keys of the numbers from one on, in decimal
 abbrev pub IsSeries : ℕ → Series → List ArrayKey → Type 0
-IsSeries array series keys = (i : ℕ) → i < series.count → slice_get keys (series.first + i) ≡ Some (array_key array (text_of (Number (pos (suc i)))))
+IsSeries array series keys = (i : ℕ) → i < series.count → slice_get keys (series.first + i) ≡ Some (array_key array (text_of (Number (pos (series.from + i)))))
 
 -- each series that stands at an array's number is one of that array
 pub record AreSeries (series : List Series) (keys : List ArrayKey) : Type 0 where

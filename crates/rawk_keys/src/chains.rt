@@ -82,6 +82,7 @@ impl Chains {
     }
 
     /// Adds an item. It fails where memory is refused, and where 32 bits do not hold the label or how many items there are; then nothing has changed.
+    #[inline(always)]
     pub fn push(&mut self, alloc: Global, label: usize) -> Result<(), AllocError>
         ensures did { OnOk result (self.new ≡ self.old ++ label ∷ []) }
         ensures err { OnErr result (self.new ≡ self.old) }
@@ -164,6 +165,7 @@ pub(crate) fn short(number: usize) -> Result<u32, AllocError>
 }
 
 /// Adds a link at the head of its chain.
+#[inline(always)]
 fn push_link(links: &mut Vec<Link>, heads: &mut Vec<u32>, label: usize) -> Result<(), AllocError>
     requires room { 0 < length heads.old.items }
     requires linked { IsLinked (length heads.old.items) (labels links.old.items) (earliers links.old.items) heads.old.items (length links.old.items) }
@@ -176,10 +178,11 @@ fn push_link(links: &mut Vec<Link>, heads: &mut Vec<u32>, label: usize) -> Resul
     let next = short(many + 1)?;
     let at = bucket(label, heads.len());
     let earlier = heads[at];
-    links.push(Link {
+    links.reserve(1)?;
+    links.push_reserved(Link {
         label: own,
         earlier,
-    })?;
+    });
     heads[at] = next;
     Ok(())
 }
@@ -201,6 +204,7 @@ fn drop_link(links: &mut Vec<Link>, heads: &mut Vec<u32>)
 }
 
 /// Adds a link; the first makes chains.
+#[inline(always)]
 fn push_label(
     alloc: Global,
     links: &mut Vec<Link>,
@@ -220,6 +224,7 @@ fn push_label(
 }
 
 /// Puts the links into at least `count` chains.
+#[inline(never)]
 fn spread_links(
     alloc: Global,
     links: &mut Vec<Link>,

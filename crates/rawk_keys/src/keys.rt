@@ -5,7 +5,8 @@ ghost use Rattle.std.proofs.Common.{get_or};
 ghost use Rattle.rawk_value.specs.Values.{text_of};
 ghost use Rattle.rawk_value.specs.declared.value.Value.TheVariants.{Number};
 ghost use Rattle.rawk_keys.specs.declared.keys.KeyRange.{KeyRange};
-ghost use Rattle.rawk_keys.specs.ArrayKey.{IsAbsent, IsLastOf, ArrayKey, array_key};
+ghost use Rattle.rawk_keys.specs.ArrayKey.{HasEntry, IsAbsent, IsLastOf, ArrayKey, array_key};
+ghost use Rattle.rawk_keys.specs.Hash.{hash_of};
 ghost use Rattle.rawk_keys.specs.KeysLaid.{AreWithin, AreLaid, keys_of};
 
 use crate::chains::{Chains, short};
@@ -100,7 +101,43 @@ impl Keys {
             &self.by_array,
             array,
             key,
+            hash(self.basis, array, key),
         )
+    }
+
+    /// The number of an entry, which is added where it is missing, with one hash. It fails as `add` does; then nothing has changed.
+    #[inline(never)]
+    pub fn entry(&mut self, alloc: Global, array: usize, key: &[u8]) -> Result<usize, AllocError>
+        ensures there { IfOk result (λ i. slice_get self.new i ≡ Some (array_key array key.now)) }
+        ensures added { HasEntry (array_key array key.now) self.old self.new }
+        ensures err { OnErr result (self.new ≡ self.old) }
+    {
+        let hash = hash(self.basis, array, key);
+        if let Some(number) = find_in(
+            self.basis,
+            &self.text,
+            &self.spans,
+            &self.by_hash,
+            &self.by_array,
+            array,
+            key,
+            hash,
+        ) {
+            return Ok(number);
+        }
+        let number = self.spans.len();
+        add_key(
+            alloc,
+            self.basis,
+            &mut self.text,
+            &mut self.spans,
+            &mut self.by_hash,
+            &mut self.by_array,
+            array,
+            key,
+            hash,
+        )?;
+        Ok(number)
     }
 
     /// The number of the entry of a number's key, where it stands in the array's series: no search, and `None` says nothing of the keys.
@@ -150,6 +187,7 @@ impl Keys {
             &mut self.by_array,
             array,
             key,
+            hash(self.basis, array, key),
         )
     }
 }
@@ -177,7 +215,8 @@ fn range_of(start: usize, end: usize) -> Result<KeyRange, AllocError>
     Ok(KeyRange { start, end })
 }
 
-/// Adds an entry. Where a label is refused, the key's bytes stand in the text for no entry.
+/// Adds an entry, whose hash is given. Where a label is refused, the key's bytes stand in the text for no entry.
+#[inline(always)]
 fn add_key(
     alloc: Global,
     basis: usize,
@@ -187,8 +226,10 @@ fn add_key(
     by_array: &mut Chains,
     array: usize,
     key: &[u8],
+    hash: usize,
 ) -> Result<(), AllocError>
-    requires { AreLaid basis text.old.items spans.old.items by_hash.old by_array.old }
+    requires laid { AreLaid basis text.old.items spans.old.items by_hash.old by_array.old }
+    requires hash { hash ≡ hash_of basis array key.now }
     ensures did { OnOk result (keys_of text.new.items by_array.new spans.new.items ≡ keys_of text.old.items by_array.old spans.old.items ++ array_key array key.now ∷ []) }
     ensures err { OnErr result (keys_of text.new.items by_array.new spans.new.items ≡ keys_of text.old.items by_array.old spans.old.items) }
     ensures array_key { AreLaid basis text.new.items spans.new.items by_hash.new by_array.new }
@@ -198,12 +239,13 @@ fn add_key(
     text.extend_from_slice(key)?;
     let end = text.len();
     let span = range_of(start, end)?;
-    add_labels(alloc, by_hash, by_array, hash(basis, array, key), array)?;
-    spans.push(span)?;
+    add_labels(alloc, by_hash, by_array, hash, array)?;
+    spans.push_reserved(span);
     Ok(())
 }
 
 /// Adds the labels of an entry to both lists, or to none.
+#[inline(always)]
 fn add_labels(
     alloc: Global,
     by_hash: &mut Chains,
@@ -227,6 +269,7 @@ fn add_labels(
 }
 
 /// Adds a label, with more chains than `wanted` where memory for them is there.
+#[inline(always)]
 fn add_label(
     alloc: Global,
     chains: &mut Chains,
@@ -305,7 +348,8 @@ fn is_key(
     false
 }
 
-/// The number of an entry.
+/// The number of an entry, whose hash is given.
+#[inline(always)]
 fn find_in(
     basis: usize,
     text: &[u8],
@@ -314,11 +358,13 @@ fn find_in(
     by_array: &Chains,
     array: usize,
     key: &[u8],
+    hash: usize,
 ) -> Option<usize>
-    requires { AreLaid basis text.now spans.now by_hash.now by_array.now }
+    requires laid { AreLaid basis text.now spans.now by_hash.now by_array.now }
+    requires hash { hash ≡ hash_of basis array key.now }
     ensures { let entry = array_key array key.now in let keys = keys_of text.now by_array.now spans.now in MatchOption result (IsAbsent entry keys) (λ i. slice_get keys i ≡ Some entry) }
 {
-    let mut at = by_hash.latest(hash(basis, array, key));
+    let mut at = by_hash.latest(hash);
     while let Some(number) = at {
         if is_key(text, spans, by_array, number, array, key) {
             return Some(number);

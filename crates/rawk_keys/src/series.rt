@@ -1,4 +1,4 @@
-//! Entries one behind another, whose keys are an array's numbers from 1 on.
+//! Entries one behind another, whose keys are an array's numbers from one on.
 
 ghost use Rattle.std.specs.Prelude.{◌≡◌, List, IfSome, Some, pos, slice_get};
 ghost use Rattle.rawk_value.specs.Values.{text_of};
@@ -8,11 +8,12 @@ ghost use Rattle.rawk_keys.specs.Series.{AreSeries};
 
 use crate::chains::short;
 
-/// The entries from `first` on, `count` of them; both are below 2^32.
+/// The entries from `first` on, `count` of them, of the numbers from `from` on; each is below 2^32.
 #[derive(Clone, Copy)]
 pub struct Series {
     pub first: u32,
     pub count: u32,
+    pub from: u32,
 }
 
 /// The entry of a number's key, where it stands in its array's series.
@@ -20,11 +21,14 @@ pub struct Series {
 pub(crate) fn entry_of(series: &[Series], array: usize, key: i64) -> Option<usize>
     ensures { IfSome result (λ i. (keys : List ArrayKey) → AreSeries series.now keys → slice_get keys i ≡ Some (array_key array (text_of (Number key)))) }
 {
-    if array >= series.len() || key < 1 {
+    if array >= series.len() {
         return None;
     }
     let own = series[array];
-    let place = (key - 1) as usize;
+    if key < own.from as i64 {
+        return None;
+    }
+    let place = (key - own.from as i64) as usize;
     if place < own.count as usize {
         return Some(own.first as usize + place);
     }
@@ -32,25 +36,34 @@ pub(crate) fn entry_of(series: &[Series], array: usize, key: i64) -> Option<usiz
 }
 
 /// Notes the entry of a number's key.
+#[inline(always)]
 pub(crate) fn note_entry(series: &mut Vec<Series>, array: usize, key: i64, entry: usize)
     ensures { (keys : List ArrayKey) → slice_get keys entry ≡ Some (array_key array (text_of (Number key))) → AreSeries series.old.items keys → AreSeries series.new.items keys }
 {
-    if key == 1 {
-        begin(series, array, entry);
-    } else {
-        lengthen(series, array, key, entry);
+    if !lengthen(series, array, key, entry) {
+        begin(series, array, key, entry);
     }
 }
 
-// Begins the series of an array at the entry of the key 1.
-fn begin(series: &mut Vec<Series>, array: usize, entry: usize)
-    ensures { (keys : List ArrayKey) → slice_get keys entry ≡ Some (array_key array (text_of (Number (pos 1)))) → AreSeries series.old.items keys → AreSeries series.new.items keys }
+// Begins the series of an array anew at the entry of a key, where this is 1 or the series has one key at most.
+#[inline(never)]
+fn begin(series: &mut Vec<Series>, array: usize, key: i64, entry: usize)
+    ensures { (keys : List ArrayKey) → slice_get keys entry ≡ Some (array_key array (text_of (Number key))) → AreSeries series.old.items keys → AreSeries series.new.items keys }
 {
     reach(series, array);
+    if key < 0 {
+        return;
+    }
     if let Ok(first) = short(entry)
+        && let Ok(from) = short(key as usize)
         && array < series.len()
+        && (key == 1 || series[array].count <= 1)
     {
-        series[array] = Series { first, count: 1 };
+        series[array] = Series {
+            first,
+            count: 1,
+            from,
+        };
     }
 }
 
@@ -58,25 +71,36 @@ fn begin(series: &mut Vec<Series>, array: usize, entry: usize)
 fn reach(series: &mut Vec<Series>, array: usize)
     ensures { (keys : List ArrayKey) → AreSeries series.old.items keys → AreSeries series.new.items keys }
 {
-    let none = Series { first: 0, count: 0 };
+    let none = Series {
+        first: 0,
+        count: 0,
+        from: 0,
+    };
     if array >= series.len() {
         let _reached = series.resize(array.saturating_add(1), none);
     }
 }
 
-// Lengthens the series of an array, where the key and its entry are those behind its last.
-fn lengthen(series: &mut Vec<Series>, array: usize, key: i64, entry: usize)
+// Lengthens the series of an array, where the key and its entry are those behind its last, and answers whether it did.
+#[inline(always)]
+fn lengthen(series: &mut Vec<Series>, array: usize, key: i64, entry: usize) -> bool
     ensures { (keys : List ArrayKey) → slice_get keys entry ≡ Some (array_key array (text_of (Number key))) → AreSeries series.old.items keys → AreSeries series.new.items keys }
 {
-    if array >= series.len() || key < 1 {
-        return;
+    if array >= series.len() {
+        return false;
     }
-    let Series { first, count } = series[array];
-    let place = (key - 1) as usize;
+    let Series { first, count, from } = series[array];
+    if key < from as i64 {
+        return false;
+    }
+    let place = (key - from as i64) as usize;
     if place == count as usize && first as usize + place == entry && count < u32::MAX {
         series[array] = Series {
             first,
             count: count + 1,
+            from,
         };
+        return true;
     }
+    false
 }
