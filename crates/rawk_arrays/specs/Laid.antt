@@ -1,9 +1,11 @@
 -- How arrays lie: their keys, each with a slot for its value, and how many arrays there are.
-use Rattle.std.specs.Prelude.{◌≡◌, ◌≢◌, ℕ, ◌<◌, ◌≤◌, ◌==◌, if◌then◌else◌, List, [], ◌∷◌, ◌++◌, length, map, max, replicate, slice_get, slice_index_or, Option, None, Some}
+use Rattle.std.specs.Prelude.{◌≡◌, ◌≢◌, ℕ, pos, ◌+◌, ◌<◌, ◌≤◌, ◌==◌, if◌then◌else◌, List, [], ◌∷◌, ◌++◌, length, map, max, replicate, slice_get, slice_index_or, Option, None, Some}
 use Rattle.std.specs.List.{range_with_len}
-use Rattle.rawk_value.specs.Values.{Bytes}
+use Rattle.rawk_value.specs.Values.{Bytes, text_of}
+use Rattle.rawk_value.specs.declared.value.Value.TheVariants.{Number}
 use Rattle.rawk_slots.specs.Journaled.{Journaled, Longer}
 use Rattle.rawk_value.specs.declared.value.Value.{Value}
+pub use Rattle.rawk_keys.specs.declared.series.Run.{Run}
 use Rattle.rawk_keys.specs.ArrayKey.{ArrayKey, array_key}
 use Rattle.rawk_arrays.specs.Elements.{Elements, no_elements, put}
 
@@ -81,6 +83,10 @@ pub record IsPlaceOf (a : ℕ) (key : Bytes) (place : ℕ) (l : Laid) : Type 0 w
   pub array_key : slice_get l.index place ≡ Some (array_key a key)
   pub within : place < length l.slots
   pub live : a < l.live
+
+-- the slots are those of the keys from 1 on
+abbrev pub ArePlaces : ℕ → Run → Laid → Type 0
+ArePlaces a run l = (i : ℕ) → i < run.count → IsPlaceOf a (text_of (Number (pos (i + 1)))) (run.first + i) l
 
 -- index and empty slots were added, and nothing else was done
 pub record GrownArrays (l m : Laid) : Type 0 where

@@ -8,16 +8,17 @@ ghost use Rattle.rawk_value.specs.Values.{Bytes, text_of};
 ghost use Rattle.rawk_slots.specs.Journaled.{at_rest};
 ghost use Rattle.rawk_slots.specs.Back.{back};
 ghost use Rattle.rawk_arrays.specs.Elements.{array_at, changed_arrays, cleared, element_at, is_element, keys_at, no_elements, touched, with_element, with_put, without_element};
-ghost use Rattle.rawk_arrays.specs.Laid.{GrownArrays, IsLaid, IsPlaceOf, arrays_of, no_arrays};
+ghost use Rattle.rawk_arrays.specs.Laid.{ArePlaces, GrownArrays, IsLaid, IsPlaceOf, arrays_of, no_arrays};
 ghost use Rattle.rawk_arrays.specs.ArraysBack.{FitsArrays, arrays_back};
 ghost use Rattle.rawk_arrays.specs.Slotted.{IsSlotOf};
+ghost use Rattle.rawk_keys.specs.declared.series.Run.{Run};
 
 use crate::cells::{
     ElementSlots, element, empty, filled, keys, pack, put, set_slot, slot_for, slot_for_number,
 };
 use crate::counts::{count, recount_back};
 use itoa::Buffer;
-use rawk_keys::Keys;
+use rawk_keys::{Keys, Run};
 use rawk_slots::{Reversible, SlotGroup, Slots};
 use rawk_value::order::digits_in;
 use rawk_value::{Bytes, Value};
@@ -297,6 +298,22 @@ impl Arrays {
         None
     }
 
+    /// The places of the elements at the keys from 1 on, as far as these are known to have come one behind another, until the step ends: no search, and a run of none says nothing.
+    #[inline(always)]
+    pub fn places_from_one(&self, array: usize) -> Run
+        ensures { ArePlaces array result self.now.now }
+    {
+        if array >= self.live {
+            return Run { first: 0, count: 0 };
+        }
+        let run = self.index.from_one(array);
+        let slots = self.cells.len().saturating_sub(run.first as usize);
+        Run {
+            first: run.first,
+            count: slots.min(run.count as usize) as u32,
+        }
+    }
+
     /// The same of the element at the key of a number, without a search where the keys from 1 to it came one behind another.
     #[inline(always)]
     pub fn place_numbered(
@@ -342,6 +359,7 @@ impl Arrays {
         value: Value,
     ) -> Result<(), AllocError>
         ensures did { OnOk result ((a : ℕ) (k : Bytes) → IsPlaceOf a k place self.old.now → arrays_of self.new.now ≡ with_element a k value (arrays_of self.old.now)) }
+        ensures places { OnOk result ((a : ℕ) (run : Run) → ArePlaces a run self.old.now → ArePlaces a run self.new.now) }
         ensures err { OnErr result (self.new.now ≡ self.old.now) }
         ensures start { OnTrue SAVES (self.new.start ≡ self.old.start) }
     {
@@ -400,14 +418,8 @@ impl Arrays {
         ensures err { OnErr result (self.new.now ≡ self.old.now) }
         ensures start { OnTrue SAVES (self.new.start ≡ self.old.start) }
     {
-        let was_filled = set_slot::<SAVES>(
-            &self.index,
-            &mut self.cells,
-            &mut self.counts,
-            place,
-            None,
-        )?;
-        count_emptied(&mut self.emptied, was_filled);
+        let was = set_slot::<SAVES>(&self.index, &mut self.cells, &mut self.counts, place, None)?;
+        count_emptied(&mut self.emptied, was);
         Ok(())
     }
 

@@ -7,3 +7,4 @@ mod counts;
 mod heads;
 
 pub use arrays::{Arrays, ArraysChange, ArraysGroup};
+pub use rawk_keys::Run;

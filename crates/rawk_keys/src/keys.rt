@@ -7,11 +7,12 @@ ghost use Rattle.rawk_value.specs.declared.value.Value.TheVariants.{Number};
 ghost use Rattle.rawk_keys.specs.declared.keys.KeyRange.{KeyRange};
 ghost use Rattle.rawk_keys.specs.ArrayKey.{HasEntry, IsAbsent, IsLastOf, ArrayKey, array_key};
 ghost use Rattle.rawk_keys.specs.Hash.{hash_of};
+ghost use Rattle.rawk_keys.specs.Series.{IsRun};
 ghost use Rattle.rawk_keys.specs.KeysLaid.{AreWithin, AreLaid, keys_of};
 
 use crate::chains::{Chains, short};
 use crate::hash::{hash, seeded_basis};
-use crate::series::{Series, entry_of, note_entry};
+use crate::series::{Run, Series, entries_from_one, entry_of, note_entry};
 use std::alloc::{AllocError, Global};
 use std::marker::Model;
 
@@ -148,7 +149,16 @@ impl Keys {
         entry_of(&self.series, array, key)
     }
 
-    /// Notes the entry of a number's key: key 1 begins the array's series anew, and the key behind the last one of the series, at the entry behind the last one, lengthens it.
+    /// The entries of an array's keys from 1 on, as far as they are known to stand one behind another: no search, and a run of none says nothing of the keys.
+    #[inline(always)]
+    pub fn from_one(&self, array: usize) -> Run
+        ensures { IsRun array result self.now }
+    {
+        entries_from_one(&self.series, array)
+    }
+
+    /// Notes the entry of a number's key: the key behind the last one of the array's series, at the entry behind the last one, lengthens it, and else key 1 begins it anew, and so does any
+    /// number of 32 bits where the series has one key at most.
     /// Nothing is seen of it; where memory is refused, nothing is noted.
     pub fn note(&mut self, array: usize, key: i64, entry: usize)
         requires { slice_get self.old entry ≡ Some (array_key array (text_of (Number key))) }

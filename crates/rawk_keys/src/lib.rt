@@ -8,3 +8,4 @@ mod series;
 
 pub use chains::Chains;
 pub use keys::Keys;
+pub use series::Run;

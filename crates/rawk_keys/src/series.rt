@@ -4,7 +4,7 @@ ghost use Rattle.std.specs.Prelude.{◌≡◌, List, IfSome, Some, pos, slice_ge
 ghost use Rattle.rawk_value.specs.Values.{text_of};
 ghost use Rattle.rawk_value.specs.declared.value.Value.TheVariants.{Number};
 ghost use Rattle.rawk_keys.specs.ArrayKey.{ArrayKey, array_key};
-ghost use Rattle.rawk_keys.specs.Series.{AreSeries};
+ghost use Rattle.rawk_keys.specs.Series.{AreSeries, IsRun};
 
 use crate::chains::short;
 
@@ -14,6 +14,13 @@ pub struct Series {
     pub first: u32,
     pub count: u32,
     pub from: u32,
+}
+
+/// Entries of an array's keys that are the numbers from 1 on: as many as `count`, one behind another from `first` on; both are below 2^32.
+#[derive(Clone, Copy)]
+pub struct Run {
+    pub first: u32,
+    pub count: u32,
 }
 
 /// The entry of a number's key, where it stands in its array's series.
@@ -33,6 +40,23 @@ pub(crate) fn entry_of(series: &[Series], array: usize, key: i64) -> Option<usiz
         return Some(own.first as usize + place);
     }
     None
+}
+
+/// The entries of the keys from 1 on of an array, where its series begins with them.
+#[inline(always)]
+pub(crate) fn entries_from_one(series: &[Series], array: usize) -> Run
+    ensures { (keys : List ArrayKey) → AreSeries series.now keys → IsRun array result keys }
+{
+    if array < series.len() {
+        let own = series[array];
+        if own.from == 1 {
+            return Run {
+                first: own.first,
+                count: own.count,
+            };
+        }
+    }
+    Run { first: 0, count: 0 }
 }
 
 /// Notes the entry of a number's key.
