@@ -7,7 +7,7 @@ ghost use Rattle.rawk_search.specs.Replacements.{cuts, next_cut, replaced, repla
 ghost use Rattle.rawk_replacements.specs.Replaced.{IsPlain, held, made_with, replaced_by};
 
 use rawk_ere::Finder;
-use rawk_search::{Pattern, Span, next_cut_on};
+use rawk_search::{Pattern, Span, next_cut};
 use rawk_words::Extent;
 use std::alloc::{AllocError, Global};
 
@@ -155,11 +155,11 @@ fn push_cuts(
         count += 1;
         if found.start < found.end {
             at = found.end;
-            next = next_cut_on(alloc, finder, at, Some(at))?;
+            next = next_cut(alloc, finder, at, Some(at))?;
         } else {
             at = found.start + 1;
             next = if at <= text.len() {
-                next_cut_on(alloc, finder, at, None)?
+                next_cut(alloc, finder, at, None)?
             } else {
                 None
             };
@@ -193,7 +193,7 @@ pub fn replace(
     ensures { IfOk result (λ count. Some (made_with out.new.items count) ≡ replaced_by extent pattern.now by.now text.now) }
 {
     let mut finder = Finder::new(pattern.ere(), text);
-    let Some(first) = next_cut_on(alloc, &mut finder, 0, None)? else {
+    let Some(first) = next_cut(alloc, &mut finder, 0, None)? else {
         return Ok(None);
     };
     out.clear();

@@ -12,6 +12,6 @@ pub mod span;
 pub use cached::CachedExpression;
 pub use pattern::Pattern;
 pub use reading::expression;
-pub use replace::{next_cut, next_cut_on};
+pub use replace::next_cut;
 pub use search::{next_match, next_match_on, next_nonempty, next_nonempty_on, next_open, skip_to};
 pub use span::Span;

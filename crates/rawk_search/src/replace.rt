@@ -8,29 +8,13 @@ ghost use Rattle.rawk_search.specs.Replacements as replacements;
 
 use crate::Span;
 use crate::search::next_match_on;
-use rawk_ere::{Ere, Finder};
+use rawk_ere::Finder;
 use std::alloc::{AllocError, Global};
 
-/// The leftmost match from `from` on, and the longest there, but no empty one at `after`, where a match ended that is not empty.
+/// The leftmost match from `from` on, and the longest there, but no empty one at `after`, where a match ended that is not empty; the expression and the text of the finder stay.
 /// An error: memory was refused.
-pub fn next_cut(
-    alloc: Global,
-    ere: &Ere,
-    text: &[u8],
-    from: usize,
-    after: Option<usize>,
-) -> Result<Option<Span>, AllocError>
-    requires { from ≤ length text.now }
-    ensures is { IfOk result (λ o. o ≡ replacements.next_cut text.now ere.now from after) }
-    ensures within { IfOk result (λ o. IfSome o (IsWithin from text.now)) }
-{
-    let mut finder = Finder::new(ere, text);
-    next_cut_on(alloc, &mut finder, from, after)
-}
-
-/// The same where one match after another is sought: the expression and the text stay. An error: memory was refused.
 #[inline(always)]
-pub fn next_cut_on(
+pub fn next_cut(
     alloc: Global,
     finder: &mut Finder<'_>,
     from: usize,

@@ -10,7 +10,7 @@
 
 ghost use Rattle.std.specs.Prelude.{◌≤◌, length};
 
-use rawk_ere::{Ere, EreError};
+use rawk_ere::{Ere, EreError, Finder};
 use rawk_search::{
     CachedExpression, Span, next_cut, next_match, next_nonempty, next_open, skip_to,
 };
@@ -181,7 +181,10 @@ fn search(
 {
     match (word, rest) {
         (b"skip", []) => place(alloc, Some(skip_to(alloc, ere, text, from)?)),
-        (b"cut", [after]) => stretch(alloc, next_cut(alloc, ere, text, from, number_of(after))?),
+        (b"cut", [after]) => {
+            let mut finder = Finder::new(ere, text);
+            stretch(alloc, next_cut(alloc, &mut finder, from, number_of(after))?)
+        }
         (_, []) => stretch(alloc, next(alloc, word, ere, text, from)?),
         _ => "not a case".to_string(alloc),
     }

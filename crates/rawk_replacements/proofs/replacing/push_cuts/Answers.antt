@@ -8,8 +8,8 @@ loop-next-init c = record { cutting = begins c.args.text.now c.args.finder.now.e
 pub push_match-requires-clause-within : goal.push_match-requires-clause-within
 push_match-requires-clause-within c = within c.args.text.now c.args.finder.now.ere c.args.by.now c.args.out.now.items c.loop-next.next c.loop-next.out.items c.loop-next.copied c.loop-next.at c.loop-next.count c.loop-next.invariant.cutting c.in-Some.found c.in-Some.is
 
-pub next_cut_on-requires : goal.next_cut_on-requires
-next_cut_on-requires c =
+pub next_cut-requires : goal.next_cut-requires
+next_cut-requires c =
     let w = within c.args.text.now c.args.finder.now.ere c.args.by.now c.args.out.now.items c.loop-next.next c.loop-next.out.items c.loop-next.copied c.loop-next.at c.loop-next.count c.loop-next.invariant.cutting c.in-Some.found c.in-Some.is in
     omega (arith, w.2, sought_length c.loop-next.finder c.args.finder.now c.args.text.now c.loop-next.invariant.same c.requires.text)
 
@@ -22,7 +22,7 @@ pub loop-next-preserved-then-found : goal.loop-next-preserved-then-found
 loop-next-preserved-then-found c = record {
   cutting = after_long c.args.text.now c.args.finder.now.ere c.args.by.now c.args.out.now.items c.loop-next.next c.loop-next.out.items c.loop-next.copied c.loop-next.at c.loop-next.count c.loop-next.invariant.cutting c.in-Some.found c.push_match.new.out.items c.in_ok-next.next c.in-Some.is c.if-found.true c.in_ok-push_match.ensures
       (sought_as c.loop-next.finder c.args.finder.now c.args.text.now c.in-Some.found.end (Some c.in-Some.found.end) c.in_ok-next.next c.loop-next.invariant.same c.requires.text c.in_ok-next.ensures.is);
-  same = c.next_cut_on.ensures.same ∙ c.loop-next.invariant.same;
+  same = c.next_cut.ensures.same ∙ c.loop-next.invariant.same;
 }
 
 pub overflow_add-at : goal.overflow_add-at
@@ -39,7 +39,7 @@ pub loop-next-preserved-in_ok-next-2 : goal.loop-next-preserved-in_ok-next-2
 loop-next-preserved-in_ok-next-2 c = record {
   cutting = after_empty c.args.text.now c.args.finder.now.ere c.args.by.now c.args.out.now.items c.loop-next.next c.loop-next.out.items c.loop-next.copied c.loop-next.at c.loop-next.count c.loop-next.invariant.cutting c.in-Some.found c.push_match.new.out.items c.in_ok-next-2.next c.in-Some.is c.if-found.false c.in_ok-push_match.ensures
       (sought_as c.loop-next.finder c.args.finder.now c.args.text.now (c.in-Some.found.start + 1) None c.in_ok-next-2.next c.loop-next.invariant.same c.requires.text c.in_ok-next-2.ensures.is);
-  same = c.next_cut_on-then-at-text.ensures.same ∙ c.loop-next.invariant.same;
+  same = c.next_cut-then-at-text.ensures.same ∙ c.loop-next.invariant.same;
 }
 
 pub loop-next-smaller : goal.loop-next-smaller

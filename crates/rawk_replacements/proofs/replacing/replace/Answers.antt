@@ -31,9 +31,9 @@ returns-in_ok-count-in-All c =
     let s = c.args.text.now in
     let by = c.args.by.now in
     let f = c.new-finder.result in
-    let g = c.next_cut_on.new.finder in
+    let g = c.next_cut.new.finder in
     let first = sought_of f s e (Some c.in-Some.first) c.new-finder.ensures.text c.new-finder.ensures.ere (sym c.in-Some.is ∙ c.in_ok-first.ensures.is) in
-    let same : g.ere ≡ e = ap (λ (x : Sought). x.ere) c.next_cut_on.ensures.same ∙ c.new-finder.ensures.ere in
+    let same : g.ere ≡ e = ap (λ (x : Sought). x.ere) c.next_cut.ensures.same ∙ c.new-finder.ensures.ere in
     by_pattern c.args.extent c.args.pattern.now by s e _ c.ere.ensures
     (made_all by s c.push_cuts.new.out.items c.in_ok-count-in-All.count e c.in-Some.first first
     (c.in_ok-count-in-All.ensures.items ∙ ap (λ l. l ++ replaced by s 0 (cuts s g.ere)) (c.in_ok-reserve.ensures.items ∙ c.clear.ensures.items) ∙ ap (λ t. replaced by s 0 (cuts s t)) same)

@@ -3,8 +3,8 @@ use Rattle.std.proofs.lemmas.Result.{IfOk-weaker}
 use Rattle.rawk_search.specs.Matches.{first_match}
 use Rattle.rawk_search.specs.Replacements.{next_cut}
 use Rattle.rawk_search.proofs.CutLemmas.{cut_missing, cut_long, cut_apart, cut_further, no_match_past}
-use Rattle.rawk_search.proofs.replace.next_cut_on.Goals as goal
-use Rattle.rawk_search.proofs.replace.next_cut_on.Goals.{then-found-via-then-found, then-found-via-else-found+then-ne}
+use Rattle.rawk_search.proofs.replace.next_cut.Goals as goal
+use Rattle.rawk_search.proofs.replace.next_cut.Goals.{then-found-via-then-found, then-found-via-else-found+then-ne}
 
 pub returns-in_default-clause-is : goal.returns-in_default-clause-is
 returns-in_default-clause-is c = cut_missing c.args.finder.now.text c.args.finder.now.ere c.args.after c.args.from c.in_ok-found.field-0 c.in_ok-found.ensures.is c.in_default.is
