@@ -18,10 +18,16 @@ use rawk_value::Fault;
 use std::alloc::{AllocError, Global};
 
 /// The parts of a text that FS would separate by the text of the separator. An error: memory was refused.
-fn fields_by(alloc: Global, text: &[u8], by: &[u8]) -> Result<Result<Fields, Fault>, AllocError>
+fn fields_by(
+    alloc: Global,
+    expressions: &mut Expressions,
+    text: &[u8],
+    by: &[u8],
+) -> Result<Result<Fields, Fault>, AllocError>
     ensures { IfOk result (λ r. Separates text.now (fields_of text.now by.now false) r) }
 {
-    match rawk_pieces::fields_of(alloc, text, by, false) {
+    let spare = expressions.lend_spare(alloc);
+    match rawk_pieces::fields_of(alloc, spare, text, by, false) {
         Ok(fields) => Ok(Ok(fields)),
         Err(Fault::OutOfMemory) => Err(AllocError),
         Err(fault) => Ok(Err(fault)),
@@ -29,10 +35,16 @@ fn fields_by(alloc: Global, text: &[u8], by: &[u8]) -> Result<Result<Fields, Fau
 }
 
 /// The parts of a text between the matches of the expression that a text was read as. An error: memory was refused.
-fn parts_by(alloc: Global, text: &[u8], by: &Pattern) -> Result<Result<Fields, Fault>, AllocError>
+fn parts_by(
+    alloc: Global,
+    expressions: &mut Expressions,
+    text: &[u8],
+    by: &Pattern,
+) -> Result<Result<Fields, Fault>, AllocError>
     ensures { IfOk result (λ r. Separates text.now (dynamic_parts (ere_of by.now) false text.now) r) }
 {
-    let fields = pieces_between(alloc, text, by.ere())?;
+    let spare = expressions.lend_spare(alloc);
+    let fields = pieces_between(alloc, spare, text, by.ere())?;
     Ok(Ok(fields))
 }
 
@@ -47,7 +59,7 @@ fn parts_by_text(
 {
     match expressions.get(alloc, by)? {
         None => Ok(Err(Fault::BadEre)),
-        Some(pattern) => parts_by(alloc, text, &pattern),
+        Some(pattern) => parts_by(alloc, expressions, text, &pattern),
     }
 }
 
@@ -61,8 +73,8 @@ fn fields_by_text(
     ensures { IfOk result (λ r. Separates text.now (fields_of text.now by.now false) r) }
 {
     match by {
-        [] => fields_by(alloc, text, by),
-        [_] => fields_by(alloc, text, by),
+        [] => fields_by(alloc, expressions, text, by),
+        [_] => fields_by(alloc, expressions, text, by),
         _ => parts_by_text(alloc, expressions, text, by),
     }
 }
@@ -84,7 +96,7 @@ pub fn separate(
             fields_by_text(alloc, expressions, text, text_borrowed(by, &mut digits))
         }
         Separation::Matches => match by {
-            Borrowed::Pattern(pattern) => parts_by(alloc, text, pattern),
+            Borrowed::Pattern(pattern) => parts_by(alloc, expressions, text, pattern),
             _ => parts_by_text(alloc, expressions, text, text_borrowed(by, &mut digits)),
         },
     }

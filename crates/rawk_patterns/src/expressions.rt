@@ -4,14 +4,16 @@ ghost use Rattle.std.specs.Prelude.{◌≡◌, Some, IfOk, IfSome};
 ghost use Rattle.rawk_search.specs.Patterns.{pattern_of};
 
 use lru::LruCache;
+use rawk_pieces::{Fields, Piece};
 use rawk_search::Pattern;
 use std::alloc::{AllocError, Global};
+use std::mem;
 use std::num::NonZeroUsize;
 
 /// How many expressions are kept at most.
 const KEPT: usize = 64;
 
-/// The expressions of the texts that were asked for last, at most 64, by these texts, and a buffer. No answer depends on what is kept.
+/// The expressions of the texts that were asked for last, at most 64, by these texts, and two buffers. No answer depends on what is kept.
 #[derive(Drop)]
 pub struct Expressions {
     // that of the last text
@@ -20,6 +22,8 @@ pub struct Expressions {
     kept: Option<LruCache<Vec<u8>, Pattern>>,
     /// Where texts are made whose matches are replaced: its memory is used again.
     pub made: Vec<u8>,
+    // Where the places of parts are put, between two uses.
+    spare: Vec<Piece>,
 }
 
 /// A copy of a pattern, where this is its text.
@@ -88,7 +92,19 @@ impl Expressions {
             last: None,
             kept: None,
             made: Vec::new(alloc),
+            spare: Vec::new(alloc),
         }
+    }
+
+    /// A buffer for the places of parts, with what stood there last. It takes no memory.
+    pub fn lend_spare(&mut self, alloc: Global) -> Vec<Piece> {
+        mem::replace(&mut self.spare, Vec::new(alloc))
+    }
+
+    /// Takes such a buffer back, for its next use. It takes no memory.
+    pub fn take_back(&mut self, fields: Fields) {
+        let Fields { pieces } = fields;
+        self.spare = pieces;
     }
 
     /// The expression that a text is (POSIX XBD 9.4), or None where it is none within the limits. It is read anew only where it is not kept; what is no expression is not kept,

@@ -254,27 +254,41 @@ pub struct Fields {
     pub pieces: Vec<Piece>,
 }
 
-/// The fields of a text by a separator; `newline` says whether a newline separates too.
+/// The fields of a text by a separator; `newline` says whether a newline separates too. The memory of `spare` is used for them, whatever stands there.
 ///
 /// Several bytes that are no extended regular expression are refused: `BadEre`. Where memory is refused the answer is `OutOfMemory`.
-pub fn fields_of(alloc: Global, text: &[u8], fs: &[u8], newline: bool) -> Result<Fields, Fault>
+pub fn fields_of(
+    alloc: Global,
+    spare: Vec<Piece>,
+    text: &[u8],
+    fs: &[u8],
+    newline: bool,
+) -> Result<Fields, Fault>
     ensures { IsFieldsAnswer text.now (fields_of text.now fs.now newline) result }
 {
     let mut last = CachedExpression::new(alloc);
     let separator = Separator::named(alloc, fs, &mut last)?;
-    let mut pieces = Vec::new(alloc);
+    let mut pieces = spare;
+    pieces.clear();
     match cut(alloc, text, separator, newline, &mut pieces) {
         Ok(()) => Ok(Fields { pieces }),
         Err(AllocError) => Err(Fault::OutOfMemory),
     }
 }
 
-/// The parts of a text between the matches of an expression that are not empty, whatever the expression's length. An empty text has none. It fails where memory is refused.
-pub fn pieces_between(alloc: Global, text: &[u8], ere: &Ere) -> Result<Fields, AllocError>
+/// The parts of a text between the matches of an expression that are not empty, whatever the expression's length. An empty text has none. The memory of `spare` is used for them, whatever
+/// stands there. It fails where memory is refused.
+pub fn pieces_between(
+    alloc: Global,
+    spare: Vec<Piece>,
+    text: &[u8],
+    ere: &Ere,
+) -> Result<Fields, AllocError>
     ensures fields { IfOk result (λ f. texts text.now f.pieces.items ≡ ere_parts ere.now false text.now) }
     ensures in_range { IfOk result (λ f. AllInRange text.now f.pieces.items) }
 {
-    let mut pieces = Vec::new(alloc);
+    let mut pieces = spare;
+    pieces.clear();
     cut_matches(alloc, ere, false, text, &mut pieces)?;
     Ok(Fields { pieces })
 }

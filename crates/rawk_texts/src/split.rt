@@ -86,6 +86,7 @@ pub fn split<const SAVES: bool>(
                 text,
                 &fields.pieces,
             )?;
+            expressions.take_back(fields);
             drop_taken(store, from);
             put::<SAVES>(store, 1, count)?;
             Ok(Outcome::Next)
@@ -123,6 +124,7 @@ pub fn split_of<const SAVES: bool>(
                 bytes,
                 &fields.pieces,
             )?;
+            expressions.take_back(fields);
             put::<SAVES>(store, 0, count)?;
             Ok(Outcome::Next)
         }

@@ -12,7 +12,13 @@ pub fn cut(alloc: Global, parts: &[&[u8]]) -> Result<Vec<u8>, AllocError> {
     let [fs, mode, text] = parts else {
         return not_a_case(alloc);
     };
-    match fields_of(alloc, text, fs, *mode == b"paragraph".as_slice()) {
+    match fields_of(
+        alloc,
+        Vec::new(alloc),
+        text,
+        fs,
+        *mode == b"paragraph".as_slice(),
+    ) {
         Ok(fields) => shown(alloc, text, fields),
         Err(fault) => fault_text(alloc, fault),
     }
@@ -26,7 +32,7 @@ pub fn split(alloc: Global, parts: &[&[u8]]) -> Result<Vec<u8>, AllocError> {
     let Some(ere) = expression(alloc, pattern)? else {
         return Vec::from_slice(alloc, b"refused");
     };
-    let fields = pieces_between(alloc, text, &ere);
+    let fields = pieces_between(alloc, Vec::new(alloc), text, &ere);
     drop(ere);
     shown(alloc, text, fields?)
 }
