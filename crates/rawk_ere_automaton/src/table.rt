@@ -287,21 +287,6 @@ pub fn skip_on(table: &Table, code: &Code, text: &[u8], from: usize, known: &mut
     skip_noting(table, code, text, from, known)
 }
 
-/// From where on the block tells nothing of the places that follow.
-#[inline(always)]
-fn beyond(code: &Code, text: &[u8], from: usize, known: &Block) -> usize
-    requires within { from ≤ length text.now }
-    requires known { Knows code.now text.now known.now }
-    ensures low { from ≤ result }
-    ensures high { result ≤ length text.now }
-    ensures none { BeginsNone code.now text.now from result }
-{
-    if from == 0 {
-        return from;
-    }
-    known.past(from).min(text.len())
-}
-
 /// The same where the block has no place that is next, and each way reads a byte.
 #[inline(never)]
 fn skip_noting(table: &Table, code: &Code, text: &[u8], from: usize, known: &mut Block) -> usize
@@ -317,6 +302,21 @@ fn skip_noting(table: &Table, code: &Code, text: &[u8], from: usize, known: &mut
 {
     let at = beyond(code, text, from, known);
     seek_noting(&table.begins, text, at, known)
+}
+
+/// From where on the block tells nothing of the places that follow.
+#[inline(always)]
+fn beyond(code: &Code, text: &[u8], from: usize, known: &Block) -> usize
+    requires within { from ≤ length text.now }
+    requires known { Knows code.now text.now known.now }
+    ensures low { from ≤ result }
+    ensures high { result ≤ length text.now }
+    ensures none { BeginsNone code.now text.now from result }
+{
+    if from == 0 {
+        return from;
+    }
+    known.past(from).min(text.len())
 }
 
 /// The first place from `from` on where a way may begin that reads a byte; the end of the text, if none is left.
