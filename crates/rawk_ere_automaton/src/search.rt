@@ -8,9 +8,7 @@ ghost use Rattle.std.specs.Option.{ForSome};
 ghost use Rattle.rawk_ere_automaton.specs.Search.{BeginsIn, BeginsNone, EndsFrom, IsFirstBegin, IsProgress, Widens, IsBetween, AreBetween, IsFound, IsFirstOpen, IsOpenStart, MayStart, MayIn, NoneMay, IsOpening, IsOpened, Knows};
 
 use crate::progress::{Opening, Progress};
-use crate::table::{
-    Table, first_end_by, first_stop, run, run_here, run_open, skip, skip_on, skip_open,
-};
+use crate::table::{Table, first_end_by, first_stop, run, run_here, run_open, skip_on, skip_open};
 use crate::walk::{Walked, first_end, may_begin_by, no_states, walk};
 use rawk_ere_begins::block::Block;
 use rawk_ere_tree::code::Code;
@@ -104,23 +102,9 @@ fn is_later(table: &Table, from: usize) -> bool
     from > 0 || table.start == table.later
 }
 
-/// The first place from `from` on where a way may begin.
-fn first_place(table: &Table, code: &Code, text: &[u8], from: usize) -> usize
-    requires within { from ≤ length text.now }
-    requires table { IsTable code.now table.now }
-    ensures low { from ≤ result }
-    ensures high { result ≤ length text.now }
-    ensures none { BeginsNone code.now text.now from result }
-{
-    if !is_later(table, from) {
-        return from;
-    }
-    skip(table, code, text, from)
-}
-
-/// The same, by what a block tells, where it does; else the block that is found is left in it.
+/// The first place from `from` on where a way may begin, by what a block tells, where it does; else the block that is found is left in it.
 #[inline(always)]
-fn first_place_on(table: &Table, code: &Code, text: &[u8], from: usize, known: &mut Block) -> usize
+fn first_place(table: &Table, code: &Code, text: &[u8], from: usize, known: &mut Block) -> usize
     requires within { from ≤ length text.now }
     requires table { IsTable code.now table.now }
     requires known { Knows code.now text.now known.old }
@@ -152,7 +136,7 @@ fn restart(
     ensures progress { IsProgress code.now text.now from result }
     ensures known { Knows code.now text.now known.new }
 {
-    let mut begin = first_place_on(table, code, text, from, known);
+    let mut begin = first_place(table, code, text, from, known);
     let mut left = most;
     while begin < text.len() {
         let ran = run_here(table, code, text, begin);
@@ -317,14 +301,15 @@ pub fn is_found_by(
     requires widens { Widens code.now text.now }
     ensures { IfOk result (λ b. IsTrue b ↔ BeginsIn code.now text.now 0 (length text.now)) }
 {
-    let mut begin = first_place(table, code, text, 0);
+    let mut known = Block::none();
+    let mut begin = first_place(table, code, text, 0, &mut known);
     let mut left = FEW;
     while begin < text.len() {
         let found = first_stop(table, code, text, begin);
         if found.is_end {
             return Ok(true);
         }
-        let next = skip(table, code, text, begin + 1);
+        let next = skip_on(table, code, text, begin + 1, &mut known);
         let spent = found.stop - begin;
         if spent >= left {
             let passed = pass(alloc, wide, code, text, next)?;

@@ -242,7 +242,7 @@ fn pass_dead(table: &Table, text: &[u8], from: usize, upto: usize) -> usize
 }
 
 /// The first place from `from` on where a way may begin that reads a byte, or that reads none; the end of the text, if none is left.
-pub fn skip(table: &Table, code: &Code, text: &[u8], from: usize) -> usize
+fn skip(table: &Table, code: &Code, text: &[u8], from: usize) -> usize
     requires begun { (0 < from) ⊎ (table.now.start ≡ table.now.later) }
     requires within { from ≤ length text.now }
     requires table { IsTable code.now table.now }

@@ -14,7 +14,7 @@ returns-then-spent-left c =
     let text = c.args.text.now in
     let begin = c.loop-begin.begin in
     let more = none_more_way code text 0 begin (λ j w. true≢false (sym (c.first_stop-found.ensures.way.1 (j, w)) ∙ c.if-found.false)) c.loop-begin.invariant.none in
-    found_passed code text c.skip-next.result c.in_ok-passed.passed c.is_some.result c.is_some.ensures (none_join code text 0 (begin + 1) c.skip-next.result more c.skip-next.ensures.none) c.in_ok-passed.ensures
+    found_passed code text c.skip_on-next.result c.in_ok-passed.passed c.is_some.result c.is_some.ensures (none_join code text 0 (begin + 1) c.skip_on-next.result more c.skip_on-next.ensures.none) c.in_ok-passed.ensures
 
 pub loop-begin-preserved : goal.loop-begin-preserved
 loop-begin-preserved c =
@@ -22,7 +22,7 @@ loop-begin-preserved c =
     let text = c.args.text.now in
     let begin = c.loop-begin.begin in
     let more = none_more_way code text 0 begin (λ j w. true≢false (sym (c.first_stop-found.ensures.way.1 (j, w)) ∙ c.if-found.false)) c.loop-begin.invariant.none in
-    record { high = c.skip-next.ensures.high; none = none_join code text 0 (begin + 1) c.skip-next.result more c.skip-next.ensures.none }
+    record { high = c.skip_on-next.ensures.high; none = none_join code text 0 (begin + 1) c.skip_on-next.result more c.skip_on-next.ensures.none; known = c.skip_on-next.ensures.known }
 
 pub returns : goal.returns
 returns c =
