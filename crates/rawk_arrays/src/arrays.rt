@@ -548,8 +548,8 @@ impl Arrays {
         self.emptied > FEW && self.emptied / 2 > self.cells.len() / 8 * 3 + FEW
     }
 
-    /// Removes the slots that are empty, and those of array numbers that are not in use, where some three of four slots were emptied. What leads back to earlier
-    /// steps fits no more then. Where memory for that is refused, the slots stay. About one slot is so moved for three that were emptied.
+    /// Removes the slots that are empty, and those of array numbers that are not in use, where three of four slots and some 1,000 more were emptied. What leads back to earlier
+    /// steps fits no more then. Where memory for that is refused, the slots stay. At most one slot is so moved for three that were emptied.
     pub fn pack(&mut self, alloc: Global)
         requires { self.old.start ≡ self.old.now }
         ensures now { arrays_of self.new.now ≡ arrays_of self.old.now }
