@@ -8,3 +8,4 @@ pub mod OpenLemmas
 pub mod EreLemmas
 pub mod SizeLemmas
 pub mod WideLemmas
+pub mod LastLemmas

@@ -17,6 +17,8 @@ use rawk_ere_automaton::search::{
 };
 use rawk_ere_automaton::table::{Table, run};
 use rawk_ere_begins::block::Block;
+use rawk_ere_last::find::find_last;
+use rawk_ere_last::shape::last_width;
 use rawk_ere_tree::code::Code;
 use rawk_ere_tree::emit::emit;
 use rawk_ere_tree::node::Node;
@@ -32,6 +34,7 @@ pub struct Ere {
     table: Option<Table>,
     wide: Option<Table>,
     on_empty: bool,
+    last: Option<usize>,
 }
 
 /// The tree of the expression.
@@ -50,12 +53,14 @@ impl Model for Ere {
 
     ghost use Rattle.rawk_ere_automaton.specs.Table.{IsTable};
     ghost use Rattle.rawk_ere_automaton.specs.Search.{BeginsIn};
+    ghost use Rattle.rawk_ere_last.specs.Shapes.{last_in};
     ghost use Rattle.std.specs.Option.{ForSome};
 
     ghost invariant = { λ e. (e.code ≡ code_of e.tree.tree)
         × ForSome e.table (IsTable e.code)
         × ForSome e.wide (IsTable (wide_code e.code))
-        × (IsTrue e.on_empty ↔ BeginsIn e.code [] 0 0) };
+        × (IsTrue e.on_empty ↔ BeginsIn e.code [] 0 0)
+        × (e.last ≡ last_in e.tree.tree) };
 }
 
 impl Ere {
@@ -87,6 +92,7 @@ impl Ere {
             table,
             wide,
             on_empty,
+            last: last_width(&node),
         })
     }
 
@@ -170,7 +176,10 @@ impl Ere {
         }
         match &self.table {
             None => first(alloc, &self.code, text, from),
-            Some(table) => first_by(alloc, table, &self.wide, &self.code, text, from, known),
+            Some(table) => match self.last {
+                Some(width) => Ok(find_last(table, &self.code, text, from, width)),
+                None => first_by(alloc, table, &self.wide, &self.code, text, from, known),
+            },
         }
     }
 
@@ -183,7 +192,10 @@ impl Ere {
         }
         match &self.table {
             None => is_found_by_walk(alloc, &self.code, text),
-            Some(table) => is_found_by(alloc, table, &self.wide, &self.code, text),
+            Some(table) => match self.last {
+                Some(width) => Ok(find_last(table, &self.code, text, 0, width).is_some()),
+                None => is_found_by(alloc, table, &self.wide, &self.code, text),
+            },
         }
     }
 
