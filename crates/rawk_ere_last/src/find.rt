@@ -9,7 +9,7 @@ use rawk_ere_automaton::table::{Table, first_stop};
 use rawk_ere_tree::code::Code;
 
 /// The first way from a place on, where each way has so many bytes and ends at the end of the text: it looks at one place.
-#[inline(never)]
+#[inline(always)]
 pub fn find_last(
     table: &Table,
     code: &Code,
