@@ -13,11 +13,11 @@ use crate::error::EreError;
 use crate::read::read;
 use crate::tables::{small_table, small_wide};
 use rawk_ere_automaton::search::{
-    first, first_by, first_open, is_found_by, is_found_by_walk, longest, open_start,
+    first_by, first_open, is_found_by, is_found_by_walk, longest, open_start,
 };
 use rawk_ere_automaton::table::{Table, run};
 use rawk_ere_begins::block::Block;
-use rawk_ere_last::find::find_last;
+use rawk_ere_last::find::{first_apart, is_found_apart};
 use rawk_ere_last::shape::last_width;
 use rawk_ere_tree::code::Code;
 use rawk_ere_tree::emit::emit;
@@ -35,6 +35,7 @@ pub struct Ere {
     wide: Option<Table>,
     on_empty: bool,
     last: Option<usize>,
+    by_table: bool,
 }
 
 /// The tree of the expression.
@@ -46,7 +47,7 @@ impl Model for Ere {
 
     ghost coded = { tree_code };
 
-    ghost use Rattle.std.specs.Prelude.{◌≡◌, ◌↔◌, IsTrue, []};
+    ghost use Rattle.std.specs.Prelude.{◌≡◌, ◌↔◌, IsTrue, None, false, []};
     ghost use Rattle.rawk_ere_tree.specs.Code.{code_of, wide_code};
 
     ghost view = { λ e. e.tree.tree };
@@ -60,7 +61,8 @@ impl Model for Ere {
         × ForSome e.table (IsTable e.code)
         × ForSome e.wide (IsTable (wide_code e.code))
         × (IsTrue e.on_empty ↔ BeginsIn e.code [] 0 0)
-        × (e.last ≡ last_in e.tree.tree) };
+        × (e.last ≡ last_in e.tree.tree)
+        × (e.table ≡ None → e.by_table ≡ false) };
 }
 
 impl Ere {
@@ -86,13 +88,16 @@ impl Ere {
         let table = small_table(alloc, &code)?;
         let wide = small_wide(alloc, &code, &table)?;
         let on_empty = is_found_by_walk(alloc, &code, b"")?;
+        let last = last_width(&node);
+        let by_table = table.is_some() && last.is_none();
         Ok(Ere {
             tree: ProofTree::of(&node),
             code,
             table,
             wide,
             on_empty,
-            last: last_width(&node),
+            last,
+            by_table,
         })
     }
 
@@ -174,12 +179,12 @@ impl Ere {
         if text.len() == 0 {
             return Ok(self.on_empty.then_some((0, 0)));
         }
+        if !self.by_table {
+            return first_apart(alloc, &self.table, self.last, &self.code, text, from);
+        }
         match &self.table {
-            None => first(alloc, &self.code, text, from),
-            Some(table) => match self.last {
-                Some(width) => Ok(find_last(table, &self.code, text, from, width)),
-                None => first_by(alloc, table, &self.wide, &self.code, text, from, known),
-            },
+            None => unreachable!(),
+            Some(table) => first_by(alloc, table, &self.wide, &self.code, text, from, known),
         }
     }
 
@@ -190,12 +195,12 @@ impl Ere {
         if text.len() == 0 {
             return Ok(self.on_empty);
         }
+        if !self.by_table {
+            return is_found_apart(alloc, &self.table, self.last, &self.code, text);
+        }
         match &self.table {
-            None => is_found_by_walk(alloc, &self.code, text),
-            Some(table) => match self.last {
-                Some(width) => Ok(find_last(table, &self.code, text, 0, width).is_some()),
-                None => is_found_by(alloc, table, &self.wide, &self.code, text),
-            },
+            None => unreachable!(),
+            Some(table) => is_found_by(alloc, table, &self.wide, &self.code, text),
         }
     }
 

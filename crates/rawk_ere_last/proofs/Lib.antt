@@ -1,1 +1,2 @@
 pub mod ShapeOf
+pub mod FindLemmas

@@ -19,33 +19,27 @@ returns-then-text-eq0-clause-is c =
     subst (IsMatch c.args.text.now c.args.self.now c.args.from) (sym c.then_some.ensures)
     (match_on_empty c.self.inside.code c.args.text.now c.args.self.now c.args.from c.self.inside.on_empty is c.if-text-eq0.true c.requires.from c.self.invariant.3)
 
-pub returns-in-None-clause-is : goal.returns-in-None-clause-is
-returns-in-None-clause-is c =
+pub first_apart-requires-clause-last : goal.first_apart-requires-clause-last
+first_apart-requires-clause-last c =
     let is = c.self.invariant.0 ∙ ap code_of c.self.view_is in
-    if_ok_where (IsFound c.self.inside.code c.args.text.now c.args.from) (IsMatch c.args.text.now c.args.self.now c.args.from) c.first.result
-    (λ r f. match_from_first c.self.inside.code c.args.text.now c.args.self.now c.args.from r is f.0) c.first.ensures
+    are_last c.self.inside.code c.args.text.now c.args.self.now c.self.inside.last is (c.self.invariant.4 ∙ ap last_in c.self.view_is)
 
-pub returns-in-None-clause-within : goal.returns-in-None-clause-within
-returns-in-None-clause-within c =
-    if_ok_where (IsFound c.self.inside.code c.args.text.now c.args.from) (AreBetween c.args.from (length c.args.text.now)) c.first.result (λ r f. f.1) c.first.ensures
+pub returns-then-not-self-clause-is : goal.returns-then-not-self-clause-is
+returns-then-not-self-clause-is c =
+    let is = c.self.invariant.0 ∙ ap code_of c.self.view_is in
+    if_ok_where (IsFound c.self.inside.code c.args.text.now c.args.from) (IsMatch c.args.text.now c.args.self.now c.args.from) c.first_apart.result
+    (λ r f. match_from_first c.self.inside.code c.args.text.now c.args.self.now c.args.from r is f.0) c.first_apart.ensures
 
-pub returns-in-None-last-clause-is : goal.returns-in-None-last-clause-is
-returns-in-None-last-clause-is c =
+pub returns-then-not-self-clause-within : goal.returns-then-not-self-clause-within
+returns-then-not-self-clause-within c =
+    if_ok_where (IsFound c.self.inside.code c.args.text.now c.args.from) (AreBetween c.args.from (length c.args.text.now)) c.first_apart.result (λ r f. f.1) c.first_apart.ensures
+
+pub returns-clause-is : goal.returns-clause-is
+returns-clause-is c =
     let is = c.self.invariant.0 ∙ ap code_of c.self.view_is in
     if_ok_where (IsFound c.self.inside.code c.args.text.now c.args.from) (IsMatch c.args.text.now c.args.self.now c.args.from) c.first_by.result
     (λ r f. match_from_first c.self.inside.code c.args.text.now c.args.self.now c.args.from r is f.0) c.first_by.ensures.found
 
-pub returns-in-None-last-clause-within : goal.returns-in-None-last-clause-within
-returns-in-None-last-clause-within c =
+pub returns-clause-within : goal.returns-clause-within
+returns-clause-within c =
     if_ok_where (IsFound c.self.inside.code c.args.text.now c.args.from) (AreBetween c.args.from (length c.args.text.now)) c.first_by.result (λ r f. f.1) c.first_by.ensures.found
-
-pub find_last-requires-clause-last : goal.find_last-requires-clause-last
-find_last-requires-clause-last c =
-    let is = c.self.invariant.0 ∙ ap code_of c.self.view_is in
-    let last = sym c.in-Some-last.is ∙ c.self.invariant.4 ∙ ap last_in c.self.view_is in
-    are_last c.self.inside.code c.args.text.now c.args.self.now c.in-Some-last.width is (sym last)
-
-pub returns-in-Some-last-clause-is : goal.returns-in-Some-last-clause-is
-returns-in-Some-last-clause-is c =
-    let is = c.self.invariant.0 ∙ ap code_of c.self.view_is in
-    match_from_first c.self.inside.code c.args.text.now c.args.self.now c.args.from c.find_last.result is c.find_last.ensures.0
