@@ -176,12 +176,12 @@ impl<T: Drop> Stack<T> {
         self.slots.lend(number)
     }
 
-    /// Whether there is a slot behind the live values; that it is told of where it is there, no clause says.
+    /// Whether there is a slot behind the live values, and no old value is saved, so that lending it calls nothing; that it is told of where that is so, no clause says.
     #[inline(always)]
     pub fn has_next(&self) -> bool
         ensures { OnTrue result (self.now.now.live < length self.now.now.slots) }
     {
-        self.live < self.slots.len()
+        self.live < self.slots.len() && self.slots.is_at_rest()
     }
 
     /// Lends the slot behind the live values, which is then the newest of them, and forgets what the step changed in values before: its beginning then has what is written there,
