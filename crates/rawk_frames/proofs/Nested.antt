@@ -152,6 +152,15 @@ oldest_first s = reverse-reverse (live_slots s)
 pub slots_pushed : {T : Type 0} (s t : Stacked T) (v : T) → live_values t ≡ v ∷ live_values s → live_slots t ≡ live_slots s ++ v ∷ []
 slots_pushed {T} s t v e = sym (oldest_first t) ∙ (ap (λ (xs : List T). reverse xs) e ∙ (reverse-append (v ∷ []) (live_values s) ∙ ap (λ (xs : List T). xs ++ v ∷ []) (oldest_first s)))
 
+-- one more local, where it was added, and none where it was not
+pub more_added : (done : Bool) (as1 : List Activation) (s t : Stacked Local) (v : Local) → IsNested as1 (length (live_slots s)) → OnTrue done (live_values t ≡ v ∷ live_values s) → OnTrue done (frames_from as1 (live_slots t) ≡ with_more v (frames_from as1 (live_slots s)))
+more_added true as1 s t v h e = ap (λ (ls : List Local). frames_from as1 ls) (slots_pushed s t v e) ∙ more_locals as1 (live_slots s) v h
+more_added false as1 s t v h e = tt
+
+pub none_added : (done : Bool) (as1 : List Activation) (s t : Stacked Local) → OnFalse done (live_values t ≡ live_values s) → OnFalse done (frames_from as1 (live_slots t) ≡ frames_from as1 (live_slots s))
+none_added true as1 s t e = tt
+none_added false as1 s t e = ap (λ (ls : List Local). frames_from as1 ls) (sym (oldest_first t) ∙ (ap (λ (xs : List Local). reverse xs) e ∙ oldest_first s))
+
 pub length_values : {T : Type 0} (s : Stacked T) → length (live_values s) ≡ length (live_slots s)
 length_values s = length-reverse (live_slots s)
 

@@ -11,6 +11,7 @@ ghost use Rattle.rawk_frames.specs.LaidFrames.{AreFramesLive, AreNested, GrownFr
 ghost use Rattle.rawk_frames.specs.FramesBack.{FitsFrames, frames_back};
 ghost use Rattle.rawk_frames.specs.FramesChanges.{changed_frames};
 
+use crate::next_local::{add_light_to, add_moved_to};
 use rawk_slots::{Reversible, Stack, StackGroup, StackGroups};
 use rawk_value::Value;
 use std::alloc::{AllocError, Global};
@@ -240,6 +241,37 @@ impl Frames {
     {
         self.locals.push::<SAVES>(local)?;
         Ok(())
+    }
+
+    /// Whether there is a slot for one more activation; that it is told of where it is there, no clause says.
+    #[inline(always)]
+    pub fn has_next(&self) -> bool
+        ensures { OnTrue result (self.now.now.frames.live < length self.now.now.frames.slots) }
+    {
+        self.frames.has_next()
+    }
+
+    /// Adds a local to the newest activation, with a copy of this value, where that takes no memory and drops none: where it is a number or no value, and so is what stands in the slot behind the locals.
+    /// It answers whether that was done; else no activation changes. It saves nothing: nothing is said of the step's beginning then.
+    #[inline(always)]
+    pub fn add_light(&mut self, value: &Value) -> bool
+        ensures done { OnTrue result (frames_of self.new.now ≡ with_more (Local.Holds value.now) (frames_of self.old.now)) }
+        ensures other { OnFalse result (frames_of self.new.now ≡ frames_of self.old.now) }
+        ensures returns { returns_of self.new.now ≡ returns_of self.old.now }
+    {
+        add_light_to(&mut self.locals, value)
+    }
+
+    /// Adds a local to the newest activation, with this value, where the slot behind the locals holds a value, which is left in its place. It answers whether that was done; else no activation changes,
+    /// and neither does the value. It takes no memory and drops none. It saves nothing: nothing is said of the step's beginning then.
+    #[inline(always)]
+    pub fn add_moved(&mut self, value: &mut Value) -> bool
+        ensures done { OnTrue result (frames_of self.new.now ≡ with_more (Local.Holds value.old) (frames_of self.old.now)) }
+        ensures other { OnFalse result (frames_of self.new.now ≡ frames_of self.old.now) }
+        ensures same { OnFalse result (value.new ≡ value.old) }
+        ensures returns { returns_of self.new.now ≡ returns_of self.old.now }
+    {
+        add_moved_to(&mut self.locals, value)
     }
 
     /// Drops the newest activation with its locals, and gives what is kept of it beside them.

@@ -4,6 +4,7 @@
 pub mod frames;
 pub mod kept_stacks;
 pub mod keys_left;
+mod next_local;
 
 pub use frames::{Activation, Frames, FramesChange, FramesGroup, Local};
 pub use kept_stacks::{HasStacks, KeptStacks};
