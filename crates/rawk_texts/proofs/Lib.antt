@@ -1,5 +1,6 @@
 pub mod Additions
 pub mod Lines
+pub mod Pushed
 pub mod Prints
 pub mod Replaces
 pub mod Splits

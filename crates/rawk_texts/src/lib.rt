@@ -2,6 +2,8 @@
 #![tactic(auto, using(rawk_store::specs::Growth::grows))]
 
 pub mod append;
+pub mod made;
 pub mod print;
 pub mod replace;
 pub mod split;
+pub mod taken;
