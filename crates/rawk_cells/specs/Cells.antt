@@ -43,6 +43,12 @@ pub record GrewAlone (g : Grown) (slots : Journaled (List Value)) : Type 0 where
   pub rest : slots.start ≡ slots.now
   pub count : g.count ≤ own_length (slice_index_or slots.now g.place Uninitialized)
 
+-- the step has changed nothing now, and each text that can grow in place is as long as one was there
+pub record OnSameTexts (old : List Value) (slots : Journaled (List Value)) : Type 0 where
+  pub size : length slots.now ≡ length old
+  pub rest : slots.start ≡ slots.now
+  pub lengths : (place : ℕ) → own_length (slice_index_or slots.now place Uninitialized) ≡ own_length (slice_index_or old place Uninitialized)
+
 abbrev pub HasGrown : Option Grown → Journaled (List Value) → Type 0
 HasGrown None slots = Unit {0}
 HasGrown (Some g) slots = GrewAlone g slots

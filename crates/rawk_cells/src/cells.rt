@@ -6,7 +6,7 @@ ghost use Rattle.std.specs.Option.{option_copied};
 ghost use Rattle.rawk_slots.specs.Back.{back, AreBelow, AreDistinctFrom};
 ghost use Rattle.rawk_slots.specs.Journaled.{at_rest};
 ghost use Rattle.rawk_value.specs.Values.{text_of};
-ghost use Rattle.rawk_cells.specs.Cells.{added_at, before_growth, cut_at, longer_at, shortened, Grew, HasGrown, HasEnded, IsAppended, IsOf};
+ghost use Rattle.rawk_cells.specs.Cells.{OnSameTexts, added_at, before_growth, cut_at, longer_at, shortened, Grew, HasGrown, HasEnded, IsAppended, IsOf};
 
 use itoa::Buffer;
 use rawk_slots::slots::Write;
@@ -222,6 +222,7 @@ fn renumber(slots: &mut Slots<Value>, place: usize, n: i64) -> bool
     requires { place < length slots.old.now }
     ensures done { OnTrue result (slots.new.now ≡ slice_set slots.old.now place (Value.Number n)) }
     ensures other { OnFalse result (slots.new.now ≡ slots.old.now) }
+    ensures texts { OnSameTexts slots.old.now slots.new }
 {
     match slots.lend(place) {
         Value::Number(held) => {
@@ -301,19 +302,16 @@ impl Cells {
         self.set_number_apart::<SAVES>(place, n)
     }
 
-    /// Writes a number over the number that a global holds, and answers whether that was done; else no global changes.
+    /// Writes a number over the number that a global holds, and answers whether that was done; else no global changes. What the step changed before is forgotten. It takes no memory.
     #[inline(always)]
-    fn renumber(&mut self, place: usize, n: i64) -> bool
+    pub fn renumber(&mut self, place: usize, n: i64) -> bool
         ensures done { OnTrue result (self.new.now ≡ slice_set self.old.now place (Value.Number n)) }
         ensures other { OnFalse result (self.new.now ≡ self.old.now) }
     {
         if place >= self.slots.len() {
             return false;
         }
-        match self.grown {
-            None => renumber(&mut self.slots, place, n),
-            Some(_) => false,
-        }
+        renumber(&mut self.slots, place, n)
     }
 
     /// Gives a global a number, whatever it holds, by a call of its own.

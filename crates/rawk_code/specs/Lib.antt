@@ -10,6 +10,7 @@ pub mod Listing
 pub mod Valid
 pub mod Machine
 pub mod Quick
+pub mod QuickLaws
 pub mod Correct
 pub mod Steps
 pub mod Settings

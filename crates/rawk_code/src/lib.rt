@@ -14,6 +14,6 @@ pub use code::{
 };
 pub use fitting::fits;
 pub use formula::{Formula, Measure, Shape};
-pub use quick::{Held, Quick, Side};
+pub use quick::{Held, Quick, Side, Told};
 pub use sets::SetAt;
 pub use settings::{FirstValue, Settings};

@@ -156,9 +156,10 @@ impl Frames {
         self.set_local_number_apart::<SAVES>(number, n)
     }
 
-    /// Writes a number over the number that a local of the newest activation holds, and answers whether that was done; else no local changes.
+    /// Writes a number over the number that a local of the newest activation holds, and answers whether that was done; else no local changes. What the step changed before is forgotten. It
+    /// takes no memory.
     #[inline(always)]
-    fn renumber_local(&mut self, number: usize, n: i64) -> bool
+    pub fn renumber_local(&mut self, number: usize, n: i64) -> bool
         ensures done { OnTrue result (frames_of self.new.now ≡ with_local number (Local.Holds (Value.Number n)) (frames_of self.old.now)) }
         ensures other { OnFalse result (frames_of self.new.now ≡ frames_of self.old.now) }
         ensures returns { returns_of self.new.now ≡ returns_of self.old.now }

@@ -1,17 +1,20 @@
 //! One step, up to a point that is entered or up to the end.
 
-ghost use Rattle.std.specs.Prelude.{◌≡◌, ◌<◌, ◌≤◌, ◌+◌, ◌^◌, List, None, Some, length, IfOk, OnOk, OnErr};
+ghost use Rattle.std.specs.Prelude.{◌≡◌, ◌<◌, ◌≤◌, ◌+◌, ◌^◌, List, None, Some, length, slice_get, IfOk, OnOk, OnErr};
+ghost use Rattle.std.specs.Option.{option_copied};
 ghost use Rattle.rawk_tape.specs.Records.{Input};
 ghost use Rattle.rawk_tape.specs.Tapes.{MayBe};
 ghost use Rattle.rawk_tape.specs.declared.source.Ending.{Ending as End};
 ghost use Rattle.rawk_store.specs.Layout.{Grown, IsSound};
 ghost use Rattle.rawk_store.specs.Stores.{BeganNested, now_of, start_of};
+ghost use Rattle.rawk_code.specs.Quick.{IsTold};
+ghost use Rattle.rawk_code.specs.Valid.{Descends};
 ghost use Rattle.rawk_travel.specs.Travel.{HasRoom, IsThere, Stops};
 ghost use Rattle.rawk_travel.specs.Asking.{Asks, Draws};
-ghost use Rattle.rawk_operands.specs.Moving.{moving};
-ghost use Rattle.rawk_steps.specs.Arrival.{settled, site_by, with_registers, Arrives, HasCome, ends_quietly, EndsByRead, IsSettled};
+ghost use Rattle.rawk_operands.specs.Moving.{moving, with_registers};
+ghost use Rattle.rawk_steps.specs.Arrival.{settled, site_by, Arrives, HasCome, ends_quietly, EndsByRead, IsSettled};
 
-use rawk_code::Code;
+use rawk_code::{Code, Told};
 use rawk_patterns::Expressions;
 use rawk_store::{Ending, Store};
 use rawk_tape::{Source, Tape};
@@ -115,6 +118,7 @@ pub fn step<R: Source + Drop>(
     let consumed = tape.consumed();
     let mut eventful = false;
     let mut place = store.registers.now.place;
+    let first = code.told(place);
     store.known();
     match travel::<R, true>(
         alloc,
@@ -125,6 +129,7 @@ pub fn step<R: Source + Drop>(
         executed,
         &mut eventful,
         &mut place,
+        first,
     ) {
         Ok(to) => {
             enter_point(store, to, count, limit, &mut place);
@@ -139,12 +144,12 @@ pub fn step<R: Source + Drop>(
 }
 
 /// The same of a run that keeps nothing, up to the point number `point + more`: no old value is saved, and where memory is refused the parts are of no more use. Where there may be input or
-/// memory to let go behind it, `eventful` becomes true. `place` is where the next instruction stands, before and, at a point, behind.
+/// memory to let go behind it, `eventful` becomes true. `place` is where the next instruction stands, before and, at a point, behind; `first` is what is told of that.
 #[inline(always)]
-pub fn pace<R: Source + Drop>(
+pub fn pace<'a, R: Source + Drop>(
     alloc: Global,
     expressions: &mut Expressions,
-    code: &Code,
+    code: &'a Code,
     store: &mut Store,
     tape: &mut Tape<R>,
     executed: &mut Count,
@@ -153,8 +158,11 @@ pub fn pace<R: Source + Drop>(
     more: u64,
     limit: &u64,
     place: &mut usize,
+    first: Option<&'a Told>,
 ) -> Result<Came, AllocError>
     requires here { place.old ≡ store.old.registers.now.place }
+    requires first { IsTold (option_copied first) code.now.instrs place.old }
+    requires descends { Descends code.now.instrs code.now.record_at code.now.entries place.old (slice_get code.now.instrs place.old) }
     requires number { point.now + more < 2 ^ 64 }
     requires running { store.old.registers.now.ending ≡ None }
     requires consumed { tape.old.consumed ≡ store.old.registers.now.consumed }
@@ -177,6 +185,7 @@ pub fn pace<R: Source + Drop>(
         executed,
         eventful,
         place,
+        first,
     ) {
         Ok(to) => Ok(enter_point(store, to, *point + more, *limit, place)),
         Err(refused) => Err(refused),

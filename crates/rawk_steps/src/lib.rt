@@ -5,3 +5,4 @@ pub mod arrival;
 pub mod back;
 pub mod journal;
 pub mod start;
+pub mod stride;
