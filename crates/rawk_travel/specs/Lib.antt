@@ -1,4 +1,3 @@
-pub mod Activations
 pub mod Reading
 pub mod Travel
 pub mod Gets
