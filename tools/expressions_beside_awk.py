@@ -56,7 +56,7 @@ class Expression:
         return {end for place in places for end in self.ends(text, place)}
 
     def found(self, text, start, least=0):
-        """The leftmost match from a place on that has so many bytes, and there the longest."""
+        """The leftmost match from a place on that has at least a number of bytes, and there the longest."""
         for place in range(start, len(text) + 1):
             ends = [end for end in self.ends(text, place) if end - place >= least]
             if ends:
@@ -263,7 +263,7 @@ def answers_each(awk, programs):
 
 
 def judged(rawk, awk, seed, count):
-    """What was asked of so many expressions, with the answers here, there and by the definition, where these are not all the same."""
+    """What was asked of a number of expressions, with the answers here, there and by the definition, where these are not all the same."""
     programs, wanted = [], []
     for number in range(seed, seed + count):
         writer = Writer(number)

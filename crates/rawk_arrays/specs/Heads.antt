@@ -4,7 +4,7 @@ use Rattle.std.proofs.Common.{suc, zero}
 use Rattle.rawk_value.specs.Values.{Bytes}
 use Rattle.rawk_arrays.specs.declared.heads.HeadedKey.{HeadedKey}
 
--- so many bytes of a key from a place on, written behind a number to the base 256; past the end stand zeros
+-- `count` bytes of a key from a place on, written behind a number to the base 256; past the end stand zeros
 abbrev pub number_with : ℕ → ℕ → ℕ → Bytes → ℕ
 number_with number zero place key = number
 number_with number (suc count) place key = number_with (number * 256 + slice_index_or key place 0) count (suc place) key

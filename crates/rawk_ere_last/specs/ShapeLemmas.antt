@@ -1,4 +1,4 @@
--- Each match of an expression that has a shape is of that shape, so one that must end at the end of the text begins so many bytes before it.
+-- Each match of an expression that has a shape is of that shape, so where one must end stands where it begins.
 use Rattle.std.proofs.Common.{◌≡◌, ℕ, ◌+◌, Bool, true, false, List, length, Option, Some, None, refl, sym, ◌∙◌, arith, inl, inr, true≢false}
 use Rattle.std.specs.Prelude.{◌&&◌, if◌then◌else◌, nat_eq, nat_le}
 use Rattle.std.proofs.lemmas.Bool.{eqb-true}
@@ -71,6 +71,6 @@ last_width s i j n (Some a) is f =
       | false ↦ λ e h. cc
     ] refl is
 
--- each match of an expression that `last_in` gives a number has so many bytes, and ends at the end of the text
+-- each match of an expression that `last_in` gives a number has that number of bytes, and ends at the end of the text
 pub ends_last : (s : List ℕ) (e : Tree) (i j n : ℕ) → last_in e ≡ Some n → Ends true s e i j → (j ≡ length s) × (i + n ≡ j)
 ends_last s e i j n is h = last_width s i j n (shape_in e) is (of_shape s e i j h)

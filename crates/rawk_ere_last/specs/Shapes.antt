@@ -40,6 +40,6 @@ last_of (Some a) = if a.is_last then Some a.width else None
 abbrev pub last_in : Tree → Option ℕ
 last_in e = last_of (shape_in e)
 
--- each way through the code ends at the end of the text and has so many bytes
+-- each way through the code ends at the end of the text and has `n` bytes
 abbrev pub AreLast : List Instruction → List ℕ → ℕ → Type 0
 AreLast code s n = (i j : ℕ) → Way code s true i j → (j ≡ length s) × (i + n ≡ j)

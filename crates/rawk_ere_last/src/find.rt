@@ -11,7 +11,7 @@ use rawk_ere_automaton::table::{Table, first_stop};
 use rawk_ere_tree::code::Code;
 use std::alloc::{AllocError, Global};
 
-/// The first way from a place on, where each way has so many bytes and ends at the end of the text: it looks at one place.
+/// The first way from a place on, where each way has `width` bytes and ends at the end of the text: it looks at one place.
 #[inline(always)]
 fn find_last(
     table: &Table,

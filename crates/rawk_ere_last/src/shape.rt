@@ -18,7 +18,7 @@ pub struct Shape {
     pub is_last: bool,
 }
 
-/// The shape of what has so many bytes.
+/// The shape of what has `width` bytes.
 fn of_width(width: usize) -> Option<Shape>
     ensures { result ≡ Some (record { width = width; is_last = false }) }
 {

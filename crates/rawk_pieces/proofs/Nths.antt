@@ -63,7 +63,7 @@ module _ (p : ℕ → Bool) (b : Bool) (text : List ℕ) (place : ℕ) where
       texts_push : (old : List Piece) (r : Piece) → texts text (old ++ r ∷ []) ≡ texts text old ++ slice_range text r.start r.end ∷ []
       texts_push old r = map-append (λ (q : Piece). slice_range text q.start q.end) old (r ∷ [])
 
-  -- there are not so many
+  -- there are at most `place`
   pub counted_none : (start left more : ℕ) → (c : IsCounted p b text place start (length text) left) → IsPassed (b || nat_lt start (length text)) left (Some more) → slice_get (runs_by b p text) place ≡ None
   counted_none start left more c passed =
       let r : Piece = record { start = start; end = length text } in

@@ -115,7 +115,7 @@ fn seek<C: Class>(class: &C, empty_too: bool, text: &[u8], place: usize) -> Soug
     seek_in_blocks(class, empty_too, text, place)
 }
 
-/// A run of bytes outside the class, counted from 0 among those that are not empty, or among all; none: there are not so many. It takes no memory, and looks at no more than 32 bytes behind the
+/// A run of bytes outside the class, counted from 0 among those that are not empty, or among all; none: there are at most `place`. It takes no memory, and looks at no more than 32 bytes behind the
 /// run.
 #[inline(always)]
 pub fn nth_run<C: Class>(class: &C, empty_too: bool, text: &[u8], place: usize) -> Option<Piece>

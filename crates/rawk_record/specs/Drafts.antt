@@ -24,7 +24,7 @@ abbrev pub IsOwn : Value → Option Value → Type 0
 IsOwn value None = value ≡ Input (text_of value)
 IsOwn value (Some own) = own ≡ value
 
--- own values take one more, or none, for the field behind so many
+-- own values take one more, or none, for the field behind `count` others
 abbrev pub IsKept : ℕ → Option Value → List (Option Value) → List (Option Value) → Type 0
 IsKept count own old new = (text : Bytes) (pieces : List Piece) (piece : Piece) → length pieces ≡ count → values text (pieces ++ piece ∷ []) new ≡ values text pieces old ++ piece_value text piece own ∷ []
 

@@ -47,7 +47,7 @@ fn own_copy(alloc: Global, field: FieldRef<'_>) -> Result<Option<Value>, AllocEr
     }
 }
 
-/// Keeps the own value of the field that comes behind so many others, where it has one.
+/// Keeps the own value of the field that comes behind `count` others, where it has one.
 fn keep_own(
     kept: &mut Vec<Option<Value>>,
     count: usize,

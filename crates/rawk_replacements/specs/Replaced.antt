@@ -13,7 +13,7 @@ pub record Replaced : Type 0 where
   pub text : Bytes
   pub count : ℕ
 
--- a text that was made with so many replacements; none: no text was made
+-- a text that was made with a number of replacements; none: no text was made
 abbrev pub made_with : Bytes → Option ℕ → Option Replaced
 made_with text None = None
 made_with text (Some n) = Some (record { text = text; count = n })
