@@ -33,7 +33,7 @@ first_stand p settings steps history = stand_at (first_position p settings steps
 
 -- What a report says of a session, by whether its commands are read or lie in memory, with how its source was left, what was read of its commands, what is so where none was read, and what the sink took.
 pub data Debugs {S V : Type 0} (is_read : Type 0) (may_give : S → Input → Type 0) (over : S → Option Ending) (handed : S → ℕ) (asks : Bytes → Input → Type 0) (unread : Type 0) (may_hold : V → Bytes → Type 0) (text : Bytes) (settings : List FirstValue) (source left : S) (steps : ℕ) (history : Option ℕ) (sink now : V) : Report → Type 0 where
-  -- The text was refused, nothing was read of the source, nothing was written, and no command read. A text to which the grammar gives items with names in order, within the limits, is refused for want of memory alone.
+  -- The text was refused, nothing was read of the source, nothing was written, and no command read. A text to which the grammar gives items with regular expressions and names in order, within the limits, is refused for want of memory alone.
   text_refused : (refusal : Refusal) → IsRefusedText text refusal → left ≡ source → now ≡ sink → unread → Debugs is_read may_give over handed asks unread may_hold text settings source left steps history sink now (refused_by refusal)
   -- a first value can't be assigned: nothing was read of the source, nothing was written, and no command read
   settings_refused : (p : Program) → IsProgram text p → settings_fit p settings ≡ false → left ≡ source → now ≡ sink → unread

@@ -22,7 +22,7 @@ pub record IsReady (text : Bytes) (settings : List FirstValue) (p : Program) (co
   pub fits : settings_fit p settings ≡ true
   pub compiled : CodeOf p code
 
--- A text is refused: as it is refused by its parser, or for want of memory. One that the grammar gives items with names in order, within the limits, is refused for want of memory alone.
+-- A text is refused: as it is refused by its parser, or for want of memory. One that the grammar gives items with regular expressions and names in order, within the limits, is refused for want of memory alone.
 pub record IsRefusedText (text : Bytes) (refusal : Refusal) : Type 0 where
   pub exact : refusal.kind ≢ OutOfMemory → IsRefusal text refusal
   pub derived : (items : List Item) → length text ≤ PROGRAM_BYTES → IsOrderly text items → refusal.kind ≡ OutOfMemory

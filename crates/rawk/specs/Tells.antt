@@ -16,7 +16,7 @@ use Rattle.rawk.specs.Runs.{IsRun}
 
 -- what a report says of a run, with how its source was left and what the sink took
 pub data Tells {S V : Type 0} (may_give : S → Input → Type 0) (over : S → Option Ending) (handed : S → ℕ) (may_hold : V → Bytes → Type 0) (text : Bytes) (settings : List FirstValue) (source last : S) (steps : ℕ) (sink now : V) : Report → Type 0 where
-  -- The text was refused, nothing ran, nothing was read and nothing was written. A text to which the grammar gives items with names in order, within the limits, is refused for want of memory alone.
+  -- The text was refused, nothing ran, nothing was read and nothing was written. A text to which the grammar gives items with regular expressions and names in order, within the limits, is refused for want of memory alone.
   text_refused : (refusal : Refusal) → IsRefusedText text refusal → last ≡ source → now ≡ sink → Tells may_give over handed may_hold text settings source last steps sink now (refused_by refusal)
   -- a first value can't be assigned: nothing ran, nothing was read and nothing was written
   settings_refused : (p : Program) → IsProgram text p → settings_fit p settings ≡ false → last ≡ source → now ≡ sink

@@ -1,18 +1,16 @@
 -- Misuses, by the marks of the arrays.
-use Rattle.std.proofs.Common.{◌≡◌, ◌<◌, ℕ, List, [], length, get_or, refl, sym, subst, ◌∙◌, arith, Bool, true, false, Some, slice_get, MatchBool}
+use Rattle.std.proofs.Common.{◌≡◌, ◌<◌, ℕ, List, refl, sym, ◌∙◌, arith, Bool, true, false, Some, slice_get}
 use Rattle.std.specs.Prelude.{nat_lt, ◌&&◌}
 use Rattle.std.proofs.lemmas.Bool.{ltb-true, ltb-false, false≢true}
-use Rattle.std.proofs.lemmas.Option.{slice_get_within, slice_get-get_or}
-use Rattle.rawk_keys.specs.ArrayKey.{ArrayKey, array_key}
+use Rattle.std.proofs.lemmas.Option.{slice_get_within}
 use Rattle.rawk_names.specs.declared.usage.Manner.TheVariants.{Scalar, Array, Either, Argument}
 use Rattle.rawk_names.specs.declared.usage.What.{What}
 use Rattle.rawk_names.specs.declared.usage.What.TheVariants.{Named, Value, Pattern, Misuse}
 use Rattle.rawk_names.specs.declared.usage.Usage.{Usage}
 use Rattle.rawk_names.specs.declared.usage.TheConstants.{SPECIALS}
-use Rattle.rawk_names.specs.Noted.{Word}
 use Rattle.rawk_names.specs.Arrays.{IsMisuse}
 use Rattle.rawk_names.specs.Marking.{is_marked}
-use Rattle.rawk_names.specs.Named.{AreArrays, IsReadable, IsBad, IsBadAt, is_misuse, NoMisuse, IsFirst, IsFirstMisuse}
+use Rattle.rawk_names.specs.Named.{AreArrays, is_misuse, NoMisuse, IsFirst, IsFirstMisuse}
 
 both_true : (s t : Bool) → (s && t) ≡ true → (s ≡ true) × (t ≡ true)
 both_true true true h = (refl, refl)
@@ -49,9 +47,3 @@ proper uses flags exact none k u at bad = false≢true (sym (none k u (slice_get
 
 pub first_is : (uses : List Usage) (flags : List Bool) (left : ℕ) → AreArrays uses flags → IsFirst flags uses left → IsFirstMisuse uses left
 first_is uses flags left exact h = (h.0, h.1, h.2, h.3, misuse_is uses flags exact h.1.what h.4, λ j t before at bad. false≢true (sym (h.5 j t before at) ∙ misuse_seen uses flags exact t.what bad))
-
-pub bad_at : (patterns : List ArrayKey) (k : ℕ) (w : Word) (b : Bool) → k < length patterns → ((entry : ArrayKey) → slice_get patterns k ≡ Some entry → w ≡ entry.key) → b ≡ false → MatchBool b (IsReadable w) (IsBad w) → IsBadAt patterns k
-bad_at patterns k w true h is fails bad = absurd (false≢true (sym fails))
-bad_at patterns k w false h is fails bad =
-    let there : slice_get patterns k ≡ Some (get_or patterns k (array_key 0 [])) = slice_get-get_or patterns k (array_key 0 []) h in
-    (get_or patterns k (array_key 0 []), there, subst IsBad (is _ there) bad)

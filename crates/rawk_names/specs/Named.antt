@@ -1,9 +1,5 @@
 -- What is reported of the names of a program.
-use Rattle.std.specs.Prelude.{◌≡◌, ◌≢◌, ◌<◌, ◌↔◌, ◌⊎◌, ◌==◌, ℕ, ◌-◌, Bool, true, false, ◌&&◌, if◌then◌else◌, nat_lt, List, [], ◌∷◌, drop, length, slice_get, slice_index_or, Option, Some, None}
-use Rattle.rawk_ere_tree.specs.Tree.{Tree, IsWithinLimits}
-use Rattle.rawk_ere.specs.declared.error.EreError.TheVariants as ere
-use Rattle.rawk_ere.specs.PatternOf.{IsPatternOf}
-use Rattle.rawk_ere.specs.PatternOf as reading
+use Rattle.std.specs.Prelude.{◌≡◌, ◌≢◌, ◌<◌, ◌↔◌, ◌==◌, ℕ, ◌-◌, Bool, true, false, ◌&&◌, if◌then◌else◌, nat_lt, List, drop, length, slice_get, slice_index_or, Option, Some, None}
 use Rattle.rawk_keys.specs.ArrayKey.{ArrayKey, array_key}
 use Rattle.rawk_names.specs.declared.names.NameError.{NameError}
 use Rattle.rawk_names.specs.declared.names.NameError.TheVariants as error
@@ -42,58 +38,25 @@ known_from r arrays = record { functions = r.functions; signatures = r.signature
 abbrev pub AreArrays : List Usage → List Bool → Type 0
 AreArrays uses flags = (v : ℕ) → (is_marked flags v ≡ true) ↔ IsArray uses v
 
--- a regular expression within the limits
-abbrev pub IsReadable : Word → Type 0
-IsReadable pattern = (e : Tree) × IsPatternOf pattern e × IsWithinLimits e
-
-abbrev pub AreReadable : List ArrayKey → ℕ → Type 0
-AreReadable patterns n = (k : ℕ) (entry : ArrayKey) → k < n → slice_get patterns k ≡ Some entry → IsReadable entry.key
-
--- the names are those of the program: none is misused, each regular expression is one, and the arrays are the least set
+-- the names are those of the program: none is misused, and the arrays are the least set
 pub record IsNamed (noted : Noted) (n : Known) : Type 0 where
   pub functions : n.functions ≡ noted.functions
   pub signatures : n.signatures ≡ noted.signatures
   pub variables : n.variables ≡ noted.variables
   pub arrays : AreArrays noted.uses n.arrays
   pub proper : (k : ℕ) (u : Usage) → slice_get noted.uses k ≡ Some u → IsMisuse noted.uses u.what → ⊥
-  pub patterns : AreReadable noted.patterns (length noted.patterns)
 
 -- PART 2: why names are refused
-
--- no regular expression, or one beyond the limits
-abbrev pub IsBad : Word → Type 0
-IsBad pattern = reading.IsRefused ere.Syntax pattern ⊎ reading.IsRefused ere.TooLarge pattern
-
-abbrev pub IsBadAt : List ArrayKey → ℕ → Type 0
-IsBadAt patterns k = (entry : ArrayKey) × (slice_get patterns k ≡ Some entry) × IsBad entry.key
-
-abbrev pub is_pattern : What → ℕ → Bool
-is_pattern (Pattern n) number = n == number
-is_pattern _ number = false
-
--- the place of the first use of a pattern
-abbrev pub pattern_left : ℕ → List Usage → ℕ
-pattern_left number [] = 0
-pattern_left number (u ∷ us) = if is_pattern u.what number then u.left else pattern_left number us
-
--- the first pattern that is none: all before it are some
-abbrev pub IsFirstBad : List ArrayKey → ℕ → Type 0
-IsFirstBad patterns k = IsBadAt patterns k × AreReadable patterns k
-
--- the place where the first pattern that is none stands first
-abbrev pub IsBadPlace : List ArrayKey → List Usage → ℕ → Type 0
-IsBadPlace patterns uses left = (k : ℕ) × IsFirstBad patterns k × (left ≡ pattern_left k uses)
 
 -- of the uses that can't be the first has this place
 abbrev pub IsFirstMisuse : List Usage → ℕ → Type 0
 IsFirstMisuse uses left =
     (k : ℕ) × (u : Usage) × (slice_get uses k ≡ Some u) × (u.left ≡ left) × IsMisuse uses u.what × ((j : ℕ) (t : Usage) → j < k → slice_get uses j ≡ Some t → IsMisuse uses t.what → ⊥)
 
--- what can be reported: a bad pattern, or, where there is none, the first misuse; memory may also be refused
+-- what can be reported: the first misuse; memory may also be refused
 abbrev pub IsRefused : Noted → NameError → Type 0
 IsRefused noted error.OutOfMemory = Unit {0}
-IsRefused noted (error.BadEre left) = IsBadPlace noted.patterns noted.uses left
-IsRefused noted (error.Misused left) = AreReadable noted.patterns (length noted.patterns) × IsFirstMisuse noted.uses left
+IsRefused noted (error.Misused left) = IsFirstMisuse noted.uses left
 
 -- a refusal is one of the program alone, and a program whose names are in order has none but for want of memory
 abbrev pub IsRefusedOnce : Type 0

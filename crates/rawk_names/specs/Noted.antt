@@ -1,5 +1,5 @@
 -- What each mention of a name means, and the variables as they appear.
-use Rattle.std.specs.Prelude.{ℕ, ◌+◌, ◌-◌, Bool, false, if◌then◌else◌, nat_lt, nat_le, List, [], ◌∷◌, ◌++◌, slice_get, Option, Some, None}
+use Rattle.std.specs.Prelude.{ℕ, ◌+◌, ◌-◌, ◌==◌, Bool, false, if◌then◌else◌, nat_lt, nat_le, List, [], ◌∷◌, ◌++◌, slice_get, Option, Some, None}
 use Rattle.rawk_parsing.specs.declared.tree.Name.{Name}
 use Rattle.rawk_keys.specs.ArrayKey.{ArrayKey, array_key}
 use Rattle.rawk_names.specs.declared.usage.Manner.{Manner}
@@ -117,3 +117,14 @@ noted (Pattern left w) n = pattern left w n
 abbrev pub noted_all : List Mention → Noted → Noted
 noted_all [] n = n
 noted_all (m ∷ ms) n = noted_all ms (noted m n)
+
+-- PART 4: regular expressions
+
+abbrev pub is_pattern : What → ℕ → Bool
+is_pattern (what.Pattern n) number = n == number
+is_pattern _ number = false
+
+-- the place of the first use of a pattern
+abbrev pub pattern_left : ℕ → List Usage → ℕ
+pattern_left number [] = 0
+pattern_left number (u ∷ us) = if is_pattern u.what number then u.left else pattern_left number us

@@ -15,7 +15,7 @@ use std::alloc::{AllocError, Global};
 
 impl Register {
     /// No names.
-    pub fn empty(alloc: Global) -> Register
+    pub(crate) fn empty(alloc: Global) -> Register
         ensures { shown result ≡ spec.empty }
     {
         Register {
@@ -220,7 +220,7 @@ impl Register {
 
     /// What a program says of its names, where there are none yet.
     #[tactic(auto, unfolding(crate::specs::Items::program))]
-    pub fn read(&mut self, alloc: Global, items: &[Item]) -> Result<(), AllocError>
+    pub(crate) fn read(&mut self, alloc: Global, items: &[Item]) -> Result<(), AllocError>
         requires { shown self.old ≡ spec.empty }
         ensures { OnOk result (shown self.new ≡ spec.program items.now) }
     {

@@ -11,5 +11,6 @@ mod statements;
 mod table;
 pub mod usage;
 
-pub use names::{Meaning, NameError, Names, Variable, resolve};
+pub use names::{Meaning, NameError, Names, Variable, note, resolve};
+pub use register::Register;
 pub use usage::Signature;

@@ -1,19 +1,17 @@
 //! What the names of a program are.
 
-ghost use Rattle.std.specs.Prelude.{◌≡◌, ◌<◌, ◌+◌, ◌-◌, ℕ, Some, IfOk, IfErr, MatchBool, MatchOption, length, slice_get};
+ghost use Rattle.std.specs.Prelude.{◌≡◌, ◌<◌, ◌+◌, ◌-◌, ℕ, Some, IfOk, IfErr, MatchOption, length, slice_get};
 ghost use Rattle.rawk_keys.specs.ArrayKey.{ArrayKey, array_key};
 ghost use Rattle.rawk_names.specs.Table.{place_of};
-ghost use Rattle.rawk_names.specs.Items.{empty, program};
+ghost use Rattle.rawk_names.specs.Items.{program};
 ghost use Rattle.rawk_names.specs.Marking.{is_marked};
 ghost use Rattle.rawk_names.specs.Noted.{shown};
-ghost use Rattle.rawk_names.specs.Named.{AreArrays, AreReadable, IsBad, IsBadPlace, IsFirst, IsFirstBad, IsNamed, IsReadable, IsRefused, NoMisuse, end_of_last, is_misuse, is_pattern, known, known_from, meaning_of, pattern_left, variable_of};
+ghost use Rattle.rawk_names.specs.Named.{AreArrays, IsFirst, IsNamed, IsRefused, NoMisuse, end_of_last, is_misuse, known, known_from, meaning_of, variable_of};
 
 use crate::arrays::arrays;
 use crate::register::Register;
 use crate::table::Table;
 use crate::usage::{Manner, SPECIALS, Signature, Usage, What};
-use rawk_ere::EreError;
-use rawk_ere::read::read;
 use rawk_grammar::tree::Item;
 use std::alloc::{AllocError, Global};
 
@@ -21,10 +19,7 @@ use std::alloc::{AllocError, Global};
 #[derive(Clone, Copy, PartialEq, Eq)]
 pub enum NameError {
     OutOfMemory,
-    /// The place of a regular expression that is none, or too large: of the first such pattern, where it stands first.
-    BadEre(usize),
-    /// The place of the first misuse of a name, where each regular expression is one: those of definitions come first, then those of
-    /// uses in the order of the text.
+    /// The place of the first misuse of a name: those of definitions come first, then those of uses in the order of the text.
     Misused(usize),
 }
 
@@ -106,66 +101,6 @@ fn first_misuse(uses: &[Usage], arrays: &[bool]) -> Option<usize>
     None
 }
 
-/// Whether a pattern is a regular expression.
-fn is_readable(alloc: Global, pattern: &[u8]) -> Result<bool, AllocError>
-    ensures { IfOk result (λ b. MatchBool b (IsReadable pattern.now) (IsBad pattern.now)) }
-{
-    match read(alloc, pattern) {
-        Ok(tree) => {
-            drop(tree);
-            Ok(true)
-        }
-        Err(EreError::Syntax) => Ok(false),
-        Err(EreError::TooLarge) => Ok(false),
-        Err(EreError::Memory) => Err(AllocError),
-    }
-}
-
-/// The first pattern that is no regular expression.
-fn first_bad(alloc: Global, patterns: &Table) -> Result<Option<usize>, AllocError>
-    ensures { IfOk result (λ r. MatchOption r (AreReadable patterns.now (length patterns.now)) (IsFirstBad patterns.now)) }
-{
-    for number in 0..patterns.len() {
-        if !is_readable(alloc, patterns.word(number))? {
-            return Ok(Some(number));
-        }
-    }
-    Ok(None)
-}
-
-fn is_pattern(what: What, number: usize) -> bool
-    ensures { result ≡ is_pattern what number }
-{
-    match what {
-        What::Pattern(pattern) => pattern == number,
-        What::Named(_, _) => false,
-        What::Value(_) => false,
-        What::Misuse => false,
-    }
-}
-
-/// The place of the first use of a pattern; 0 where there is none.
-fn left_of(uses: &[Usage], number: usize) -> usize
-    ensures { result ≡ pattern_left number uses.now }
-{
-    for usage in uses {
-        if is_pattern(usage.what, number) {
-            return usage.left;
-        }
-    }
-    0
-}
-
-/// The place of the first pattern that is no regular expression.
-fn bad_of(alloc: Global, register: &Register) -> Result<Option<usize>, AllocError>
-    ensures { IfOk result (λ r. MatchOption r (AreReadable register.now.patterns (length register.now.patterns)) (IsBadPlace register.now.patterns register.now.uses.items)) }
-{
-    match first_bad(alloc, &register.patterns)? {
-        None => Ok(None),
-        Some(number) => Ok(Some(left_of(&register.uses, number))),
-    }
-}
-
 fn arrays_of(alloc: Global, register: &Register) -> Result<Vec<bool>, AllocError>
     ensures { IfOk result (λ flags. AreArrays register.now.uses.items flags.items) }
 {
@@ -197,9 +132,8 @@ fn names_from(register: Register, arrays: Vec<bool>) -> Names
     }
 }
 
-/// The arrays among the names, where each pattern is a regular expression.
+/// The arrays among the names.
 fn settled(alloc: Global, register: &Register) -> Result<Vec<bool>, NameError>
-    requires { AreReadable register.now.patterns (length register.now.patterns) }
     ensures named { IfOk result (λ arrays. IsNamed (shown register.now) (known_from register.now arrays.items)) }
     ensures refused { IfErr result (IsRefused (shown register.now)) }
 {
@@ -210,36 +144,26 @@ fn settled(alloc: Global, register: &Register) -> Result<Vec<bool>, NameError>
     }
 }
 
-/// The arrays among the names of a program, which are registered.
-fn registered(
-    alloc: Global,
-    register: &mut Register,
-    items: &[Item],
-) -> Result<Vec<bool>, NameError>
-    requires { shown register.old ≡ empty }
-    ensures named { IfOk result (λ arrays. IsNamed (program items.now) (known_from register.new arrays.items)) }
-    ensures refused { IfErr result (IsRefused (program items.now)) }
-{
-    register.read(alloc, items)?;
-    match bad_of(alloc, register)? {
-        Some(left) => Err(NameError::BadEre(left)),
-        None => settled(alloc, register),
-    }
-}
-
-/// What the names of a program are. It leaves the tree as it is.
-///
-/// It fails where memory is refused, where a regular expression is none or too large, and where a name is misused: two functions of one
-/// name, a parameter twice in a list or with the name of a function, a parameter or a function with the name of a special variable, a call
-/// of what is no function or with more arguments than parameters, a function's name in another use, an array used as a scalar, a special
-/// variable used as an array, and for a parameter that is an array an argument that is no name alone (POSIX awk, "User-Defined Functions").
-/// `length(x)` uses x as neither.
-pub fn resolve(alloc: Global, items: &[Item]) -> Result<Names, NameError>
-    ensures named { IfOk result (λ n. IsNamed (program items.now) (known n)) }
-    ensures refused { IfErr result (IsRefused (program items.now)) }
+/// What a program says of its names, and its regular expressions. It leaves the tree as it is, and fails where memory is refused.
+pub fn note(alloc: Global, items: &[Item]) -> Result<Register, AllocError>
+    ensures { IfOk result (λ register. shown register ≡ program items.now) }
 {
     let mut register = Register::empty(alloc);
-    match registered(alloc, &mut register, items) {
+    register.read(alloc, items)?;
+    Ok(register)
+}
+
+/// What the names of a program are, by what it says of them. Its regular expressions are not read.
+///
+/// It fails where memory is refused and where a name is misused: two functions of one name, a parameter twice in a list or with the name
+/// of a function, a parameter or a function with the name of a special variable, a call of what is no function or with more arguments than
+/// parameters, a function's name in another use, an array used as a scalar, a special variable used as an array, and for a parameter that
+/// is an array an argument that is no name alone (POSIX awk, "User-Defined Functions"). `length(x)` uses x as neither.
+pub fn resolve(alloc: Global, register: Register) -> Result<Names, NameError>
+    ensures named { IfOk result (λ n. IsNamed (shown register) (known n)) }
+    ensures refused { IfErr result (IsRefused (shown register)) }
+{
+    match settled(alloc, &register) {
         Ok(arrays) => Ok(names_from(register, arrays)),
         Err(error) => {
             drop(register);

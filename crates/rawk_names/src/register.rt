@@ -1,8 +1,9 @@
-//! What is known of the names while the text is walked.
+//! What a program says of its names: what is known of these while the text is walked, and in the end.
 
-ghost use Rattle.std.specs.Prelude.{◌≡◌, IfOk, OnOk, Some};
+ghost use Rattle.std.specs.Prelude.{◌≡◌, ◌<◌, IfOk, OnOk, Some, length, slice_get};
+ghost use Rattle.rawk_keys.specs.ArrayKey.{ArrayKey};
 ghost use Rattle.rawk_names.specs.Noted as spec;
-ghost use Rattle.rawk_names.specs.Noted.{shown};
+ghost use Rattle.rawk_names.specs.Noted.{is_pattern, pattern_left, shown};
 
 use crate::table::Table;
 use crate::usage::{Manner, Signature, Usage, What};
@@ -13,12 +14,12 @@ use std::alloc::{AllocError, Global};
 #[derive(Drop)]
 pub struct Register {
     /// 0 outside functions, else one more than the number of the function
-    pub scope: usize,
-    pub functions: Table,
-    pub signatures: Vec<Signature>,
-    pub variables: Table,
-    pub patterns: Table,
-    pub uses: Vec<Usage>,
+    pub(crate) scope: usize,
+    pub(crate) functions: Table,
+    pub(crate) signatures: Vec<Signature>,
+    pub(crate) variables: Table,
+    pub(crate) patterns: Table,
+    pub(crate) uses: Vec<Usage>,
 }
 
 /// The parameter for an argument, from 0, of a function with this signature.
@@ -68,9 +69,54 @@ fn use_of(manner: Manner, variable: Option<usize>) -> What
     }
 }
 
+fn is_pattern(what: What, number: usize) -> bool
+    ensures { result ≡ is_pattern what number }
+{
+    match what {
+        What::Pattern(pattern) => pattern == number,
+        What::Named(_, _) => false,
+        What::Value(_) => false,
+        What::Misuse => false,
+    }
+}
+
+/// The place of the first use of a regular expression; 0 where there is none.
+fn left_of(uses: &[Usage], number: usize) -> usize
+    ensures { result ≡ pattern_left number uses.now }
+{
+    for usage in uses {
+        if is_pattern(usage.what, number) {
+            return usage.left;
+        }
+    }
+    0
+}
+
 impl Register {
+    /// How many regular expressions there are. They are numbered from 0 in the order in which they appear, each once.
+    pub fn pattern_count(&self) -> usize
+        ensures { result ≡ length self.now.patterns }
+    {
+        self.patterns.len()
+    }
+
+    /// The bytes of a regular expression.
+    pub fn pattern_word(&self, number: usize) -> &[u8]
+        requires { number < length self.now.patterns }
+        ensures { (entry : ArrayKey) → slice_get self.now.patterns number ≡ Some entry → result.now ≡ entry.key }
+    {
+        self.patterns.word(number)
+    }
+
+    /// The place where a regular expression stands first: the number of bytes from there to the end of the text.
+    pub fn pattern_left(&self, number: usize) -> usize
+        ensures { result ≡ pattern_left number self.now.uses.items }
+    {
+        left_of(&self.uses, number)
+    }
+
     /// Adds a use.
-    pub fn push(&mut self, left: usize, what: What) -> Result<(), AllocError>
+    pub(crate) fn push(&mut self, left: usize, what: What) -> Result<(), AllocError>
         ensures { OnOk result (shown self.new ≡ spec.with_use left what (shown self.old)) }
     {
         self.uses.push(Usage { left, what })?;
@@ -93,7 +139,12 @@ impl Register {
 
     /// A name, used in a manner.
     #[tactic(auto, unfolding(crate::specs::Noted::named))]
-    pub fn name(&mut self, alloc: Global, manner: Manner, name: &Name) -> Result<(), AllocError>
+    pub(crate) fn name(
+        &mut self,
+        alloc: Global,
+        manner: Manner,
+        name: &Name,
+    ) -> Result<(), AllocError>
         ensures { OnOk result (shown self.new ≡ spec.named manner name.now (shown self.old)) }
     {
         let variable = self.meant(alloc, name.word.as_slice())?;
@@ -113,7 +164,7 @@ impl Register {
     }
 
     /// A name alone as an argument of a call.
-    pub fn passed(
+    pub(crate) fn passed(
         &mut self,
         alloc: Global,
         name: &Name,
@@ -130,7 +181,7 @@ impl Register {
 
     /// Another argument of a call.
     #[tactic(auto, unfolding(crate::specs::Noted::computed))]
-    pub fn computed(&mut self, function: &Name, argument: usize) -> Result<(), AllocError>
+    pub(crate) fn computed(&mut self, function: &Name, argument: usize) -> Result<(), AllocError>
         ensures { OnOk result (shown self.new ≡ spec.computed function.now argument (shown self.old)) }
     {
         match self.parameter(function, argument) {
@@ -141,7 +192,7 @@ impl Register {
 
     /// A call with `count` arguments.
     #[tactic(auto, unfolding(crate::specs::Noted::called, crate::specs::Noted::takes))]
-    pub fn called(&mut self, function: &Name, count: usize) -> Result<(), AllocError>
+    pub(crate) fn called(&mut self, function: &Name, count: usize) -> Result<(), AllocError>
         ensures { OnOk result (shown self.new ≡ spec.called function.now count (shown self.old)) }
     {
         let number = self.functions.find(0, function.word.as_slice());
@@ -154,7 +205,12 @@ impl Register {
 
     /// A regular expression.
     #[tactic(auto, unfolding(crate::specs::Noted::pattern))]
-    pub fn pattern(&mut self, alloc: Global, left: usize, pattern: &[u8]) -> Result<(), AllocError>
+    pub(crate) fn pattern(
+        &mut self,
+        alloc: Global,
+        left: usize,
+        pattern: &[u8],
+    ) -> Result<(), AllocError>
         ensures { OnOk result (shown self.new ≡ spec.pattern left pattern.now (shown self.old)) }
     {
         let number = self.patterns.number(alloc, 0, pattern)?;

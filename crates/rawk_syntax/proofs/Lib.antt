@@ -7,4 +7,5 @@ pub mod Noting
 pub mod NamesInOrder
 pub mod Defining
 pub mod AllInOrder
+pub mod BadPatterns
 pub mod Readings

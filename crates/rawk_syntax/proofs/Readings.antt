@@ -12,23 +12,27 @@ use Rattle.rawk_grammar.specs.Texts as grammar
 use Rattle.rawk_names.specs.declared.names.NameError.{NameError}
 use Rattle.rawk_names.specs.Items as naming
 use Rattle.rawk_names.specs.Named.{Known, IsNamed, IsRefused}
+use Rattle.rawk_names.specs.Noted.{Noted}
 use Rattle.rawk_names.specs.Refusals.{refused_once, named_or_refused}
 use Rattle.rawk_tree.specs.declared.tree.Program.{Program}
 use Rattle.rawk_syntax.specs.Laid.{IsLaid}
-use Rattle.rawk_syntax.specs.Texts.{IsText, IsSettled, IsReading, IsOrderly, IsSettledAs, IsFlaw, IsFlawIn, IsFlawOf, IsMisnamed, IsRefusal, Tells, refusal_of, parse_error_of}
+use Rattle.rawk_syntax.specs.Patterns.{AllReadable}
+use Rattle.rawk_syntax.specs.Texts.{IsText, IsSettled, IsReading, IsOrderly, IsSettledAs, IsFlaw, IsFlawIn, IsFlawOf, IsMisnamed, IsRefusedSo, bad_ere, misnamed, IsRefusal, Tells, refusal_of, parse_error_of}
+use Rattle.rawk_syntax.proofs.BadPatterns.{not_all, bad_place_once}
 
 -- ---- names in order
 
-pub unflawed : (items : List Item) (n : Known) → IsNamed (naming.program items) n → (e : ParseError) → IsMisnamed items e → ⊥
-unflawed items n h e m = named_or_refused (naming.program items) n m.why m.some h m.misnamed
+pub unflawed : (noted : Noted) (n : Known) → IsNamed noted n → AllReadable noted → (e : ParseError) → IsRefusedSo noted e → ⊥
+unflawed noted n h all e (bad_ere left place is) = not_all noted.patterns place.0 all place.1.0
+unflawed noted n h all e (misnamed why readable some refused is) = named_or_refused noted n why some h refused
 
-pub named_found : (text : List ℕ) (items : List Item) (n : Known) (p : Program) → IsNamed (naming.program items) n → IsLaid text n items p → IsSettled text items p
-named_found text items n p h laid = record { names = n; named = h; laid = laid }
+pub named_found : (text : List ℕ) (items : List Item) (n : Known) (p : Program) → IsNamed (naming.program items) n → AllReadable (naming.program items) → IsLaid text n items p → IsSettled text items p
+named_found text items n p h all laid = record { names = n; named = h; patterns = all; laid = laid }
 
 -- ---- names that are refused
 
-pub misnamed_exact : (items : List Item) (why : NameError) (e : ParseError) → IsRefused (naming.program items) why → e ≡ parse_error_of why → e ≢ OutOfMemory → IsMisnamed items e
-misnamed_exact items why e h is ne = record { why = why; some = λ out. ne (is ∙ ap parse_error_of out); misnamed = h; is = is }
+pub misnamed_exact : (noted : Noted) (why : NameError) (e : ParseError) → AllReadable noted → IsRefused noted why → e ≡ parse_error_of why → e ≢ OutOfMemory → IsRefusedSo noted e
+misnamed_exact noted why e all h is ne = misnamed why all (λ out. ne (is ∙ ap parse_error_of out)) h is
 
 -- ---- items that were read
 
@@ -58,7 +62,7 @@ read_orderly text start items ys its (Ok p) same only is h exact g =
     subst (λ (z : List Item). IsSettled text z p) (is ∙ e) h
 read_orderly text start items ys its (Err f) same only is h exact g =
     let e : items ≡ its = only its (subst (λ i. grammar.IsText (OPEN_CONSTRUCTS + 1) its i) (sym same) g.derived) in
-    memory_only f (λ ne. unflawed its g.names g.named f (subst (λ (z : List Item). IsMisnamed z f) (is ∙ e) (exact ne)))
+    memory_only f (λ ne. unflawed (naming.program its) g.names g.named g.patterns f (subst (λ (z : List Item). IsMisnamed z f) (is ∙ e) (exact ne)))
 
 -- ---- a refusal of the parser
 
@@ -74,11 +78,14 @@ refused_orderly text start its r e y same only is back g =
 
 -- ---- a text has one refusal at most
 
-misnamed_once : (items : List Item) (e f : ParseError) → IsMisnamed items e → IsMisnamed items f → e ≡ f
-misnamed_once items e f a b = a.is ∙ ap parse_error_of (refused_once (naming.program items) a.why b.why a.some b.some a.misnamed b.misnamed) ∙ sym b.is
+misnamed_once : (noted : Noted) (e f : ParseError) → IsRefusedSo noted e → IsRefusedSo noted f → e ≡ f
+misnamed_once noted e f (bad_ere left h is) (bad_ere right g be) = is ∙ ap (Here kinds.BadEre) (bad_place_once noted.patterns noted.uses left right h g) ∙ sym be
+misnamed_once noted e f (bad_ere left h is) (misnamed why all some g be) = absurd (not_all noted.patterns h.0 all h.1.0)
+misnamed_once noted e f (misnamed why all some h is) (bad_ere right g be) = absurd (not_all noted.patterns g.0 all g.1.0)
+misnamed_once noted e f (misnamed why all some h is) (misnamed reason every other g be) = is ∙ ap parse_error_of (refused_once noted why reason some other h g) ∙ sym be
 
 flaw_once : (o : Outcome (List Item)) (e f : ParseError) → IsFlawOf o e → IsFlawOf o f → e ≡ f
-flaw_once (Ok r) e f a b = misnamed_once r.0 e f a b
+flaw_once (Ok r) e f a b = misnamed_once (naming.program r.0) e f a b
 flaw_once (Err x) e f a b = sym a ∙ b
 
 one_flaw : (text : List ℕ) (e f : ParseError) → IsFlaw text e → IsFlaw text f → e ≡ f

@@ -1,2 +1,3 @@
 pub mod Laid
+pub mod Patterns
 pub mod Texts

@@ -14,8 +14,10 @@ use Rattle.rawk_names.specs.declared.names.NameError.{NameError}
 use Rattle.rawk_names.specs.declared.names.NameError.TheVariants as misused
 use Rattle.rawk_names.specs.Items as naming
 use Rattle.rawk_names.specs.Named.{Known, IsNamed, IsRefused}
+use Rattle.rawk_names.specs.Noted.{Noted}
 use Rattle.rawk_tree.specs.declared.tree.Program.{Program}
 use Rattle.rawk_syntax.specs.Laid.{IsLaid}
+use Rattle.rawk_syntax.specs.Patterns.{AllReadable, IsBadPlace}
 
 -- ---- programs
 
@@ -23,10 +25,11 @@ use Rattle.rawk_syntax.specs.Laid.{IsLaid}
 abbrev pub IsText : List ℕ → List Item → Type 0
 IsText text items = grammar.IsText (OPEN_CONSTRUCTS + 1) items text
 
--- The names of the items are in order, and the program is theirs by what is known of these.
+-- Each regular expression of the items is one, their names are in order, and the program is theirs by what is known of these.
 pub record IsSettled (text : List ℕ) (items : List Item) (p : Program) : Type 0 where
   pub names : Known
   pub named : IsNamed (naming.program items) names
+  pub patterns : AllReadable (naming.program items)
   pub laid : IsLaid text names items p
 
 -- The program is that of items that the text has by the grammar, within the limit of open constructs.
@@ -40,11 +43,13 @@ pub record IsProgram (text : List ℕ) (p : Program) : Type 0 where
   pub short : length text ≤ PROGRAM_BYTES
   pub reading : IsReading text p
 
--- By the grammar the text has these items, within the limit of open constructs, and their names are in order.
+-- By the grammar the text has these items, within the limit of open constructs, each regular expression of theirs is one, and their names are
+-- in order.
 pub record IsOrderly (text : List ℕ) (items : List Item) : Type 0 where
   pub derived : IsText text items
   pub names : Known
   pub named : IsNamed (naming.program items) names
+  pub patterns : AllReadable (naming.program items)
 
 -- the answer is a program of these items, or memory was refused
 abbrev pub IsSettledAs : List ℕ → List Item → Result Program ParseError → Type 0
@@ -57,20 +62,21 @@ IsRead text items (Err refusal) = refusal.kind ≡ kinds.OutOfMemory
 
 -- ---- refusals
 
--- what is reported of names: a bad regular expression, or a misuse
+-- what is reported of names
 abbrev pub parse_error_of : NameError → ParseError
 parse_error_of misused.OutOfMemory = refused.OutOfMemory
-parse_error_of (misused.BadEre left) = refused.Here kinds.BadEre left
 parse_error_of (misused.Misused left) = refused.Here kinds.NameMisused left
 
--- the names of the items are refused so
-pub record IsMisnamed (items : List Item) (e : ParseError) : Type 0 where
-  pub why : NameError
-  pub some : why ≢ misused.OutOfMemory
-  pub misnamed : IsRefused (naming.program items) why
-  pub is : e ≡ parse_error_of why
+-- what a program says of its names is refused so: for its first regular expression that is none, or, where each is one, for its names
+pub data IsRefusedSo (noted : Noted) (e : ParseError) : Type 0 where
+  bad_ere : (left : ℕ) → IsBadPlace noted.patterns noted.uses left → e ≡ refused.Here kinds.BadEre left → IsRefusedSo noted e
+  misnamed : (why : NameError) → AllReadable noted → why ≢ misused.OutOfMemory → IsRefused noted why → e ≡ parse_error_of why → IsRefusedSo noted e
 
--- what the parser as a function gives is refused so: by itself, or by the names of its items
+-- the regular expressions of the items, or their names, are refused so
+abbrev pub IsMisnamed : List Item → ParseError → Type 0
+IsMisnamed items e = IsRefusedSo (naming.program items) e
+
+-- what the parser as a function gives is refused so: by itself, or by the regular expressions or the names of its items
 abbrev pub IsFlawOf : Outcome (List Item) → ParseError → Type 0
 IsFlawOf (Ok r) e = IsMisnamed r.0 e
 IsFlawOf (Err f) e = f ≡ e
@@ -82,7 +88,7 @@ IsFlawIn text e = IsFlawOf (program (OPEN_CONSTRUCTS + 1) text) e
 abbrev pub IsTooLong : List ℕ → ParseError → Type 0
 IsTooLong text e = (PROGRAM_BYTES < length text) × (e ≡ refused.Here kinds.TooDeep (length text - PROGRAM_BYTES))
 
--- why and where a text is refused: for its size, else by the grammar, else by its names
+-- why and where a text is refused: for its size, else by the grammar, else for a regular expression, else for a name
 abbrev pub IsFlaw : List ℕ → ParseError → Type 0
 IsFlaw text e = IsTooLong text e ⊎ ((length text ≤ PROGRAM_BYTES) × IsFlawIn text e)
 

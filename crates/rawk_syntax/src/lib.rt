@@ -5,9 +5,12 @@ mod deletion;
 mod items;
 pub mod laws;
 mod lines;
+mod names;
 mod parsing;
+mod patterns;
 mod statements;
 
+pub use names::names_of;
 pub use parsing::parse;
 pub use rawk_lexer::unescaped;
 pub use rawk_parsing::{Refusal, RefusalKind};

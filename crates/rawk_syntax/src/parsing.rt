@@ -5,15 +5,17 @@ ghost use Rattle.rawk_limits.specs.declared.TheConstants as limits;
 ghost use Rattle.rawk_grammar.specs.declared.tree.Item as part;
 ghost use Rattle.rawk_names.specs.Items as naming;
 ghost use Rattle.rawk_names.specs.Named.{IsNamed, known};
+ghost use Rattle.rawk_syntax.specs.Patterns.{AllReadable};
 ghost use Rattle.rawk_syntax.specs.Texts as spec;
 ghost use Rattle.rawk_syntax.specs.Texts.{Answers, IsFlawIn, IsMisnamed, IsOrderly, IsProgram, IsRead, IsReading, IsSettled, IsSettledAs, IsText, Tells};
 
 use crate::items::settle;
+use crate::names::names_of;
 use rawk_grammar::program;
 use rawk_grammar::tree::Item;
 use rawk_lexer::{Cursor, line_of};
 use rawk_limits::{OPEN_CONSTRUCTS, PROGRAM_BYTES};
-use rawk_names::{NameError, Names, resolve};
+use rawk_names::Names;
 use rawk_parsing::{ParseError, Refusal, RefusalKind};
 use rawk_tree::Program;
 use std::alloc::Global;
@@ -29,9 +31,11 @@ use std::alloc::Global;
 pub fn parse(alloc: Global, text: &[u8]) -> Result<Program, Refusal>
     // A refusal has the kind and the line that the text gives, or memory was refused; where there is a program the text gives none.
     ensures exact { Answers text.now result }
-    // The program is settled from items that the grammar gives the text, within the limits, and whose names are in order.
+    // The program is settled from items that the grammar gives the text, within the limits, and whose regular expressions and names are in
+    // order.
     ensures found { IfOk result (λ p. IsProgram text.now p) }
-    // A text that the grammar gives items with names in order, within the limits, is read as those, unless memory is refused.
+    // A text that the grammar gives items with regular expressions and names in order, within the limits, is read as those, unless memory
+    // is refused.
     ensures derived { (items : List part.Item) → length text.now ≤ limits.PROGRAM_BYTES → IsOrderly text.now items → IsRead text.now items result }
 {
     if text.len() > PROGRAM_BYTES {
@@ -62,18 +66,7 @@ fn refusal_of(text: &[u8], refused: ParseError) -> Refusal
     }
 }
 
-/// What is reported of names.
-fn parse_error_of(refused: NameError) -> ParseError
-    ensures { result ≡ spec.parse_error_of refused }
-{
-    match refused {
-        NameError::OutOfMemory => ParseError::OutOfMemory,
-        NameError::BadEre(left) => ParseError::Here(RefusalKind::BadEre, left),
-        NameError::Misused(left) => ParseError::Here(RefusalKind::NameMisused, left),
-    }
-}
-
-/// The program of items that the grammar gives a text, and whose names are in order.
+/// The program of items that the grammar gives a text, and whose regular expressions and names are in order.
 fn settle_named(
     alloc: Global,
     text: &[u8],
@@ -82,6 +75,7 @@ fn settle_named(
 ) -> Result<Program, ParseError>
     requires derived { IsText text.now items.now }
     requires named { IsNamed (naming.program items.now) (known names) }
+    requires readable { AllReadable (naming.program items.now) }
     ensures exact { Tells (IsMisnamed items.now) result }
     ensures found { IfOk result (λ p. IsSettled text.now items.now p) }
 {
@@ -96,9 +90,9 @@ fn settle_items(alloc: Global, text: &[u8], items: &[Item]) -> Result<Program, P
     ensures exact { Tells (IsMisnamed items.now) result }
     ensures found { IfOk result (λ p. IsSettled text.now items.now p) }
 {
-    match resolve(alloc, items) {
+    match names_of(alloc, items) {
         Ok(names) => settle_named(alloc, text, names, items),
-        Err(refused) => Err(parse_error_of(refused)),
+        Err(refused) => Err(refused),
     }
 }
 

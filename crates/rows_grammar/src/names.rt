@@ -1,17 +1,18 @@
-//! The names of programs: which are arrays, and which texts misuse a name.
+//! The names of programs: which are arrays, and which texts are refused for a regular expression or misuse a name.
 //!
 //! `names`, a text: `ok` and the names of its arrays, those of parameters with a dot before them; or the number of the refusal and its
 //! line.
 
 use crate::reading::{read_text, refused};
-use rawk_names::{NameError, Names, Variable, resolve};
+use rawk_names::{Names, Variable};
 use rawk_parsing::ParseError;
+use rawk_syntax::names_of;
 use std::alloc::{AllocError, Global};
 
 /// The names of a text's arrays, or why it is refused.
 pub fn answered(alloc: Global, text: &[u8]) -> Result<Vec<u8>, AllocError> {
     match read_text(alloc, text) {
-        Ok(items) => named(alloc, text, &resolve(alloc, items.as_slice())),
+        Ok(items) => named(alloc, text, &names_of(alloc, items.as_slice())),
         Err(ParseError::OutOfMemory) => Err(AllocError),
         Err(ParseError::Here(kind, left)) => refused(alloc, text, kind.number(), left),
     }
@@ -20,13 +21,12 @@ pub fn answered(alloc: Global, text: &[u8]) -> Result<Vec<u8>, AllocError> {
 fn named(
     alloc: Global,
     text: &[u8],
-    answer: &Result<Names, NameError>,
+    answer: &Result<Names, ParseError>,
 ) -> Result<Vec<u8>, AllocError> {
     match answer {
         Ok(names) => arrays(alloc, names),
-        Err(NameError::OutOfMemory) => Err(AllocError),
-        Err(NameError::BadEre(left)) => refused(alloc, text, 5, *left),
-        Err(NameError::Misused(left)) => refused(alloc, text, 7, *left),
+        Err(ParseError::OutOfMemory) => Err(AllocError),
+        Err(ParseError::Here(kind, left)) => refused(alloc, text, kind.number(), *left),
     }
 }
 
