@@ -3,4 +3,4 @@
 
 pub mod activations;
 mod arguments;
-mod light;
+pub mod light;
