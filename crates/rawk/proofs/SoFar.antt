@@ -17,7 +17,7 @@ use Rattle.rawk_code.specs.Laws.{IsBeginning, OutputLaw, OutputGrows, FirstOutpu
 use Rattle.rawk_code.specs.Trace.{FirstValue, Trace, trace, out, number, line_at}
 use Rattle.rawk_code.specs.Correct.{CodeOf}
 use Rattle.rawk_code.specs.Listing.{Listing}
-use Rattle.rawk_travel.specs.Asking.{Draws}
+use Rattle.rawk_reading.specs.Drawing.{Draws}
 use Rattle.rawk_machine.specs.Asked.{AskedBy, HasAsked, asked_wider}
 use Rattle.rawk_machine.specs.declared.step.Step.{Step}
 use Rattle.rawk_machine.specs.declared.step.Step.TheVariants as step

@@ -20,7 +20,7 @@ use Rattle.rawk_value.specs.declared.fault.Fault.{Fault}
 use Rattle.rawk_store.specs.State.{Target}
 use Rattle.rawk_tape.specs.Inputs.{before}
 use Rattle.rawk_tape.specs.declared.source.Ending.{Ending as End}
-use Rattle.rawk_travel.specs.Asking as asking
+use Rattle.rawk_reading.specs.Drawing as drawing
 use Rattle.rawk_answers.specs.Works.{Draws}
 use Rattle.rawk.specs.Staged.{IsStage, held_of, position_of, work_of}
 
@@ -64,7 +64,7 @@ set_work (Ok (Some fault)) target value old new made same = ap work_of made
 set_work (Err refused) target value old new made same = ap work_of same
 
 -- what an advance draws
-pub draws_is : {S : Type 0} (over : S → Option End) (handed : S → ℕ) (old new : Standing S) → asking.Draws over handed old.tape new.tape → old.executed ≤ new.executed → Draws over handed (work_of old) (work_of new)
+pub draws_is : {S : Type 0} (over : S → Option End) (handed : S → ℕ) (old new : Standing S) → drawing.Draws over handed old.tape new.tape → old.executed ≤ new.executed → Draws over handed (work_of old) (work_of new)
 draws_is over handed old new d ran = record { ran = ran; longer = d.longer; counted = d.counted; closed = d.closed }
 
 -- what may still come behind what was read

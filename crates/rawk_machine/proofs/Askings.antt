@@ -14,9 +14,10 @@ use Rattle.rawk_code.specs.Listing.{Listing}
 use Rattle.rawk_code.specs.Actions.{Point, Given, SetAt}
 use Rattle.rawk_code.specs.Trace.{FirstValue}
 use Rattle.rawk_code.specs.Correct.{first, after}
-use Rattle.rawk_travel.specs.Asking.{Asks, Draws, asked_behind}
+use Rattle.rawk_reading.specs.Drawing.{Draws}
+use Rattle.rawk_travel.specs.Asking.{Asks, asked_behind}
 use Rattle.rawk_operands.specs.Moving.{Moving, moving_of, going}
-use Rattle.rawk_travel.specs.Reading.{run_in}
+use Rattle.rawk_reading.specs.Reading.{run_in}
 use Rattle.rawk_machine.specs.Standing.{Ground, StandsAt, run_at, config_at, whole}
 use Rattle.rawk_machine.specs.Reached.{stands_reached}
 use Rattle.rawk_machine.specs.Kept.{moment_in}

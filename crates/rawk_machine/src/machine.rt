@@ -13,7 +13,7 @@ ghost use Rattle.rawk_machine.specs.Kept.{below};
 ghost use Rattle.rawk_machine.specs.Stood.{IsFirst};
 ghost use Rattle.rawk_machine.specs.Standing.{Standing, MayCome, IsAt, Stood, step_of, IsQuietStep, Stays, MovesOn, IsSet, gone_back, taken_back, dropped, old_values};
 ghost use Rattle.rawk_machine.specs.Asked.{AskedBy, Unstood};
-ghost use Rattle.rawk_travel.specs.Asking.{Draws};
+ghost use Rattle.rawk_reading.specs.Drawing.{Draws};
 
 use crate::last_move::LastMove;
 use crate::step::Step;

@@ -10,7 +10,8 @@ ghost use Rattle.rawk_store.specs.Stores.{BeganNested, now_of, start_of};
 ghost use Rattle.rawk_code.specs.Quick.{IsTold};
 ghost use Rattle.rawk_code.specs.Valid.{Descends};
 ghost use Rattle.rawk_travel.specs.Travel.{HasRoom, IsThere, Stops};
-ghost use Rattle.rawk_travel.specs.Asking.{Asks, Draws};
+ghost use Rattle.rawk_reading.specs.Drawing.{Draws};
+ghost use Rattle.rawk_travel.specs.Asking.{Asks};
 ghost use Rattle.rawk_operands.specs.Moving.{moving, with_registers};
 ghost use Rattle.rawk_steps.specs.Arrival.{settled, site_by, Arrives, HasCome, ends_quietly, EndsByRead, IsSettled};
 

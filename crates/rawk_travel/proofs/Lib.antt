@@ -1,6 +1,3 @@
-pub mod Quiets
-pub mod Takings
-pub mod Readings
 pub mod Askings
 pub mod Travels
 pub mod Turns

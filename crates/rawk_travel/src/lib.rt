@@ -4,5 +4,4 @@
 mod call;
 pub mod count;
 mod onward;
-mod reading;
 pub mod travel;

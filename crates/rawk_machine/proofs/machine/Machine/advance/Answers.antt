@@ -18,7 +18,7 @@ use Rattle.rawk_machine.proofs.Stands.{at_step, come_some, stood_step, stood_sam
 use Rattle.rawk_machine.proofs.Gives.{on_err}
 use Rattle.rawk_machine.proofs.Askings.{asked_step}
 use Rattle.rawk_machine.specs.Asked.{AskedBy, HasAsked, asked_wider}
-use Rattle.rawk_travel.specs.Asking.{Draws}
+use Rattle.rawk_reading.specs.Drawing.{Draws}
 use Rattle.rawk_machine.proofs.machine.Machine.advance.Goals as goal
 
 pub returns-in_err-journaled-in-None-clause-still : goal.returns-in_err-journaled-in-None-clause-still

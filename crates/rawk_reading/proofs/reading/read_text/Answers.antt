@@ -5,11 +5,11 @@ use Rattle.rawk_tape.specs.declared.source.Ending.TheVariants.{Failed}
 use Rattle.rawk_store.specs.State.{RS}
 use Rattle.rawk_operands.specs.Borrowed.{global_in}
 use Rattle.rawk_operands.specs.Moving.{moving}
-use Rattle.rawk_travel.specs.Reading.{text_taken_of, ReadsText}
-use Rattle.rawk_travel.proofs.Quiets.{quiet_text}
-use Rattle.rawk_travel.proofs.Readings.{texts_found, found_did, found_quiet, found_calm, found_places, maybe_consumed}
-use Rattle.rawk_travel.proofs.Askings.{bytes_held, draws_held}
-use Rattle.rawk_travel.proofs.reading.read_text.Goals as goal
+use Rattle.rawk_reading.specs.Reading.{text_taken_of, ReadsText}
+use Rattle.rawk_reading.proofs.Quiets.{quiet_text}
+use Rattle.rawk_reading.proofs.Readings.{texts_found, found_did, found_quiet, found_calm, found_places, maybe_consumed}
+use Rattle.rawk_reading.proofs.Drawings.{bytes_held, draws_held}
+use Rattle.rawk_reading.proofs.reading.read_text.Goals as goal
 
 pub returns-in-Some-clause-did : goal.returns-in-Some-clause-did
 returns-in-Some-clause-did g c =

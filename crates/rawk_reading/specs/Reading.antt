@@ -10,8 +10,8 @@ use Rattle.rawk_tape.specs.Inputs.{before}
 use Rattle.rawk_record.specs.Shown.{Shown, read_as}
 use Rattle.rawk_store.specs.State.{NR, FNR, FS, RS}
 use Rattle.rawk_code.specs.Actions.{Point, Run, Goes, Breaks, Stops, Faulted, read_record, read_text}
-use Rattle.rawk_travel.specs.declared.reading.Reading.{Reading}
-use Rattle.rawk_travel.specs.declared.reading.Reading.TheVariants as reading
+use Rattle.rawk_reading.specs.declared.reading.Reading.{Reading}
+use Rattle.rawk_reading.specs.declared.reading.Reading.TheVariants as reading
 use Rattle.rawk_operands.specs.Borrowed.{global_in}
 use Rattle.rawk_operands.specs.Moving.{Moving, full}
 use Rattle.rawk_value.specs.declared.fault.Fault.TheVariants as fault

@@ -1,8 +1,8 @@
 use Rattle.std.specs.Prelude.{slice_range}
 use Rattle.rawk_operands.specs.Moving.{moving}
-use Rattle.rawk_travel.specs.Reading.{taken_of}
-use Rattle.rawk_travel.proofs.Readings.{finds_taken}
-use Rattle.rawk_travel.proofs.reading.take_found.Goals as goal
+use Rattle.rawk_reading.specs.Reading.{taken_of}
+use Rattle.rawk_reading.proofs.Readings.{finds_taken}
+use Rattle.rawk_reading.proofs.reading.take_found.Goals as goal
 
 pub returns-in-Taken-clause-did : goal.returns-in-Taken-clause-did
 returns-in-Taken-clause-did g c =

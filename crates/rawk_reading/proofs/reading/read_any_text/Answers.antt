@@ -2,11 +2,11 @@ use Rattle.std.proofs.Common.{◌≡◌, Some, refl}
 use Rattle.std.specs.Prelude.{slice_range}
 use Rattle.rawk_tape.specs.declared.source.Ending.TheVariants.{Failed}
 use Rattle.rawk_operands.specs.Moving.{moving}
-use Rattle.rawk_travel.specs.Reading.{text_taken_of, ReadsText}
-use Rattle.rawk_travel.proofs.Quiets.{quiet_text}
-use Rattle.rawk_travel.proofs.Readings.{texts_found, texts_missing, texts_fault, found_did, missing_did, fault_did, fault_quiet, found_quiet, found_calm, found_places}
-use Rattle.rawk_travel.proofs.Askings.{last_due, draws_ahead}
-use Rattle.rawk_travel.proofs.reading.read_any_text.Goals as goal
+use Rattle.rawk_reading.specs.Reading.{text_taken_of, ReadsText}
+use Rattle.rawk_reading.proofs.Quiets.{quiet_text}
+use Rattle.rawk_reading.proofs.Readings.{texts_found, texts_missing, texts_fault, found_did, missing_did, fault_did, fault_quiet, found_quiet, found_calm, found_places}
+use Rattle.rawk_reading.proofs.Drawings.{last_due, draws_ahead}
+use Rattle.rawk_reading.proofs.reading.read_any_text.Goals as goal
 
 pub returns-in-Err-clause-did : goal.returns-in-Err-clause-did
 returns-in-Err-clause-did g c =

@@ -11,18 +11,15 @@ use Rattle.rawk_tape.specs.Tapes.{TapeState, MayBe, Answers, text_at}
 use Rattle.rawk_tape.specs.declared.found.Found.{Found as Place}
 use Rattle.rawk_store.specs.State.{RS}
 use Rattle.rawk_code.specs.Actions.{Point, read_record, Breaks, Stops, Faulted}
-use Rattle.rawk_travel.specs.declared.reading.Reading.{Reading}
-use Rattle.rawk_travel.specs.declared.reading.Reading.TheVariants as reading
+use Rattle.rawk_reading.specs.declared.reading.Reading.{Reading}
+use Rattle.rawk_reading.specs.declared.reading.Reading.TheVariants as reading
 use Rattle.rawk_operands.specs.Borrowed.{global_in}
 use Rattle.rawk_operands.specs.Moving.{Moving}
+use Rattle.rawk_operands.specs.Oks.{if_ok}
 use Rattle.rawk_operate.specs.Done.{IsCalm}
-use Rattle.rawk_travel.specs.Reading.{Takes, taken_of, text_taken_of, Finds, with_consumed, ReadsTo, ReadsText, KeepsPlaces, IsQuietReading, run_in}
-use Rattle.rawk_travel.proofs.Takings.{read_missing, read_fault, read_taken, read_refused, text_missing, text_fault, text_found, text_stands}
-use Rattle.rawk_travel.proofs.Quiets.{calm_quiet, quiet_next_record}
-
-pub if_ok : {A E : Type 0} (P Q : A → Type 0) (r : Result A E) → IfOk r P → ((v : A) → P v → Q v) → IfOk r Q
-if_ok P Q (Ok v) p f = f v p
-if_ok P Q (Err e) p f = tt
+use Rattle.rawk_reading.specs.Reading.{Takes, taken_of, text_taken_of, Finds, with_consumed, ReadsTo, ReadsText, KeepsPlaces, IsQuietReading, run_in}
+use Rattle.rawk_reading.proofs.Takings.{read_missing, read_fault, read_taken, read_refused, text_missing, text_fault, text_found, text_stands}
+use Rattle.rawk_reading.proofs.Quiets.{calm_quiet, quiet_next_record}
 
 -- the tape's input does not depend on what is consumed
 pub maybe_consumed : {S : Type 0} (may_give : S → Input → Type 0) (t u : TapeState S) (kept : Input) → u ≡ record t { consumed = u.consumed } → MayBe may_give u kept → MayBe may_give t kept

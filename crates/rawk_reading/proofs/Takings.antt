@@ -14,7 +14,7 @@ use Rattle.rawk_store.specs.State.{State, NR, FNR, FS, RS, global_text, with_glo
 use Rattle.rawk_code.specs.Actions.{Point, Goes, Breaks, Stops, Faulted, and_then, need, Reading, one_more, counted, kept, taken, read_record, text_taken, read_text}
 use Rattle.rawk_operands.specs.Borrowed.{global_in}
 use Rattle.rawk_operands.specs.Moving.{Moving, full}
-use Rattle.rawk_travel.specs.Reading.{counter_up, shown_of, with_reading, taken_of, with_counted_text, text_taken_of, with_consumed, KeepsPlaces, run_in}
+use Rattle.rawk_reading.specs.Reading.{counter_up, shown_of, with_reading, taken_of, with_counted_text, text_taken_of, with_consumed, KeepsPlaces, run_in}
 use Rattle.rawk_tape.specs.Laws.{moved, next_record-before}
 
 next_next : {A B C : Type 0} (r : Result A Fault) (f : A → Result B Fault) (g : B → Result C Fault) → next_ok (next_ok r f) g ≡ next_ok r (λ x. next_ok (f x) g)

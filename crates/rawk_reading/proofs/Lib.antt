@@ -1,0 +1,4 @@
+pub mod Quiets
+pub mod Takings
+pub mod Readings
+pub mod Drawings
