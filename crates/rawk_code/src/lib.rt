@@ -1,6 +1,7 @@
 //! What programs mean, and what instructions do.
 #![tactic(auto)]
 
+pub mod chain;
 pub mod code;
 mod fields_sought;
 pub mod fitting;
@@ -9,6 +10,7 @@ pub mod quick;
 pub mod sets;
 pub mod settings;
 
+pub use chain::{Chain, Compared, Link, Member};
 pub use code::{
     Code, Computation, Destination, Entry, Instr, Op, Operand, Simple, Simples, Variable,
 };
