@@ -1,5 +1,5 @@
 -- What the calls of a reading answer, put together.
-use Rattle.std.proofs.Common.{◌≡◌, ◌≢◌, ℕ, ◌≤◌, Bool, List, Option, None, Some, Result, Ok, Err, refl, sym, ap, ◌∙◌, subst, true}
+use Rattle.std.proofs.Common.{◌≡◌, ◌≢◌, ℕ, List, Option, None, Some, Result, Ok, Err, refl, sym, ap, ◌∙◌, subst, true}
 use Rattle.std.specs.Prelude.{IfOk, slice_range}
 use Rattle.rawk_value.specs.declared.fault.Fault.{Fault}
 use Rattle.rawk_value.specs.declared.fault.Fault.TheVariants as fault
@@ -10,7 +10,7 @@ use Rattle.rawk_tape.specs.Inputs.{before}
 use Rattle.rawk_tape.specs.Tapes.{TapeState, MayBe, Answers, text_at}
 use Rattle.rawk_tape.specs.declared.found.Found.{Found as Place}
 use Rattle.rawk_store.specs.State.{RS}
-use Rattle.rawk_code.specs.Actions.{Point, read_record, Breaks, Stops, Faulted}
+use Rattle.rawk_code.specs.Actions.{Point}
 use Rattle.rawk_reading.specs.declared.reading.Reading.{Reading}
 use Rattle.rawk_reading.specs.declared.reading.Reading.TheVariants as reading
 use Rattle.rawk_operands.specs.Borrowed.{global_in}
