@@ -1,7 +1,7 @@
 //! Activations: how a call enters one with its arguments, and how all of them are left.
 
 ghost use Rattle.std.specs.Bool.{OnTrue};
-ghost use Rattle.std.specs.Prelude.{◌≡◌, ◌+◌, ◌^◌, ◌<◌, List, [], take, MatchOption, OnOk};
+ghost use Rattle.std.specs.Prelude.{◌≡◌, ◌+◌, ◌^◌, ◌<◌, List, [], ◌∷◌, take, MatchOption, OnOk};
 ghost use Rattle.rawk_store.specs.Layout.{Grown};
 ghost use Rattle.rawk_store.specs.Stores.{start_of};
 ghost use Rattle.rawk_words.specs.declared.array.Array.{Array};
@@ -14,7 +14,7 @@ ghost use Rattle.rawk_calls.specs.Activations.{called_in, outside};
 use crate::arguments::{add_locals, each_number};
 use crate::light::take_light;
 use rawk_code::Entry;
-use rawk_store::{Frames, Store};
+use rawk_store::{Frames, Store, array_number};
 use rawk_words::Array;
 use std::alloc::{AllocError, Global};
 
@@ -46,6 +46,24 @@ fn take_numbered<const SAVES: bool>(
     Ok(())
 }
 
+/// The same of a call that passes one array: no list of numbers is made.
+#[inline(never)]
+fn take_array<const SAVES: bool>(
+    alloc: Global,
+    array: Array,
+    store: &mut Store,
+    function: usize,
+    count: usize,
+    entry: &Entry,
+) -> Result<(), AllocError>
+    requires place { store.old.registers.now.place + 1 < 2 ^ 64 }
+    ensures did { OnOk result (moving store.new ≡ called_in entry.now function count (array ∷ []) (moving store.old)) }
+    ensures start { OnTrue SAVES (Grown (start_of store.old) (start_of store.new)) }
+{
+    let number = array_number(&store.frames, array);
+    take_numbered::<SAVES>(alloc, &[number], store, function, count, entry)
+}
+
 /// The same of a call that passes these arrays.
 #[inline(never)]
 fn take_arrays<const SAVES: bool>(
@@ -60,6 +78,9 @@ fn take_arrays<const SAVES: bool>(
     ensures did { OnOk result (moving store.new ≡ called_in entry.now function count arrays.now (moving store.old)) }
     ensures start { OnTrue SAVES (Grown (start_of store.old) (start_of store.new)) }
 {
+    if let [array] = arrays {
+        return take_array::<SAVES>(alloc, *array, store, function, count, entry);
+    }
     let numbers = each_number(alloc, &store.frames, arrays)?;
     take_numbered::<SAVES>(alloc, &numbers, store, function, count, entry)
 }
