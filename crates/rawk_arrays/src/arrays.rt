@@ -298,6 +298,21 @@ impl Arrays {
         None
     }
 
+    /// The same where it is noted.
+    #[inline(never)]
+    pub fn place_noted(&self, array: usize, key: i64) -> Option<usize>
+        ensures { IfSome result (λ p. IsPlaceOf array (text_of (Value.Number key)) p self.now.now) }
+    {
+        if array >= self.live {
+            return None;
+        }
+        let place = self.index.noted(array, key)?;
+        if place < self.cells.len() {
+            return Some(place);
+        }
+        None
+    }
+
     /// The places of the elements at the keys from 1 on, as far as these are known to have come one behind another, until the step ends: no search, and a run of none says nothing.
     #[inline(always)]
     pub fn places_from_one(&self, array: usize) -> Run
@@ -435,7 +450,7 @@ impl Arrays {
         }
     }
 
-    /// Deletes the element at the key of a number, if it is there, without a search where the keys from 1 to it came one behind another. It fails where memory is refused, and
+    /// Deletes the element at the key of a number, if it is there, without a search where the keys from 1 to it came one behind another, or where its place is noted. It fails where memory is refused, and
     /// then no element has changed.
     pub fn delete_numbered<const SAVES: bool>(
         &mut self,
@@ -446,12 +461,11 @@ impl Arrays {
         ensures err { OnErr result (arrays_of self.new.now ≡ arrays_of self.old.now) }
         ensures start { OnTrue SAVES (self.new.start ≡ self.old.start) }
     {
-        if array < self.live {
-            if let Some(place) = self.index.in_series(array, key) {
-                if place < self.cells.len() {
-                    return self.remove_at::<SAVES>(place);
-                }
-            }
+        if let Some(place) = self.place_in_series(array, key) {
+            return self.remove_at::<SAVES>(place);
+        }
+        if let Some(place) = self.place_noted(array, key) {
+            return self.remove_at::<SAVES>(place);
         }
         let mut digits = Buffer::new();
         self.delete::<SAVES>(array, digits_in(key, &mut digits))

@@ -102,7 +102,7 @@ pub(crate) fn slot_for(
     Ok(number)
 }
 
-/// The same of a number's key, whose slot is noted, so that it is found without a search where it stands in a series.
+/// The same of a number's key, without a search where its slot is noted, as it is then.
 #[inline(never)]
 pub(crate) fn slot_for_number(
     alloc: Global,
@@ -122,6 +122,12 @@ pub(crate) fn slot_for_number(
     ensures now { IsSpread cells.old.now cells.new.now }
     ensures start { IsSpread cells.old.start cells.new.start }
 {
+    if let Some(number) = index.noted(array, key) {
+        if number < cells.len() {
+            return Ok(number);
+        }
+    }
+    let before = index.len();
     let mut digits = Buffer::new();
     let number = slot_for(
         alloc,
@@ -131,7 +137,11 @@ pub(crate) fn slot_for_number(
         array,
         digits_in(key, &mut digits),
     )?;
-    index.note(array, key, number);
+    if number < before {
+        index.note_found(array, key, number);
+    } else {
+        index.note(array, key, number);
+    }
     Ok(number)
 }
 

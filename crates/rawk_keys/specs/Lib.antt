@@ -5,3 +5,4 @@ pub mod Hash
 pub mod KeysLaid
 pub mod Found
 pub mod Series
+pub mod Notes

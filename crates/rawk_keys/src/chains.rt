@@ -107,7 +107,7 @@ impl Chains {
 }
 
 /// The chain of a label.
-fn bucket(label: usize, count: usize) -> usize
+pub(crate) fn bucket(label: usize, count: usize) -> usize
     requires { 0 < count }
     ensures value { result ≡ bit_and label (count - 1) }
     ensures below { result < count }

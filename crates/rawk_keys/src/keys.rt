@@ -12,7 +12,8 @@ ghost use Rattle.rawk_keys.specs.KeysLaid.{AreWithin, AreLaid, keys_of};
 
 use crate::chains::{Chains, short};
 use crate::hash::{hash, seeded_basis};
-use crate::series::{Run, Series, entries_from_one, entry_of, note_entry};
+use crate::notes::{Note, note_apart, noted_entry};
+use crate::series::{Run, Series, begin, entries_from_one, entry_of, has_series, lengthen};
 use std::alloc::{AllocError, Global};
 use std::marker::Model;
 
@@ -36,6 +37,8 @@ pub struct Keys {
     by_array: Chains,
     // A series of each array, by its number; an array that has none is past the end, or has one of no entries.
     series: Vec<Series>,
+    // Entries of keys that are numbers.
+    notes: Vec<Note>,
 }
 
 impl Model for Keys {
@@ -49,7 +52,7 @@ impl Model for Keys {
 
     ghost view = { λ n. keys_of n.text.items n.by_array n.spans.items };
 
-    ghost invariant = { λ n. AreKept n.basis n.text.items n.spans.items n.by_hash n.by_array n.series.items };
+    ghost invariant = { λ n. AreKept n.basis n.text.items n.spans.items n.by_hash n.by_array n.series.items n.notes.items };
 }
 
 impl Keys {
@@ -149,6 +152,14 @@ impl Keys {
         entry_of(&self.series, array, key)
     }
 
+    /// The entry of a number's key, where it is noted: no search, and `None` says nothing of the keys.
+    #[inline(always)]
+    pub fn noted(&self, array: usize, key: i64) -> Option<usize>
+        ensures { IfSome result (λ i. slice_get self.now i ≡ Some (array_key array (text_of (Number key)))) }
+    {
+        noted_entry(&self.notes, array, key)
+    }
+
     /// The entries of an array's keys from 1 on, as far as they are known to stand one behind another: no search, and a run of none says nothing of the keys.
     #[inline(always)]
     pub fn from_one(&self, array: usize) -> Run
@@ -157,14 +168,27 @@ impl Keys {
         entries_from_one(&self.series, array)
     }
 
-    /// Notes the entry of a number's key: the key behind the last one of the array's series, at the entry behind the last one, lengthens it, and else key 1 begins it anew, and so does any
-    /// number of 32 bits where the series has one key at most.
-    /// Nothing is seen of it; where memory is refused, nothing is noted.
+    /// Notes the entry of a number's key that was just added: the key behind the last one of the array's series, at the entry behind the last one, lengthens it, and else key 1 begins it
+    /// anew, and so does any number of 32 bits where the series has one key at most. Nothing is seen of it; where memory is refused, nothing is noted.
     pub fn note(&mut self, array: usize, key: i64, entry: usize)
         requires { slice_get self.old entry ≡ Some (array_key array (text_of (Number key))) }
         ensures { self.new ≡ self.old }
     {
-        note_entry(&mut self.series, array, key, entry);
+        if !lengthen(&mut self.series, array, key, entry) {
+            begin(&mut self.series, array, key, entry);
+        }
+    }
+
+    /// The same of one that was found: what neither begins the first series of the array nor lengthens it is noted for itself, over another number's note that stood in its place.
+    pub fn note_found(&mut self, array: usize, key: i64, entry: usize)
+        requires { slice_get self.old entry ≡ Some (array_key array (text_of (Number key))) }
+        ensures { self.new ≡ self.old }
+    {
+        if !has_series(&self.series, array) {
+            begin(&mut self.series, array, key, entry);
+        } else if !lengthen(&mut self.series, array, key, entry) {
+            note_apart(&mut self.notes, array, key, entry);
+        }
     }
 
     /// The last entry of an array.
@@ -213,6 +237,7 @@ fn none_from(alloc: Global, basis: usize) -> Keys
         by_hash: Chains::new(alloc),
         by_array: Chains::new(alloc),
         series: Vec::new(alloc),
+        notes: Vec::new(alloc),
     }
 }
 

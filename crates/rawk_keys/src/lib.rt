@@ -4,6 +4,7 @@
 pub mod chains;
 mod hash;
 pub mod keys;
+mod notes;
 mod series;
 
 pub use chains::Chains;

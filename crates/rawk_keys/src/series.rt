@@ -59,19 +59,15 @@ pub(crate) fn entries_from_one(series: &[Series], array: usize) -> Run
     Run { first: 0, count: 0 }
 }
 
-/// Notes the entry of a number's key.
+/// Whether an array has a series.
 #[inline(always)]
-pub(crate) fn note_entry(series: &mut Vec<Series>, array: usize, key: i64, entry: usize)
-    ensures { (keys : List ArrayKey) → slice_get keys entry ≡ Some (array_key array (text_of (Number key))) → AreSeries series.old.items keys → AreSeries series.new.items keys }
-{
-    if !lengthen(series, array, key, entry) {
-        begin(series, array, key, entry);
-    }
+pub(crate) fn has_series(series: &[Series], array: usize) -> bool {
+    array < series.len() && series[array].count > 0
 }
 
-// Begins the series of an array anew at the entry of a key, where this is 1 or the series has one key at most.
+/// Begins the series of an array anew at the entry of a key, where this is 1 or the series has one key at most.
 #[inline(never)]
-fn begin(series: &mut Vec<Series>, array: usize, key: i64, entry: usize)
+pub(crate) fn begin(series: &mut Vec<Series>, array: usize, key: i64, entry: usize)
     ensures { (keys : List ArrayKey) → slice_get keys entry ≡ Some (array_key array (text_of (Number key))) → AreSeries series.old.items keys → AreSeries series.new.items keys }
 {
     reach(series, array);
@@ -105,9 +101,9 @@ fn reach(series: &mut Vec<Series>, array: usize)
     }
 }
 
-// Lengthens the series of an array, where the key and its entry are those behind its last, and answers whether it did.
+/// Lengthens the series of an array, where the key and its entry are those behind its last, and answers whether it did.
 #[inline(always)]
-fn lengthen(series: &mut Vec<Series>, array: usize, key: i64, entry: usize) -> bool
+pub(crate) fn lengthen(series: &mut Vec<Series>, array: usize, key: i64, entry: usize) -> bool
     ensures { (keys : List ArrayKey) → slice_get keys entry ≡ Some (array_key array (text_of (Number key))) → AreSeries series.old.items keys → AreSeries series.new.items keys }
 {
     if array >= series.len() {

@@ -2,7 +2,7 @@ use Rattle.std.proofs.Common.{◌≡◌, ◌∙◌, ap, sym, length, slice_get, 
 use Rattle.rawk_keys.specs.ArrayKey.{ArrayKey, array_key}
 use Rattle.rawk_keys.specs.KeysLaid.{keys_of}
 use Rattle.rawk_keys.proofs.KeyLemmas.{names_length}
-use Rattle.rawk_keys.proofs.SeriesLaws.{entry_last, series_added}
+use Rattle.rawk_keys.proofs.SeriesLaws.{entry_last, series_added, notes_added}
 use Rattle.rawk_keys.proofs.keys.Keys.entry.Goals as goal
 
 pub invariant_of-self-2 : goal.invariant_of-self-2
@@ -12,6 +12,7 @@ invariant_of-self-2 c =
     record {
       laid = c.add_key.ensures.array_key;
       known = series_added c.add_key.result s.series.items (keys_of s.text.items s.by_array s.spans.items) (keys_of new.text.items new.by_array new.spans.items) (array_key c.args.array c.args.key.now ∷ []) c.add_key.ensures.did c.add_key.ensures.err c.self.invariant.known;
+      noted = notes_added c.add_key.result s.notes.items (keys_of s.text.items s.by_array s.spans.items) (keys_of new.text.items new.by_array new.spans.items) (array_key c.args.array c.args.key.now ∷ []) c.add_key.ensures.did c.add_key.ensures.err c.self.invariant.noted;
     }
 
 pub returns-clause-there : goal.returns-clause-there
