@@ -2,7 +2,7 @@
 use Rattle.std.proofs.Common.{◌≡◌, ℕ, zero, suc, ◌+◌, ◌-◌, ◌*◌, ◌/◌, ◌%◌, ◌<◌, ◌≤◌, ◌⊎◌, inl, inr, Bool, true, false, List, [], length, get_or, Option, Some, None, refl, sym, ap, ◌∙◌, subst, arith, true≢false}
 use Rattle.std.specs.Prelude.{◌↔◌, IsTrue, Contains, slice_index}
 use Rattle.std.proofs.lemmas.Option.{slice_get_within}
-use Rattle.std.proofs.lemmas.Bool.{cases_eq, cases_lt}
+use Rattle.std.proofs.lemmas.Bool.{cases_Bool, cases_eq, cases_lt}
 use Rattle.std.proofs.lemmas.List.Elements.{Contains-append_cases}
 use Rattle.rawk_ere_tree.specs.declared.code.Instruction.{Instruction}
 use Rattle.rawk_ere_tree.specs.Ends.{IsLast}
@@ -139,10 +139,10 @@ module _ (code : List Instruction) (s : List ℕ) where
     before = none_before code true s i;
   }
 
-  pub running_stop : (sets : List (ℕ × List ℕ)) (i at row : ℕ) (longest : Option ℕ) → i ≤ at → at < length s → length (members sets row) ≡ 0 → Running sets i at row longest → IsFarthest code true s i longest
+  running_stop : (sets : List (ℕ × List ℕ)) (i at row : ℕ) (longest : Option ℕ) → i ≤ at → at < length s → length (members sets row) ≡ 0 → Running sets i at row longest → IsFarthest code true s i longest
   running_stop sets i at row longest le lt z r = farthest_stop code true s i at (members sets row) longest le z (reached_within i at (members sets row) lt r.reached) r.before
 
-  pub running_next : (sets : List (ℕ × List ℕ)) (next : List ℕ) (i at row b row' : ℕ) (longest result : Option ℕ) (ends : Bool) → AreFilled code sets next → length next ≡ 256 * length sets
+  running_next : (sets : List (ℕ × List ℕ)) (next : List ℕ) (i at row b row' : ℕ) (longest result : Option ℕ) (ends : Bool) → AreFilled code sets next → length next ≡ 256 * length sets
       → i ≤ at → at < length s → b ≡ get_or s at 0 → b < 256 → row' ≡ get_or next (row * 256 + b) 0 → IsTrue ends ↔ Contains (members sets row) (length code)
       → (IsTrue ends × (result ≡ Some at)) ⊎ ((IsTrue ends → ⊥) × (result ≡ longest)) → Running sets i at row longest → Running sets i (at + 1) row' result
   running_next sets next i at row b row' longest result ends f all le lt eb lb e is c r =
@@ -271,7 +271,7 @@ module _ (code : List Instruction) (s : List ℕ) where
   none_may_seek t is from upto pos le fits h = λ i low lt m. may_not_here t is i (later_on t from i low pos) (omega (arith, lt, le)) fits (h i low lt) m
 
   -- an end at the row is one of a way
-  pub running_way : (sets : List (ℕ × List ℕ)) (i at row : ℕ) (longest : Option ℕ) → at < length s → Contains (members sets row) (length code) → Running sets i at row longest → (n : ℕ) × Path code true s n 0 i (length code) at
+  running_way : (sets : List (ℕ × List ℕ)) (i at row : ℕ) (longest : Option ℕ) → at < length s → Contains (members sets row) (length code) → Running sets i at row longest → (n : ℕ) × Path code true s n 0 i (length code) at
   running_way sets i at row longest lt h r = (reached_within i at (members sets row) lt r.reached).sound (length code) h
 
   pub running_way_last : (sets : List (ℕ × List ℕ)) (i at row : ℕ) (longest : Option ℕ) (ends : Bool) (l : EndsLast code (members sets row) ends) → i ≤ at → 0 < at → at ≡ length s → IsTrue ends → Running sets i at row longest
@@ -287,16 +287,16 @@ module _ (code : List Instruction) (s : List ℕ) where
         | inr v ↦ (let x = l.copies.only o.0 v in omega (arith, x.1))
       ]
 
-  -- no way ends where nothing is left, if none ended before
-  none_ends : (t : Table) (is : IsTable code t) (i at : ℕ) → i < at → at ≤ length s → Running is.sets i at t.dead None → (j : ℕ) → (n : ℕ) × Path code true s n 0 i (length code) j → ⊥
-  none_ends t is i at lt le r j w =
+  -- where nothing is left, the longest way so far is the longest of all
+  pub farthest_dead : (t : Table) (is : IsTable code t) (i at : ℕ) (longest : Option ℕ) → i < at → at ≤ length s → Running is.sets i at t.dead longest → IsFarthest code true s i longest
+  farthest_dead t is i at longest lt le r =
       let z = is.none r.within in
-      let f : IsFarthest code true s i None = elim (cases_lt at (length s)) [
-        | inl more ↦ running_stop is.sets i at t.dead None (omega (arith, lt)) more z r
+      elim (cases_lt at (length s)) [
+        | inl more ↦ running_stop is.sets i at t.dead longest (omega (arith, lt)) more z r
         | inr last ↦
-            running_end is.sets i at t.dead None None (get_or t.last_ends.items t.dead false) (is.last t.dead r.within) (omega (arith, lt)) (omega (arith, lt)) (omega (arith, last, le)) r (inr (none_last (members is.sets t.dead) (get_or t.last_ends.items t.dead false) z (is.last t.dead r.within), refl))
-      ] in
-      f j w.0 w.1
+            running_end is.sets i at t.dead longest longest (get_or t.last_ends.items t.dead false) (is.last t.dead r.within) (omega (arith, lt)) (omega (arith, lt)) (omega (arith, last, le)) r
+            (inr (none_last (members is.sets t.dead) (get_or t.last_ends.items t.dead false) z (is.last t.dead r.within), refl))
+      ]
 
   -- an end at the end of the text as well
   ends_also_last : (t : Table) (is : IsTable code t) (row : ℕ) → row < length is.sets → get_or t.ends.items row false ≡ true → IsTrue (get_or t.last_ends.items row false)
@@ -305,26 +305,69 @@ module _ (code : List Instruction) (s : List ℕ) where
       let here = (is.ends_are row lt).0 e in
       l.is.1 (l.closes.keeps (length code) (l.copies.has (length code) here (omega arith)))
 
+  -- a byte leads on from a row
+  running_step : (t : Table) (is : IsTable code t) (i at row b row' : ℕ) (longest result : Option ℕ) → i ≤ at → at < length s → b ≡ get_or s at 0 → b < 256 → row' ≡ get_or t.next.items (row * 256 + b) 0
+      → (IsTrue (get_or t.ends.items row false) × (result ≡ Some at)) ⊎ ((IsTrue (get_or t.ends.items row false) → ⊥) × (result ≡ longest)) → Running is.sets i at row longest → Running is.sets i (at + 1) row' result
+  running_step t is i at row b row' longest result le lt eb lb e c r =
+      running_next is.sets t.next.items i at row b row' longest result (get_or t.ends.items row false) is.filled is.all le lt eb lb e (is.ends_are row r.within) c r
+
+  -- the same from a row where no way ends
+  pub running_on : (t : Table) (is : IsTable code t) (i at row b row' : ℕ) (longest : Option ℕ) → i ≤ at → at < length s → b ≡ get_or s at 0 → b < 256 → row' ≡ get_or t.next.items (row * 256 + b) 0
+      → get_or t.ends.items row false ≡ false → Running is.sets i at row longest → Running is.sets i (at + 1) row' longest
+  running_on t is i at row b row' longest le lt eb lb e ne r = running_step t is i at row b row' longest longest le lt eb lb e (inr (λ x. true≢false (sym x ∙ ne), refl)) r
+
+  -- what a walk keeps that looks at the marks of a row where a byte leads to another one
+  pub record Lagging (sets : List (ℕ × List ℕ)) (ends : List Bool) (i at row : ℕ) (longest : Option ℕ) : Type 0 where
+    pub real : Option ℕ
+    pub runs : Running sets i at row real
+    pub agrees : (IsTrue (get_or ends row false) → ⊥) → real ≡ longest
+
+  pub lagging_from : (sets : List (ℕ × List ℕ)) (ends : List Bool) (i at row : ℕ) (longest : Option ℕ) → Running sets i at row longest → Lagging sets ends i at row longest
+  lagging_from sets ends i at row longest r = record { real = longest; runs = r; agrees = λ _. refl }
+
+  pub lagging_stay : (t : Table) (is : IsTable code t) (i at row b : ℕ) (longest : Option ℕ) → i ≤ at → at < length s → b ≡ get_or s at 0 → b < 256 → row ≡ get_or t.next.items (row * 256 + b) 0
+      → Lagging is.sets t.ends.items i at row longest → Lagging is.sets t.ends.items i (at + 1) row longest
+  lagging_stay t is i at row b longest le lt eb lb e l = elim (cases_Bool (get_or t.ends.items row false)) [
+    | inl end ↦ record { real = Some at; runs = running_step t is i at row b row l.real (Some at) le lt eb lb e (inl (end, refl)) l.runs; agrees = λ no. absurd (no end) }
+    | inr ne ↦ record { real = l.real; runs = running_on t is i at row b row l.real le lt eb lb e ne l.runs; agrees = l.agrees }
+  ]
+
+  pub lagging_leave : (t : Table) (is : IsTable code t) (i at row b row' : ℕ) (longest result : Option ℕ) (ends : Bool) → i ≤ at → at < length s → b ≡ get_or s at 0 → b < 256 → row' ≡ get_or t.next.items (row * 256 + b) 0 → get_or t.ends.items row false ≡ ends
+      → (IsTrue ends × (result ≡ Some at)) ⊎ ((IsTrue ends → ⊥) × (result ≡ longest)) → Lagging is.sets t.ends.items i at row longest → Running is.sets i (at + 1) row' result
+  lagging_leave t is i at row b row' longest result ends le lt eb lb e ee c l =
+      running_step t is i at row b row' l.real result le lt eb lb e (elim c [ inl h ↦ inl (ee ∙ h.0, h.1) | inr h ↦ let no : IsTrue (get_or t.ends.items row false) → ⊥ = λ x. h.0 (sym ee ∙ x) in inr (no, h.1 ∙ sym (l.agrees no)) ]) l.runs
+
+  pub lagging_end : (t : Table) (is : IsTable code t) (i at row : ℕ) (longest result : Option ℕ) (ends : Bool) → i ≤ at → 0 < at → at ≡ length s → get_or t.last_ends.items row false ≡ ends
+      → (IsTrue ends × (result ≡ Some at)) ⊎ ((IsTrue ends → ⊥) × (result ≡ longest)) → Lagging is.sets t.ends.items i at row longest → IsFarthest code true s i result
+  lagging_end t is i at row longest result ends le pos e ee c l =
+      running_end is.sets i at row l.real result ends (subst (EndsLast code (members is.sets row)) ee (is.last row l.runs.within)) le pos e l.runs
+      (elim c [ inl h ↦ inl h | inr h ↦ inr (h.0, h.1 ∙ sym (l.agrees (λ x. h.0 (sym ee ∙ ends_also_last t is row l.runs.within x)))) ])
+
+  -- an end at a row is one of a way, also at the end of the text
+  pub running_mark : (t : Table) (is : IsTable code t) (i at row : ℕ) (longest : Option ℕ) → i ≤ at → at ≤ length s → 0 < length s → get_or t.ends.items row false ≡ true → Running is.sets i at row longest → (n : ℕ) × Path code true s n 0 i (length code) at
+  running_mark t is i at row longest le within some end r = elim (cases_lt at (length s)) [
+    | inl more ↦ running_way is.sets i at row longest more ((is.ends_are row r.within).0 end) r
+    | inr last ↦ running_way_last is.sets i at row longest (get_or t.last_ends.items row false) (is.last row r.within) le (omega (arith, last, some)) (omega (arith, last, within)) (ends_also_last t is row r.within end) r
+  ]
+
+  -- the next row is the same one, or one where no way ends
+  pub unmarked_next : (t : Table) (row to row' : ℕ) → get_or t.ends.items row false ≡ false → ((row' ≡ to) × (get_or t.ends.items to false ≡ false)) ⊎ ((row' ≡ row) × (to ≡ row)) → (row' ≡ to) × (get_or t.ends.items row' false ≡ false)
+  unmarked_next t row to row' ne (inl h) = (h.0, ap (λ x. get_or t.ends.items x false) h.0 ∙ h.1)
+  unmarked_next t row to row' ne (inr h) = (h.0 ∙ sym h.1, ap (λ x. get_or t.ends.items x false) h.0 ∙ ne)
+
   -- a way of one byte is the longest, where no byte leads on from its end
   pub single_farthest : (t : Table) (is : IsTable code t) (at b to : ℕ) → IsLater t at → at < length s → b ≡ get_or s at 0 → b < 256 → ((k : ℕ) → get_or s k 0 < 256) → to ≡ get_or t.next.items (t.later * 256 + b) 0
       → get_or t.ends.items t.later false ≡ false → get_or t.ends.items to false ≡ true → IsLastRow t.next.items t.dead to → IsFarthest code true s at (Some (at + 1))
   single_farthest t is at b to pos lt eb lb fits e ne ends last =
       let r0 = running_later t is at pos in
-      let r1 = running_next is.sets t.next.items at at t.later b to None None (get_or t.ends.items t.later false) is.filled is.all (omega arith) lt eb lb e (is.ends_are t.later r0.within) (inr (λ x. true≢false (sym x ∙ ne), refl)) r0 in
+      let r1 = running_on t is at at t.later b to None (omega arith) lt eb lb e ne r0 in
       elim (cases_lt (at + 1) (length s)) [
         | inr end ↦
             running_end is.sets at (at + 1) to None (Some (at + 1)) (get_or t.last_ends.items to false) (is.last to r1.within) (omega arith) (omega arith) (omega (arith, end, lt)) r1
             (inl (ends_also_last t is to r1.within ends, refl))
         | inl more ↦
-            let next = get_or s (at + 1) 0 in
-            let r2 = running_next is.sets t.next.items at (at + 1) to next t.dead None (Some (at + 1)) (get_or t.ends.items to false) is.filled is.all (omega arith) more refl (fits (at + 1)) (sym (last next (fits (at + 1)))) (is.ends_are to r1.within) (inl (ends, refl)) r1 in
-            let z = is.none r2.within in
-            elim (cases_lt (at + 1 + 1) (length s)) [
-              | inl on ↦ running_stop is.sets at (at + 1 + 1) t.dead (Some (at + 1)) (omega arith) on z r2
-              | inr end ↦
-                  running_end is.sets at (at + 1 + 1) t.dead (Some (at + 1)) (Some (at + 1)) (get_or t.last_ends.items t.dead false) (is.last t.dead r2.within) (omega arith) (omega arith) (omega (arith, end, more)) r2
-                  (inr (none_last (members is.sets t.dead) (get_or t.last_ends.items t.dead false) z (is.last t.dead r2.within), refl))
-            ]
+            let r2 = running_step t is at (at + 1) to (get_or s (at + 1) 0) t.dead None (Some (at + 1)) (omega arith) more refl (fits (at + 1)) (sym (last (get_or s (at + 1) 0) (fits (at + 1)))) (inl (ends, refl)) r1 in
+            farthest_dead t is at (at + 1 + 1) (Some (at + 1)) (omega arith) (omega (arith, more)) r2
       ]
 
   -- no way begins with the byte at the place
@@ -332,8 +375,8 @@ module _ (code : List Instruction) (s : List ℕ) where
       → (j : ℕ) → (n : ℕ) × Path code true s n 0 at (length code) j → ⊥
   begins_not t is at b pos lt eb lb ne nd j w =
       let r0 = running_later t is at pos in
-      let r1 = running_next is.sets t.next.items at at t.later b t.dead None None (get_or t.ends.items t.later false) is.filled is.all (omega arith) lt eb lb (sym nd) (is.ends_are t.later r0.within) (inr (λ x. true≢false (sym x ∙ ne), refl)) r0 in
-      none_ends t is at (at + 1) (omega arith) (omega (arith, lt)) r1 j w
+      let r1 = running_on t is at at t.later b t.dead None (omega arith) lt eb lb (sym nd) ne r0 in
+      farthest_dead t is at (at + 1) None (omega arith) (omega (arith, lt)) r1 j w.0 w.1
 
   -- the longest way of those that are one byte long
   pub single_is : (t : Table) (is : IsTable code t) (at to : ℕ) → 0 < at → at < length s → ((k : ℕ) → get_or s k 0 < 256) → t.begins.is_single ≡ true → to ≡ get_or t.next.items (t.later * 256 + get_or s at 0) 0
@@ -355,9 +398,9 @@ module _ (code : List Instruction) (s : List ℕ) where
   begins_not_pair t is at a b pos lt ea la eb lb ne ne' nd j w =
       let row = get_or t.next.items (t.later * 256 + a) 0 in
       let r0 = running_later t is at pos in
-      let r1 = running_next is.sets t.next.items at at t.later a row None None (get_or t.ends.items t.later false) is.filled is.all (omega arith) (omega (arith, lt)) ea la refl (is.ends_are t.later r0.within) (inr (λ x. true≢false (sym x ∙ ne), refl)) r0 in
-      let r2 = running_next is.sets t.next.items at (at + 1) row b t.dead None None (get_or t.ends.items row false) is.filled is.all (omega arith) lt eb lb (sym nd) (is.ends_are row r1.within) (inr (λ x. true≢false (sym x ∙ ne'), refl)) r1 in
-      none_ends t is at (at + 1 + 1) (omega arith) (omega (arith, lt)) r2 j w
+      let r1 = running_on t is at at t.later a row None (omega arith) (omega (arith, lt)) ea la refl ne r0 in
+      let r2 = running_on t is at (at + 1) row b t.dead None (omega arith) lt eb lb (sym nd) ne' r1 in
+      farthest_dead t is at (at + 1 + 1) None (omega arith) (omega (arith, lt)) r2 j w.0 w.1
 
   -- nor at a place that is passed over
   begins_not_here : (t : Table) (is : IsTable code t) (at : ℕ) → IsLater t at → at < length s → ((k : ℕ) → get_or s k 0 < 256) → get_or t.ends.items t.later false ≡ false → IsPassedOver t.begins s at

@@ -74,7 +74,7 @@ fn marked(ends: bool, at: usize, longest: Option<usize>) -> Option<usize>
     if ends { Some(at) } else { longest }
 }
 
-/// Walks from a place by a table of the code.
+/// Walks from a place by a table of the code. What a row is marked with is looked at where a byte leads to another row.
 pub fn run(table: &Table, code: &Code, text: &[u8], from: usize) -> Ran
     requires within { from ≤ length text.now }
     requires some { 0 < length text.now }
@@ -88,11 +88,17 @@ pub fn run(table: &Table, code: &Code, text: &[u8], from: usize) -> Ran
     let mut row = if from == 0 { table.start } else { table.later };
     let mut longest = None;
     for at in from..text.len() {
-        if row == table.dead {
-            return Ran { longest, stop: at };
+        let to = next[row * 256 + text[at] as usize] as usize;
+        if to != row {
+            longest = marked(ends[row], at, longest);
+            if to == table.dead {
+                return Ran {
+                    longest,
+                    stop: at + 1,
+                };
+            }
+            row = to;
         }
-        longest = marked(ends[row], at, longest);
-        row = next[row * 256 + text[at] as usize] as usize;
     }
     longest = marked(table.last_ends[row], text.len(), longest);
     Ran {
@@ -134,21 +140,31 @@ pub fn first_stop(table: &Table, code: &Code, text: &[u8], from: usize) -> Stopp
     ensures low { from ≤ result.stop }
     ensures high { result.stop ≤ length text.now }
 {
+    let next = table.next.as_slice();
     let mut row = if from == 0 { table.start } else { table.later };
+    if table.ends[row] {
+        return Stopped {
+            is_end: true,
+            stop: from,
+        };
+    }
     for at in from..text.len() {
-        if table.ends[row] {
-            return Stopped {
-                is_end: true,
-                stop: at,
-            };
+        let to = next[row * 256 + text[at] as usize] as usize;
+        if to != row {
+            if table.ends[to] {
+                return Stopped {
+                    is_end: true,
+                    stop: at + 1,
+                };
+            }
+            if to == table.dead {
+                return Stopped {
+                    is_end: false,
+                    stop: at + 1,
+                };
+            }
+            row = to;
         }
-        if row == table.dead {
-            return Stopped {
-                is_end: false,
-                stop: at,
-            };
-        }
-        row = table.next[row * 256 + text[at] as usize] as usize;
     }
     Stopped {
         is_end: table.last_ends[row],
@@ -194,12 +210,19 @@ pub fn first_end_by(wide: &Table, code: &Code, text: &[u8], from: usize) -> Opti
     requires widens { Widens code.now text.now }
     ensures { EndsFrom code.now text.now from (length text.now) result }
 {
+    let next = wide.next.as_slice();
     let mut row = if from == 0 { wide.start } else { wide.later };
+    if wide.ends[row] {
+        return Some(from);
+    }
     for at in from..text.len() {
-        if wide.ends[row] {
-            return Some(at);
+        let to = next[row * 256 + text[at] as usize] as usize;
+        if to != row {
+            if wide.ends[to] {
+                return Some(at + 1);
+            }
+            row = to;
         }
-        row = wide.next[row * 256 + text[at] as usize] as usize;
     }
     if wide.last_ends[row] {
         Some(text.len())
