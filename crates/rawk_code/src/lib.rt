@@ -6,6 +6,7 @@ pub mod code;
 mod fields_sought;
 pub mod fitting;
 pub mod formula;
+mod operations;
 pub mod quick;
 pub mod sets;
 pub mod settings;

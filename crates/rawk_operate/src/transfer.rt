@@ -1,10 +1,12 @@
 //! Where an instruction leads.
 
 ghost use Rattle.std.specs.Prelude.{◌≡◌};
+ghost use Rattle.rawk_code.specs.Actions.{decides};
 ghost use Rattle.rawk_operate.specs.Done.{led_by};
 
 use rawk_store::registers::Ending;
 use rawk_value::Fault;
+use rawk_words::Logic;
 
 /// Where an instruction leads.
 #[derive(Clone, Copy)]
@@ -40,6 +42,17 @@ pub enum Outcome {
     Next,
     /// its fault ends the run
     Faulted(Fault),
+}
+
+/// Whether a truth decides `&&` or `||`.
+#[inline(always)]
+pub fn decides(logic: Logic, holds: bool) -> bool
+    ensures { result ≡ decides logic holds }
+{
+    match logic {
+        Logic::And => !holds,
+        Logic::Or => holds,
+    }
 }
 
 /// Where an operation leads.
