@@ -102,7 +102,7 @@ pub(crate) fn slot_for(
     Ok(number)
 }
 
-/// The same of a number's key, without a search where its slot is noted, as it is then.
+/// The same of a number's key, without a search where its slot is noted; one that is found by a search, or added, is handed to the index to be noted.
 #[inline(never)]
 pub(crate) fn slot_for_number(
     alloc: Global,

@@ -118,7 +118,7 @@ fn is_taken(notes: &[Note], array: usize, key: i64) -> bool {
     notes[place_of(array, key, notes.len())].above > 0
 }
 
-// Doubles the places where there are fewer than two for each entry, and where memory for them is there.
+// Doubles the places where there are fewer than two for each entry up to this one, and where memory for them is there.
 fn widen(notes: &mut Vec<Note>, entry: usize)
     ensures { (keys : List ArrayKey) → AreNoted notes.old.items keys → AreNoted notes.new.items keys }
 {
