@@ -3,7 +3,8 @@
 
 use anyhow::{Result, anyhow};
 use memchr::memchr_iter;
-use rawk_ere::{Ere, EreError};
+use rawk_ere::Ere;
+use rawk_ere_pattern::EreError;
 use std::alloc::{AllocError, Global};
 use std::io::{BufRead, BufReader, Input, Read};
 

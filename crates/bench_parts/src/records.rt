@@ -2,8 +2,9 @@
 //! record by the separator, consumed bytes forgotten. With a word behind the separator, runs of newlines end records.
 
 use anyhow::Result;
+use rawk_devices::{Source, StdSource};
 use rawk_store::Current;
-use rawk_tape::{Source, StdSource, Tape};
+use rawk_tape::Tape;
 use rawk_value::Fault;
 use std::alloc::Global;
 use std::io::Input;

@@ -3,13 +3,13 @@ use Rattle.std.proofs.Common.{◌≡◌, ◌≢◌, ℕ, ◌+◌, ◌-◌, ◌^�
 use Rattle.std.proofs.lemmas.List.{append-nil, length-append, take-append-drop, length-take-le, get_or-append_right}
 use Rattle.std.proofs.Math.Seq.{take-append-add}
 use Rattle.rawk_value.specs.Values.{Bytes}
-use Rattle.rawk_tape.specs.Records.{Input, next_record}
-use Rattle.rawk_tape.specs.Inputs.{CountsUp, before}
+use Rattle.rawk_devices.specs.Inputs.{Input, CountsUp, before}
+use Rattle.rawk_tape.specs.Records.{next_record}
 use Rattle.rawk_tape.specs.Lines.{HasNoLine, IsDue, IsEndless, IsNextLine, LinesState, NoNewline, ReadsMore, failures_at, failures_by, newline}
 use Rattle.rawk_tape.specs.declared.lines.NoLine.{NoLine}
 use Rattle.rawk_tape.specs.declared.lines.NoLine.TheVariants as no_line
-use Rattle.rawk_tape.specs.declared.source.Ending.{Ending}
-use Rattle.rawk_tape.specs.declared.source.Ending.TheVariants.{Failed}
+use Rattle.rawk_devices.specs.declared.source.Ending.{Ending}
+use Rattle.rawk_devices.specs.declared.source.Ending.TheVariants.{Failed}
 use Rattle.rawk_tape.specs.Laws.{before-before, moved, next_record-before}
 use Rattle.rawk_debug.specs.declared.transcript.Reply.{Reply}
 use Rattle.rawk_debug.specs.declared.transcript.Reply.TheVariants.{Text, Line, Nothing, Quits}

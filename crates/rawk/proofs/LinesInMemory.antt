@@ -6,8 +6,8 @@ use Rattle.std.proofs.lemmas.Bool.Decides.{nat_tests}
 use Rattle.std.proofs.lemmas.List.{drop_all, get_or-take, length-drop, length-take, length-take-le, nil_from_length, take-append-drop, take_all}
 use Rattle.std.proofs.lemmas.List.Sums.{fails_before_first}
 use Rattle.rawk_value.specs.Values.{Bytes, is_empty}
-use Rattle.rawk_tape.specs.Records.{Input, found, is_newline, next_record}
-use Rattle.rawk_tape.specs.Inputs.{before}
+use Rattle.rawk_devices.specs.Inputs.{Input, before}
+use Rattle.rawk_tape.specs.Records.{found, is_newline, next_record}
 use Rattle.rawk_tape.specs.Lines.{IsDue, IsNextLine, LinesState, ReadsMore, newline}
 use Rattle.rawk_tape.specs.declared.lines.NoLine.TheVariants as no_line
 use Rattle.rawk_debug.specs.declared.transcript.Reply.{Reply}

@@ -2,9 +2,8 @@
 use Rattle.std.proofs.Common.{◌≡◌, ℕ, ◌+◌, inl, inr, List, [], length, Option, refl, sym, ◌∙◌, ap, subst, arith}
 use Rattle.rawk_value.specs.Values.{Bytes}
 use Rattle.rawk_value.specs.declared.fault.Fault.TheVariants.{OutOfMemory}
-use Rattle.rawk_tape.specs.Records.{Input}
-use Rattle.rawk_tape.specs.Inputs.{CountsUp, before}
-use Rattle.rawk_tape.specs.declared.source.Ending.{Ending}
+use Rattle.rawk_devices.specs.Inputs.{Input, CountsUp, before}
+use Rattle.rawk_devices.specs.declared.source.Ending.{Ending}
 use Rattle.rawk_tree.specs.declared.tree.Program.{Program}
 use Rattle.rawk_code.specs.Actions.{Given, SetAt}
 use Rattle.rawk_code.specs.Correct.{CodeOf}

@@ -1,10 +1,9 @@
 -- What is reported of a whole session, from what its parts do.
 use Rattle.std.proofs.Common.{◌≡◌, ℕ, ◌+◌, ◌-◌, inl, List, [], length, Option, Some, refl, sym, ap, subst, ◌∙◌, arith}
 use Rattle.rawk_value.specs.Values.{Bytes}
-use Rattle.rawk_tape.specs.Records.{Input}
-use Rattle.rawk_tape.specs.Inputs.{CountsUp, before}
-use Rattle.rawk_tape.specs.declared.source.Ending.{Ending}
-use Rattle.rawk_tape.specs.declared.source.Ending.TheVariants.{Failed}
+use Rattle.rawk_devices.specs.Inputs.{Input, CountsUp, before}
+use Rattle.rawk_devices.specs.declared.source.Ending.{Ending}
+use Rattle.rawk_devices.specs.declared.source.Ending.TheVariants.{Failed}
 use Rattle.rawk_tree.specs.declared.tree.Program.{Program}
 use Rattle.rawk_code.specs.Actions.{SetAt}
 use Rattle.rawk_code.specs.Trace.{FirstValue}

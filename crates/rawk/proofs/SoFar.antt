@@ -5,12 +5,11 @@ use Rattle.std.proofs.lemmas.Option.{slice_get_past}
 use Rattle.std.proofs.lemmas.List.{append-nil, take-append-drop, length-take-le}
 use Rattle.rawk_value.specs.Values.{Bytes}
 use Rattle.rawk_value.specs.declared.fault.Fault.TheVariants.{ReadFailed, WriteFailed, OutOfMemory}
-use Rattle.rawk_tape.specs.Records.{Input}
-use Rattle.rawk_tape.specs.Inputs.{CountsUp, before}
+use Rattle.rawk_devices.specs.Inputs.{Input, CountsUp, before}
 use Rattle.rawk_tape.specs.Laws.{before-before}
 use Rattle.rawk_tape.specs.Tapes.{TapeState}
-use Rattle.rawk_tape.specs.declared.source.Ending.{Ending as End}
-use Rattle.rawk_tape.specs.declared.source.Ending.TheVariants.{Failed}
+use Rattle.rawk_devices.specs.declared.source.Ending.{Ending as End}
+use Rattle.rawk_devices.specs.declared.source.Ending.TheVariants.{Failed}
 use Rattle.rawk_tree.specs.declared.tree.Program.{Program}
 use Rattle.rawk_code.specs.Actions.{Point, Ending, Ended, Faulted, Limited, Given, SetAt}
 use Rattle.rawk_code.specs.Laws.{IsBeginning, OutputLaw, OutputGrows, FirstOutputLaw}

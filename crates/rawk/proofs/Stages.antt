@@ -7,7 +7,7 @@ use Rattle.std.specs.List.{list_any}
 use Rattle.std.proofs.lemmas.Bool.{eq-eqb, lt-ltb}
 use Rattle.std.proofs.lemmas.Option.{slice_get_past, slice_get_within, unwrap_or-slice_get}
 use Rattle.rawk_tree.specs.declared.tree.Program.{Program}
-use Rattle.rawk_tape.specs.Records.{Input}
+use Rattle.rawk_devices.specs.Inputs.{Input, before}
 use Rattle.rawk_history.specs.Keeping.{keeps_any}
 use Rattle.rawk_code.specs.Actions.{SetAt, Ending, sets_at}
 use Rattle.rawk_code.specs.Trace.{Trace, trace, number, site_at_end}
@@ -18,8 +18,7 @@ use Rattle.rawk_machine.specs.InTrace.{exactly_by}
 use Rattle.rawk_answers.specs.Positions.{Snapshot, Stands, at, held_or, upto, raised, has_set_at, trace_under}
 use Rattle.rawk_value.specs.declared.fault.Fault.{Fault}
 use Rattle.rawk_store.specs.State.{Target}
-use Rattle.rawk_tape.specs.Inputs.{before}
-use Rattle.rawk_tape.specs.declared.source.Ending.{Ending as End}
+use Rattle.rawk_devices.specs.declared.source.Ending.{Ending as End}
 use Rattle.rawk_reading.specs.Drawing as drawing
 use Rattle.rawk_answers.specs.Works.{Draws}
 use Rattle.rawk.specs.Staged.{IsStage, held_of, position_of, work_of}

@@ -2,10 +2,10 @@
 use Rattle.std.specs.Prelude.{◌≡◌, ℕ, ◌-◌, ◌^◌, ◌<◌, ◌≤◌, ◌⊎◌, Bool, true, false, List, [], ◌∷◌, ◌++◌, length, Option, None, Result, Ok, Err}
 use Rattle.rawk_value.specs.Values.{Bytes}
 use Rattle.rawk_value.specs.declared.fault.Fault.TheVariants.{OutOfMemory, ReadFailed, WriteFailed}
-use Rattle.rawk_tape.specs.Records.{Input, next_record}
-use Rattle.rawk_tape.specs.Inputs.{before}
+use Rattle.rawk_devices.specs.Inputs.{Input, before}
+use Rattle.rawk_tape.specs.Records.{next_record}
 use Rattle.rawk_tape.specs.Lines.{IsDue, IsEndless, IsNextLine, newline}
-use Rattle.rawk_tape.specs.declared.source.Ending.{Ending}
+use Rattle.rawk_devices.specs.declared.source.Ending.{Ending}
 use Rattle.rawk_tape.specs.declared.lines.NoLine.{NoLine}
 use Rattle.rawk_tape.specs.declared.lines.NoLine.TheVariants as no_line
 use Rattle.rawk_code.specs.Laws.{IsBeginning}

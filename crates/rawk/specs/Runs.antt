@@ -6,10 +6,9 @@ use Rattle.rawk_tree.specs.declared.tree.Program.{Program}
 use Rattle.rawk_code.specs.Actions.{Point, Ending, Ended, Faulted, Limited}
 use Rattle.rawk_code.specs.Laws.{IsBeginning}
 use Rattle.rawk_code.specs.Trace.{FirstValue, Trace, trace, out, number, status, line_of, line_at}
-use Rattle.rawk_tape.specs.Records.{Input}
-use Rattle.rawk_tape.specs.Inputs.{CountsUp, before}
-use Rattle.rawk_tape.specs.declared.source.Ending.{Ending as End}
-use Rattle.rawk_tape.specs.declared.source.Ending.TheVariants.{Failed}
+use Rattle.rawk_devices.specs.Inputs.{Input, CountsUp, before}
+use Rattle.rawk_devices.specs.declared.source.Ending.{Ending as End}
+use Rattle.rawk_devices.specs.declared.source.Ending.TheVariants.{Failed}
 use Rattle.rawk_machine.specs.Standing.{Standing, MayCome, IsAt, given_of}
 use Rattle.rawk_machine.specs.Asked.{AskedBy, IsAskedFor}
 use Rattle.rawk_machine.specs.declared.step.Step.{Step}

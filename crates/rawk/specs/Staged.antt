@@ -1,7 +1,7 @@
 -- A machine with its program, as a session sees it.
 use Rattle.std.specs.Prelude.{◌≡◌, ◌-◌, true, [], length, Option, None, Some}
 use Rattle.rawk_tree.specs.declared.tree.Program.{Program}
-use Rattle.rawk_tape.specs.Records.{Input}
+use Rattle.rawk_devices.specs.Inputs.{Input}
 use Rattle.rawk_history.specs.Keeping.{keeps_any}
 use Rattle.rawk_code.specs.Correct.{CodeOf}
 use Rattle.rawk_machine.specs.Standing.{Standing, MayCome, Stood}

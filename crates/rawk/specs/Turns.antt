@@ -1,8 +1,7 @@
 -- What became of the line that is due, of commands that are read.
 use Rattle.std.specs.Prelude.{◌≡◌, ℕ, ◌+◌, ◌≤◌, length, drop}
 use Rattle.rawk_value.specs.Values.{Bytes}
-use Rattle.rawk_tape.specs.Records.{Input}
-use Rattle.rawk_tape.specs.Inputs.{before}
+use Rattle.rawk_devices.specs.Inputs.{Input, before}
 use Rattle.rawk_tape.specs.Lines.{LinesState, ReadsMore}
 use Rattle.rawk_debug.specs.declared.transcript.Reply.{Reply}
 use Rattle.rawk_debug.specs.Moves.{Stand}

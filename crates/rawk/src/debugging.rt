@@ -2,7 +2,7 @@
 
 ghost use Rattle.std.specs.Prelude.{◌≡◌, ◌≤◌, [], true, None, IfOk, IfErr};
 ghost use Rattle.rawk_value.specs.Values.{Bytes};
-ghost use Rattle.rawk_tape.specs.Inputs.{CountsUp};
+ghost use Rattle.rawk_devices.specs.Inputs.{CountsUp};
 ghost use Rattle.rawk_history.specs.Keeping.{keeps_any};
 ghost use Rattle.rawk_code.specs.Correct.{CodeOf};
 ghost use Rattle.rawk_machine.specs.Standing.{MayCome};
@@ -22,9 +22,10 @@ use crate::running::Finished;
 use crate::stage::Stage;
 use rawk_code::Settings;
 use rawk_debug::{Session, Stepper};
+use rawk_devices::{Sink, Source};
 use rawk_history::{Full, Keeper, Ring};
 use rawk_machine::Machine;
-use rawk_tape::{Lines, Sink, Source};
+use rawk_tape::Lines;
 use rawk_value::Fault;
 use std::alloc::Global;
 

@@ -2,10 +2,9 @@
 
 ghost use Rattle.std.specs.Prelude.{ℕ, List, ◌≡◌, ◌≢◌, ◌<◌, ◌-◌, ◌^◌, ◌++◌, [], length, take, None, Some, IfOk, IfErr, OnOk, OnErr};
 ghost use Rattle.rawk_value.specs.Values.{Bytes};
-ghost use Rattle.rawk_tape.specs.declared.source.Ending.TheVariants.{Failed};
-ghost use Rattle.rawk_tape.specs.Inputs.{CountsUp, failures_of};
+ghost use Rattle.rawk_devices.specs.declared.source.Ending.TheVariants.{Failed};
+ghost use Rattle.rawk_devices.specs.Inputs.{Input, CountsUp, failures_of};
 ghost use Rattle.rawk_tape.specs.Lines.{FindsNone, failures_at};
-ghost use Rattle.rawk_tape.specs.Records.{Input};
 ghost use Rattle.rawk_debug.specs.Sessions.{stand, machine_of};
 ghost use Rattle.rawk_debug.specs.Transcript.{reply_text};
 ghost use Rattle.rawk_answers.specs.Works.{Draws};
@@ -15,7 +14,8 @@ ghost use Rattle.rawk.specs.Dialogs.{Speaks, Told, over_by, quits_by, report_ove
 ghost use Rattle.rawk.specs.Turns.{TakesTurn};
 
 use rawk_debug::{Reply, Session, Stepper, carry_out};
-use rawk_tape::{DeviceFault, Lines, NoLine, Sink, Source, write_all};
+use rawk_devices::{DeviceFault, Sink, Source, write_all};
+use rawk_tape::{Lines, NoLine};
 use std::alloc::Global;
 
 /// How a dialog is over.

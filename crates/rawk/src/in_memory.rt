@@ -7,7 +7,7 @@ ghost use Rattle.rawk.specs.Debugs.{asks_all};
 
 use crate::dialog::{Dialog, Over, tell};
 use rawk_debug::{Session, Stepper, carry_out};
-use rawk_tape::Sink;
+use rawk_devices::Sink;
 use std::alloc::Global;
 
 /// Commands in memory, one on each line.

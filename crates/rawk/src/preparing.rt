@@ -4,9 +4,10 @@ ghost use Rattle.std.specs.Prelude.{IfOk, IfErr};
 ghost use Rattle.rawk.specs.Preparing.{IsReady, IsRefused};
 
 use crate::report::{Cause, Report, stopped, text_refused};
-use rawk_code::{Code, Settings, fits};
+use rawk_code::{Settings, fits};
 use rawk_compiler::compile;
 use rawk_syntax::{Program, parse};
+use rawk_told::Code;
 use rawk_value::Fault;
 use std::alloc::Global;
 

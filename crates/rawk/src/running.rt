@@ -1,9 +1,8 @@
 //! Runs, written as they go.
 
 ghost use Rattle.std.specs.Prelude.{◌≡◌, ◌+◌, ◌≤◌, [], ℕ, None, Some, IfOk, IfSome, OnOk, OnErr};
-ghost use Rattle.rawk_tape.specs.Inputs.{CountsUp, failures_of};
-ghost use Rattle.rawk_tape.specs.Records.{Input};
-ghost use Rattle.rawk_tape.specs.declared.source.Ending.{Ending};
+ghost use Rattle.rawk_devices.specs.Inputs.{Input, CountsUp, failures_of};
+ghost use Rattle.rawk_devices.specs.declared.source.Ending.{Ending};
 ghost use Rattle.rawk_machine.specs.Standing.{MayCome, IsAt, step_of};
 ghost use Rattle.rawk_machine.specs.Asked.{AskedBy};
 ghost use Rattle.rawk_code.specs.Correct.{CodeOf};
@@ -15,9 +14,9 @@ use crate::preparing::{Prepared, prepare};
 use crate::report::{Cause, Report, stopped};
 use rawk_code::Settings;
 use rawk_compiler::laws;
+use rawk_devices::{DeviceFault, Sink, Source, write_all};
 use rawk_machine::{Runner, Step};
 use rawk_syntax::Program;
-use rawk_tape::{DeviceFault, Sink, Source, write_all};
 use rawk_value::Fault;
 use std::alloc::Global;
 

@@ -10,11 +10,11 @@ ghost use Rattle.rawk_store.specs.Observed.{seen};
 ghost use Rattle.rawk.specs.Staged.{IsStage, seen_or};
 
 use rawk_debug::{Call, Scalar, Stepper, Watched};
+use rawk_devices::Source;
 use rawk_frames::Local;
 use rawk_history::Keeper;
 use rawk_machine::Machine;
 use rawk_store::{Ending, FieldRef, Target, ValueRef};
-use rawk_tape::Source;
 use rawk_tree::Program;
 use rawk_value::{Bytes, Fault, Value};
 use rawk_words::Array;

@@ -3,7 +3,7 @@ use Rattle.std.specs.Prelude.{◌≡◌, ℕ, ◌-◌, ◌≤◌, max, Bool, Lis
 use Rattle.std.specs.List.{list_any}
 use Rattle.rawk_tree.specs.declared.tree.Program.{Program}
 use Rattle.rawk_value.specs.declared.value.Value.{Value}
-use Rattle.rawk_tape.specs.Records.{Input}
+use Rattle.rawk_devices.specs.Inputs.{Input}
 use Rattle.rawk_store.specs.State.{State, Target}
 use Rattle.rawk_code.specs.Actions.{Point, SetAt, Ending}
 use Rattle.rawk_code.specs.Trace.{FirstValue, Trace, trace, number, site_at_end}

@@ -2,8 +2,8 @@
 use Rattle.std.proofs.Common.{◌≡◌, ℕ, ◌+◌, ◌-◌, ◌≤◌, length, Option, Some, ap, ◌∙◌, arith}
 use Rattle.rawk_value.specs.declared.fault.Fault.TheVariants.{ReadFailed}
 use Rattle.rawk_value.specs.Values.{Bytes}
-use Rattle.rawk_tape.specs.Inputs.{CountsUp}
-use Rattle.rawk_tape.specs.declared.source.Ending.{Ending as End}
+use Rattle.rawk_devices.specs.Inputs.{CountsUp}
+use Rattle.rawk_devices.specs.declared.source.Ending.{Ending as End}
 use Rattle.rawk_code.specs.Actions.{Ending, Faulted}
 
 -- how many instructions it ran, all bytes that it read, and its source as it is left

@@ -1,9 +1,8 @@
 //! What a session asks of a machine.
 
 ghost use Rattle.std.specs.Prelude.{◌≡◌, ◌+◌, ◌-◌, ◌^◌, ◌<◌, Bool, length, Ok, None, Some, IfOk, OnOk, OnErr, IsTrue, IsFalse, is_some, option_map, option_copied, slice_get};
-ghost use Rattle.rawk_tape.specs.Records.{Input};
-ghost use Rattle.rawk_tape.specs.Inputs.{before as behind};
-ghost use Rattle.rawk_tape.specs.declared.source.Ending.TheVariants.{Failed};
+ghost use Rattle.rawk_devices.specs.Inputs.{Input, before as behind};
+ghost use Rattle.rawk_devices.specs.declared.source.Ending.TheVariants.{Failed};
 ghost use Rattle.rawk_record.specs.FieldRefs.{ref_value};
 ghost use Rattle.rawk_frames.specs.Frame.{locals_now};
 ghost use Rattle.rawk_store.specs.State.{array_in, assigned, count_in, element_in, keys_in};
@@ -15,10 +14,10 @@ ghost use Rattle.rawk_answers.specs.Activations.{call_of};
 ghost use Rattle.rawk_answers.specs.Works.{Work, Draws, read_failed};
 
 use crate::stop::Watched;
+use rawk_devices::Source;
 use rawk_frames::Local;
 use rawk_record::FieldRef;
 use rawk_store::{Ending, Target};
-use rawk_tape::Source;
 use rawk_tree::Program;
 use rawk_value::{Bytes, Fault, Value};
 use rawk_words::Array;

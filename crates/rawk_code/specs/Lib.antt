@@ -9,8 +9,6 @@ pub mod Laws
 pub mod Listing
 pub mod Valid
 pub mod Machine
-pub mod Quick
-pub mod QuickLaws
 pub mod Correct
 pub mod Steps
 pub mod Settings

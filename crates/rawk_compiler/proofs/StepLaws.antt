@@ -5,7 +5,7 @@ use Rattle.std.proofs.Math.Seq.{take-append_seam}
 use Rattle.std.proofs.lemmas.List.{take-append-le}
 use Rattle.std.proofs.lemmas.Bool.{cases_eq, cases_lt}
 use Rattle.std.proofs.lemmas.Option.{slice_get_within}
-use Rattle.rawk_tape.specs.Records as records
+use Rattle.rawk_devices.specs.Inputs as inputs
 use Rattle.rawk_value.specs.Values.{Bytes}
 use Rattle.rawk_code.specs.declared.code.Instr.{Instr}
 use Rattle.rawk_code.specs.Actions.{Point, Run, Ending, Limited, SetAt, sets_at, all_set, Given}
@@ -29,7 +29,7 @@ trace_same t u e =
     let b = run_same u.ending t.ending u.run t.run e in
     ap (λ x. let v : Trace = record { ending = x; run = u.run } in v) a ∙ ap (λ x. let v : Trace = record { ending = t.ending; run = x } in v) b
 
-module _ (input : records.Input) (code : List Instr) (fin : Places) where
+module _ (input : inputs.Input) (code : List Instr) (fin : Places) where
   -- the points and the rest that stand at the end of a run behind a point that was reached
   behind : (sets : List SetAt) (n m : ℕ) (c : Config) (r : Reaches input code fin c) (t : Trace) → length r.run.points ≢ n → steps (given_of input code fin sets n) code fin (suc m) c ≡ Over t.ending t.run → (rest : List Point) × (t.run.points ≡ r.run.points ++ rest) × (0 < length rest)
   behind sets n m c r t ne e =

@@ -8,12 +8,13 @@ ghost use Rattle.rawk_code.specs.Trace.{reads};
 
 use crate::emit_statements::{emit_block, emit_condition, emit_stmt};
 use crate::loops::Around;
-use rawk_code::{Code, Entry, Instr, Operand, Simple};
+use rawk_code::{Entry, Instr, Operand, Simple};
 use rawk_emission::expressions::emit_skip;
 use rawk_selection::instructions::{
     items_of, pass_rest, patch, put, put_go_to, put_point, put_range,
 };
 use rawk_selection::logic::is_neutral;
+use rawk_told::Code;
 use rawk_tree::{Expr, Function, Guard, Program, Rule, Stmt};
 use rawk_value::Bytes;
 use std::alloc::{AllocError, Global};

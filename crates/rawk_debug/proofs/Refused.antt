@@ -1,6 +1,6 @@
 -- A line that is refused as it is read.
 use Rattle.std.proofs.Common.{◌≡◌, ◌⊎◌, inl, inr, true, false, [], Option, Some, None, Result, Ok, Err, IsTrue, refl, ap}
-use Rattle.rawk_tape.specs.Records.{Input}
+use Rattle.rawk_devices.specs.Inputs.{Input}
 use Rattle.rawk_commands.specs.declared.command.Command.{Command}
 use Rattle.rawk_commands.specs.declared.command.Command.TheVariants.{Quit}
 use Rattle.rawk_commands.specs.declared.command.C.{C}

@@ -2,7 +2,7 @@
 use Rattle.std.proofs.Common.{◌≡◌, ℕ, ◌+◌, ◌-◌, ◌<◌, ◌≤◌, zero, suc, Bool, true, false, Option, Some, None, List, [], ◌∷◌, length, refl, sym, ◌∙◌, ap, arith, below_more, leb, ltb, ◌&&◌, inl, inr, is_some, take, eqb}
 use Rattle.std.specs.Prelude.{slice_get}
 use Rattle.std.proofs.lemmas.Bool.Decides.{nat_tests, leb_tells}
-use Rattle.rawk_tape.specs.Records.{Input}
+use Rattle.rawk_devices.specs.Inputs.{Input}
 use Rattle.rawk_code.specs.Actions.{Point, SetAt, sets_at}
 use Rattle.rawk_code.specs.Laws.{SetsAgreeBelow, SetsLawBelow}
 use Rattle.rawk_code.specs.Trace.{Trace, number}

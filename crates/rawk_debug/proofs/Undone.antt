@@ -1,7 +1,7 @@
 -- Ways there and back.
 use Rattle.std.proofs.Common.{◌≡◌, ℕ, ◌+◌, ◌<◌, ◌≤◌, true, false, Option, Some, None, List, [], ◌∷◌, ◌++◌, refl, sym, ◌∙◌, ap, arith, inl, inr}
 use Rattle.std.proofs.lemmas.Bool.Decides.{leb_tells}
-use Rattle.rawk_tape.specs.Records.{Input}
+use Rattle.rawk_devices.specs.Inputs.{Input}
 use Rattle.rawk_code.specs.Actions.{SetAt}
 use Rattle.rawk_commands.specs.declared.command.Goal.TheVariants.{AnyPoint}
 use Rattle.rawk_answers.specs.Positions.{Position, IsPosition, here, upto, raised, back_at, IsTakenBack}

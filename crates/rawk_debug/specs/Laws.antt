@@ -1,6 +1,6 @@
 -- What a session's commands undo.
 use Rattle.std.specs.Prelude.{◌≡◌, ℕ, ◌<◌, Option, Some, None, Ok}
-use Rattle.rawk_tape.specs.Records.{Input}
+use Rattle.rawk_devices.specs.Inputs.{Input}
 use Rattle.rawk_commands.specs.declared.command.Way.TheVariants.{Forward, Back}
 use Rattle.rawk_commands.specs.declared.command.Goal.TheVariants.{AnyPoint}
 use Rattle.rawk_commands.specs.declared.command.Command.TheVariants.{Move, Set, ReverseSet}

@@ -1,7 +1,7 @@
 -- What a session's moves look for, and where they lead.
 use Rattle.std.specs.Prelude.{◌≡◌, ℕ, ◌+◌, ◌-◌, ◌≤◌, ◌<◌, Bool, true, false, ◌&&◌, ◌||◌, List, length, nat_le, nat_lt, nat_eq, Option, Some, None}
 use Rattle.std.specs.List.{list_any}
-use Rattle.rawk_tape.specs.Records.{Input}
+use Rattle.rawk_devices.specs.Inputs.{Input}
 use Rattle.rawk_code.specs.Actions.{Ending}
 use Rattle.rawk_code.specs.Trace.{Trace, number}
 use Rattle.rawk_commands.specs.declared.command.Way.{Way}

@@ -1,7 +1,7 @@
 -- The transcript of a session: what the lines of its commands are answered, one after another.
 use Rattle.std.specs.Prelude.{◌≡◌, ◌⊎◌, Bool, true, false, List, [], ◌∷◌, ◌++◌, drop, Option, Some, None, Result, Ok, Err}
 use Rattle.std.specs.Bool.{MatchBool}
-use Rattle.rawk_tape.specs.Records.{Input}
+use Rattle.rawk_devices.specs.Inputs.{Input}
 use Rattle.rawk_value.specs.Values.{Bytes}
 use Rattle.rawk_commands.specs.declared.command.Command.{Command}
 use Rattle.rawk_commands.specs.declared.command.Command.TheVariants.{Quit}

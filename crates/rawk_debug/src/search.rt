@@ -1,7 +1,7 @@
 //! How a session moves.
 
 ghost use Rattle.std.specs.Prelude.{◌≡◌, None, OnOk, OnErr, IsTrue};
-ghost use Rattle.rawk_tape.specs.Records.{Input};
+ghost use Rattle.rawk_devices.specs.Inputs.{Input};
 ghost use Rattle.rawk_debug.specs.Moves.{hits, stops_at, sought, Goes, Halts, Returns, is_found, from_below, from_above};
 ghost use Rattle.rawk_debug.specs.Commands.{Forwards, Backwards, Does, IsReady, leaves_none, rewound};
 ghost use Rattle.rawk_debug.specs.Sessions.{stand};

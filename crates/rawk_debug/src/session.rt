@@ -1,7 +1,7 @@
 //! A debugger's session.
 
 ghost use Rattle.std.specs.Prelude.{◌≡◌, ◌≢◌, ◌<◌, [], false, not, filter, Err, IfOk, IfErr};
-ghost use Rattle.rawk_tape.specs.Records.{Input};
+ghost use Rattle.rawk_devices.specs.Inputs.{Input};
 ghost use Rattle.rawk_commands.specs.declared.command.C.TheVariants.{OutOfMemory, NoSuchNumber};
 ghost use Rattle.rawk_debug.specs.Commands.{Makes, Removes, Executes, IsReady, deleted, goes_forward, needs_memory, has_entry, is_entry, is_kind, listed_at, lvalue_at, most};
 ghost use Rattle.rawk_debug.specs.Sessions.{stand, machine_of};

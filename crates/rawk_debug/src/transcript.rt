@@ -1,7 +1,7 @@
 //! What the lines of a session are answered.
 
 ghost use Rattle.std.specs.Prelude.{◌≡◌, Ok};
-ghost use Rattle.rawk_tape.specs.Records.{Input};
+ghost use Rattle.rawk_devices.specs.Inputs.{Input};
 ghost use Rattle.rawk_debug.specs.Commands.{IsReady};
 ghost use Rattle.rawk_debug.specs.Sessions.{stand, machine_of};
 ghost use Rattle.rawk_answers.specs.Works.{Draws};

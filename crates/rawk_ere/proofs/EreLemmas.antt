@@ -9,11 +9,12 @@ use Rattle.rawk_ere_tree.specs.declared.code.Instruction.{Instruction}
 use Rattle.rawk_ere_tree.specs.Tree.{Tree}
 use Rattle.rawk_ere_tree.specs.Ends.{Ends, IsLongest, IsMatch, HasMatch}
 use Rattle.rawk_ere_tree.specs.Open.{IsOpenMatch, IsSettled, MayBegin, IsOpenFrom}
-use Rattle.rawk_ere_automaton.specs.Search.{IsBetween, BeginsIn, IsFirst, IsFirstOpen, MayStart, IsOpenStart}
+use Rattle.rawk_ere_walks.specs.Ways.{BeginsIn, MayStart}
+use Rattle.rawk_ere_automaton.specs.Search.{IsBetween, IsFirst, IsFirstOpen, IsOpenStart}
 use Rattle.rawk_ere.proofs.OpenLemmas.{settled, none_before}
 use Rattle.rawk_ere.proofs.NeedPaths.{wants_is}
 use Rattle.rawk_ere_tree.specs.Code.{code_of, Path}
-use Rattle.rawk_ere_automaton.specs.Sets.{IsFarthest}
+use Rattle.rawk_ere_walks.specs.Sets.{IsFarthest}
 use Rattle.rawk_ere.proofs.Paths.{has_all, completes, sounds}
 
 -- nothing leads on from the end of the code

@@ -4,7 +4,7 @@ use Rattle.std.specs.Option.{ForSome}
 use Rattle.rawk_ere_tree.specs.declared.code.Instruction.{Instruction}
 use Rattle.rawk_ere_tree.specs.Tree.{Tree}
 use Rattle.rawk_ere_tree.specs.Code.{code_of}
-use Rattle.rawk_ere_automaton.specs.Search.{Way}
+use Rattle.rawk_ere_walks.specs.Ways.{Way}
 use Rattle.rawk_ere_last.specs.Shapes.{last_in, AreLast}
 use Rattle.rawk_ere_last.specs.ShapeLemmas.{ends_last}
 use Rattle.rawk_ere.proofs.EreLemmas.{match_from_path}

@@ -1,7 +1,3 @@
-pub mod PartLemmas
-pub mod PatternLemmas
-pub mod BracketLemmas
-pub mod IntervalLemmas
 pub mod Paths
 pub mod NeedPaths
 pub mod OpenLemmas

@@ -12,7 +12,7 @@ use Rattle.rawk_ere_tree.specs.declared.code.Instruction.TheVariants.{Bytes, Sta
 use Rattle.rawk_ere_tree.specs.Ends.{Allows, Times, IsLast, Ends}
 use Rattle.rawk_ere_tree.specs.Open.{AllowsMore, Needs}
 use Rattle.rawk_ere_tree.specs.Code.{star_code, plus_code, maybe_code, times_code, maybes_code, count_code, either_code, code_of, Hops, Path}
-use Rattle.rawk_ere_automaton.specs.Sets.{Asks, AsksAt, WantsFrom}
+use Rattle.rawk_ere_walks.specs.Sets.{Asks, AsksAt, WantsFrom}
 use Rattle.rawk_ere.proofs.Paths.{HasAt, has_front, has_back, has_all, Leads, Does, known_step, hop, Completes, completes, split_times, join_times, times_go, After, ends_in}
 
 module _ (code : List Instruction) (s : List ℕ) where

@@ -1,7 +1,3 @@
-pub mod Grammar
-pub mod Pattern
-pub mod Reading
-pub mod PatternOf
 pub use Rattle.rawk_ere_tree.specs.Tree
 pub use Rattle.rawk_ere_tree.specs.TreeCode
 pub use Rattle.rawk_ere_tree.specs.ByteSets
@@ -10,8 +6,4 @@ pub use Rattle.rawk_ere_tree.specs.Cuts
 pub use Rattle.rawk_ere_tree.specs.Open
 pub use Rattle.rawk_ere_tree.specs.Code
 pub use Rattle.rawk_ere_automaton.specs.Search
-pub mod ReadingLemmas
-pub mod ByteSetLemmas
-pub mod ScanLemmas
-pub mod PatternOfLemmas
 pub mod Sought

@@ -3,14 +3,12 @@
 ghost use Rattle.std.specs.Prelude.{◌≡◌, ◌+◌, ◌-◌, ◌*◌, ◌<◌, ◌≤◌, ◌↔◌, IsTrue, length, ℕ, Some, IfOk, IfErr};
 ghost use Rattle.rawk_ere_tree.specs.Tree.{size_of, IsWithinLimits};
 ghost use Rattle.rawk_ere_tree.specs.Node.{tree_of};
-ghost use Rattle.rawk_ere.specs.PatternOf.{IsPatternOf, IsRefused};
+ghost use Rattle.rawk_ere_pattern.specs.PatternOf.{IsPatternOf, IsRefused};
 ghost use Rattle.rawk_ere_tree.specs.Code.{code_of};
 ghost use Rattle.rawk_ere_tree.specs.Ends.{IsLongest, IsMatch, HasMatch};
 ghost use Rattle.rawk_ere_tree.specs.Open.{IsOpenMatch, IsSettled, IsOpenFrom};
 ghost use Rattle.rawk_ere_automaton.specs.Search.{IsBetween, AreBetween, Knows};
 
-use crate::error::EreError;
-use crate::read::read;
 use crate::tables::{small_table, small_wide};
 use rawk_ere_automaton::search::{
     first_by, first_open, is_found_by, is_found_by_walk, longest, open_start,
@@ -19,6 +17,8 @@ use rawk_ere_automaton::table::{Table, run};
 use rawk_ere_begins::block::Block;
 use rawk_ere_last::find::{first_apart, is_found_apart};
 use rawk_ere_last::shape::last_width;
+use rawk_ere_pattern::EreError;
+use rawk_ere_pattern::read::read;
 use rawk_ere_tree::code::Code;
 use rawk_ere_tree::emit::emit;
 use rawk_ere_tree::node::Node;
@@ -53,7 +53,7 @@ impl Model for Ere {
     ghost view = { λ e. e.tree.tree };
 
     ghost use Rattle.rawk_ere_automaton.specs.Table.{IsTable};
-    ghost use Rattle.rawk_ere_automaton.specs.Search.{BeginsIn};
+    ghost use Rattle.rawk_ere_walks.specs.Ways.{BeginsIn};
     ghost use Rattle.rawk_ere_last.specs.Shapes.{last_in};
     ghost use Rattle.std.specs.Option.{ForSome};
 

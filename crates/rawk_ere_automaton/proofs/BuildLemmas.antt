@@ -10,7 +10,7 @@ use Rattle.std.proofs.lemmas.List.{get_or_past}
 use Rattle.std.proofs.lemmas.Bool.{cases_eq, cases_lt}
 use Rattle.std.proofs.lemmas.List.{append-nil}
 use Rattle.rawk_ere_tree.specs.declared.code.Instruction.{Instruction}
-use Rattle.rawk_ere_automaton.specs.Sets.{Closes, TakesFrom}
+use Rattle.rawk_ere_walks.specs.Sets.{Closes, TakesFrom}
 use Rattle.rawk_ere_automaton.specs.Table.{members, Begins, LeadsBy, AreFilled, AreStarts, IsPlaced, Extends, AreAlike, AreMarkedAlike, IsTarget}
 
 closes_same : (room : ℕ) (code : List Instruction) (F L : Type 0) (old new other : List ℕ) → ((q : ℕ) → Contains new q ↔ Contains other q) → Closes room code F L old new → Closes room code F L old other

@@ -1,4 +1,3 @@
-pub mod WalkLemmas
 pub mod SearchLemmas
 pub mod TableLemmas
 pub mod BuildLemmas

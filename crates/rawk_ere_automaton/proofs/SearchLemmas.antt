@@ -6,11 +6,12 @@ use Rattle.std.proofs.lemmas.Bool.{cases_eq, cases_lt}
 use Rattle.std.proofs.lemmas.Option.{slice_get_within}
 use Rattle.rawk_ere_tree.specs.declared.code.Instruction.{Instruction}
 use Rattle.rawk_ere_tree.specs.Code.{Path}
-use Rattle.rawk_ere_automaton.specs.Sets.{IsFarthest, WantsFrom}
-use Rattle.rawk_ere_automaton.specs.Search.{IsBetween, AreBetween, Way, BeginsIn, BeginsNone, EndsFrom, IsFirstBegin, IsFirst, IsFound, IsFirstOpen, MayStart, MayIn, MayBy, NoneMay, IsAhead, IsOpenStart, IsOpening, IsOpened}
+use Rattle.rawk_ere_walks.specs.Sets.{IsFarthest, WantsFrom}
+use Rattle.rawk_ere_walks.specs.Ways.{Way, BeginsIn, EndsFrom, MayStart, MayIn, MayBy}
+use Rattle.rawk_ere_automaton.specs.Search.{IsBetween, AreBetween, BeginsNone, IsFirstBegin, IsFirst, IsFound, IsFirstOpen, NoneMay, IsAhead, IsOpenStart, IsOpening, IsOpened}
 use Rattle.rawk_ere_automaton.specs.declared.progress.Opening.{Opening}
 use Rattle.rawk_ere_automaton.specs.declared.progress.Opening.TheVariants.{At, After}
-use Rattle.rawk_ere_automaton.proofs.WalkLemmas.{path_up, path_within}
+use Rattle.rawk_ere_walks.specs.WalkLemmas.{path_up, path_within}
 
 abbrev is_at : Opening → Bool
 is_at (At begin longest asks) = true

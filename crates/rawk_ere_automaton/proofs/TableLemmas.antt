@@ -8,14 +8,15 @@ use Rattle.rawk_ere_tree.specs.declared.code.Instruction.{Instruction}
 use Rattle.rawk_ere_tree.specs.Ends.{IsLast}
 use Rattle.rawk_ere_tree.specs.Code.{Hops, Step, Path, wide_code}
 use Rattle.rawk_ere_tree.specs.StateSets.{Adds}
-use Rattle.rawk_ere_automaton.specs.Sets.{Closes, AreReached, IsFarthestBefore, IsFarthest}
-use Rattle.rawk_ere_automaton.specs.Search.{EndsFrom, Widens, BeginsNone, MayStart, NoneMay, Knows}
+use Rattle.rawk_ere_walks.specs.Sets.{Closes, AreReached, IsFarthestBefore, IsFarthest}
+use Rattle.rawk_ere_walks.specs.Ways.{EndsFrom, MayStart}
+use Rattle.rawk_ere_automaton.specs.Search.{Widens, BeginsNone, NoneMay, Knows}
 use Rattle.rawk_ere_begins.specs.Filters.{IsPassedOver, Tells, IsLastRow, IsNextMarked, IsUnmarked, pair_marks}
 use Rattle.rawk_ere_begins.specs.declared.block.Block.{Block}
 use Rattle.rawk_ere_automaton.specs.declared.table.Table.{Table}
 use Rattle.rawk_ere_automaton.specs.Table.{members, Begins, LeadsBy, EndsLast, AreFilled, AreStarts, IsTable}
 use Rattle.rawk_ere_tree.specs.SetLemmas.{Contains-none}
-use Rattle.rawk_ere_automaton.proofs.WalkLemmas.{hops_where, closes_where, path_of_hops, path_more, path_last, path_join, path_up, path_passes, wants_none, step_up, reached_first, reached_more, none_before, noted_is, farthest_stop, farthest_end}
+use Rattle.rawk_ere_walks.specs.WalkLemmas.{hops_where, closes_where, path_of_hops, path_more, path_last, path_join, path_up, path_passes, wants_none, step_up, reached_first, reached_more, none_before, noted_is, farthest_stop, farthest_end}
 
 not_true : IsTrue false → ⊥
 not_true h = true≢false (sym h)

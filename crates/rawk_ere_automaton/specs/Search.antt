@@ -1,10 +1,11 @@
 -- Ways through a code, found from a place on.
-use Rattle.std.specs.Prelude.{◌≡◌, ◌↔◌, IsTrue, ℕ, ◌+◌, ◌-◌, ◌<◌, ◌≤◌, ◌⊎◌, Bool, true, false, List, length, Option, Some, None}
+use Rattle.std.specs.Prelude.{◌≡◌, ◌↔◌, IsTrue, ℕ, ◌+◌, ◌-◌, ◌<◌, ◌≤◌, ◌⊎◌, true, false, List, length, Option, Some, None}
 use Rattle.std.specs.Int.{bit_at}
 use Rattle.rawk_ere_begins.specs.declared.block.Block.{Block}
 use Rattle.rawk_ere_tree.specs.declared.code.Instruction.{Instruction}
 use Rattle.rawk_ere_tree.specs.Code.{Path, wide_code}
-use Rattle.rawk_ere_automaton.specs.Sets.{IsFarthest, WantsFrom}
+use Rattle.rawk_ere_walks.specs.Sets.{IsFarthest, WantsFrom}
+use Rattle.rawk_ere_walks.specs.Ways.{Way, MayStart}
 use Rattle.rawk_ere_automaton.specs.declared.progress.Progress.{Progress}
 use Rattle.rawk_ere_automaton.specs.declared.progress.Progress.TheVariants.{Found, Nothing, Paused}
 use Rattle.rawk_ere_automaton.specs.declared.progress.Opening.{Opening}
@@ -25,43 +26,30 @@ abbrev pub IsAhead : ℕ → Option ℕ → Type 0
 IsAhead here o = (j : ℕ) × (o ≡ Some j) × (here < j)
 
 module _ (code : List Instruction) (s : List ℕ) where
-  -- a way through the code
-  abbrev pub Way : Bool → ℕ → ℕ → Type 0
-  Way closed i j = (n : ℕ) × Path code closed s n 0 i (length code) j
-
-  -- a way begins at a place from `from` to `upto`
-  abbrev pub BeginsIn : ℕ → ℕ → Type 0
-  BeginsIn from upto = (i : ℕ) × (j : ℕ) × (from ≤ i) × (i ≤ upto) × Way true i j
-
-  -- such a way ends at the place; without a place, there is none
-  abbrev pub EndsFrom : ℕ → ℕ → Option ℕ → Type 0
-  EndsFrom from upto None = BeginsIn from upto → ⊥
-  EndsFrom from upto (Some j) = (i : ℕ) × (from ≤ i) × (i ≤ upto) × Way true i j
-
   -- the ways of the wide code are those of the code that begin at the place or later
   pub record Widens : Type 0 where
-    pub narrow : (p j n : ℕ) → p ≤ length s → Path (wide_code code) true s n 0 p (length (wide_code code)) j → (i : ℕ) × (p ≤ i) × (i ≤ length s) × Way true i j
-    pub wide : (p i j : ℕ) → p ≤ i → i ≤ length s → Way true i j → (n : ℕ) × Path (wide_code code) true s n 0 p (length (wide_code code)) j
+    pub narrow : (p j n : ℕ) → p ≤ length s → Path (wide_code code) true s n 0 p (length (wide_code code)) j → (i : ℕ) × (p ≤ i) × (i ≤ length s) × Way code s true i j
+    pub wide : (p i j : ℕ) → p ≤ i → i ≤ length s → Way code s true i j → (n : ℕ) × Path (wide_code code) true s n 0 p (length (wide_code code)) j
 
   -- no way begins from here on before there
   abbrev pub BeginsNone : ℕ → ℕ → Type 0
-  BeginsNone from upto = (i j : ℕ) → from ≤ i → i < upto → Way true i j → ⊥
+  BeginsNone from upto = (i j : ℕ) → from ≤ i → i < upto → Way code s true i j → ⊥
 
   -- what a block tells of 32 places: no way begins at one behind the start of the text whose bit is not set; its bits that are set are those of places in the text
   pub record Knows (b : Block) : Type 0 where
     pub within : (k : ℕ) → bit_at b.marked k ≡ 1 → (k < 32) × (b.start + k < length s)
-    pub none : (i j : ℕ) → 0 < i → b.start ≤ i → i < b.start + 32 → i < length s → bit_at b.marked (i - b.start) ≡ 0 → Way true i j → ⊥
+    pub none : (i j : ℕ) → 0 < i → b.start ≤ i → i < b.start + 32 → i < length s → bit_at b.marked (i - b.start) ≡ 0 → Way code s true i j → ⊥
 
   -- the first place from `from` on where a way begins
   pub record IsFirstBegin (from begin : ℕ) : Type 0 where
     pub low : from ≤ begin
-    pub here : (j : ℕ) × Way true begin j
-    pub before : (i j : ℕ) → from ≤ i → i < begin → Way true i j → ⊥
+    pub here : (j : ℕ) × Way code s true begin j
+    pub before : (i j : ℕ) → from ≤ i → i < begin → Way code s true i j → ⊥
 
   -- the begin and the end of the first way from p on, and the longest there
   abbrev pub IsFirst : ℕ → Option (ℕ × ℕ) → Type 0
-  IsFirst p None = (i j : ℕ) → p ≤ i → i ≤ length s → Way true i j → ⊥
-  IsFirst p (Some m) = (p ≤ m.0) × Way true m.0 m.1 × ((i j : ℕ) → p ≤ i → Way true i j → m.0 ≤ i) × ((k : ℕ) → Way true m.0 k → k ≤ m.1)
+  IsFirst p None = (i j : ℕ) → p ≤ i → i ≤ length s → Way code s true i j → ⊥
+  IsFirst p (Some m) = (p ≤ m.0) × Way code s true m.0 m.1 × ((i j : ℕ) → p ≤ i → Way code s true i j → m.0 ≤ i) × ((k : ℕ) → Way code s true m.0 k → k ≤ m.1)
 
   -- the same, with both within the text
   abbrev pub IsFound : ℕ → Option (ℕ × ℕ) → Type 0
@@ -69,33 +57,20 @@ module _ (code : List Instruction) (s : List ℕ) where
 
   -- the same as IsFirst, of ways that read a byte, if no way from a place up to there asks what follows the text
   abbrev pub IsFirstOpen : ℕ → Option (ℕ × ℕ) → Type 0
-  IsFirstOpen p None = (i j : ℕ) → p ≤ i → i < j → Way false i j → (k : ℕ) × (p ≤ k) × (k ≤ i) × WantsFrom code false s k
+  IsFirstOpen p None = (i j : ℕ) → p ≤ i → i < j → Way code s false i j → (k : ℕ) × (p ≤ k) × (k ≤ i) × WantsFrom code false s k
   IsFirstOpen p (Some m) =
-      (p ≤ m.0) × (m.0 < m.1) × (m.0 ≤ length s) × Way false m.0 m.1 × ((i j : ℕ) → p ≤ i → i < j → Way false i j → m.0 ≤ i) × ((k : ℕ) → Way false m.0 k → k ≤ m.1)
+      (p ≤ m.0) × (m.0 < m.1) × (m.0 ≤ length s) × Way code s false m.0 m.1 × ((i j : ℕ) → p ≤ i → i < j → Way code s false i j → m.0 ≤ i) × ((k : ℕ) → Way code s false m.0 k → k ≤ m.1)
       × ((k : ℕ) → p ≤ k → k ≤ m.0 → WantsFrom code false s k → ⊥)
-
-  -- a way that reads a byte may begin at the place, in the text or in a longer one
-  abbrev pub MayStart : ℕ → Type 0
-  MayStart i = WantsFrom code false s i ⊎ ((j : ℕ) × (i < j) × Way false i j)
-
-  -- there is such a place from `from` to `upto`
-  abbrev pub MayIn : ℕ → ℕ → Type 0
-  MayIn from upto = (k : ℕ) × (from ≤ k) × (k ≤ upto) × MayStart k
-
-  -- there is one up to the given place; without a place, there is none
-  abbrev pub MayBy : ℕ → ℕ → Option ℕ → Type 0
-  MayBy from upto None = MayIn from upto → ⊥
-  MayBy from upto (Some by) = (from ≤ by) × (by ≤ upto) × MayIn from by
 
   -- no such place is from here on before there
   abbrev pub NoneMay : ℕ → ℕ → Type 0
-  NoneMay from upto = (i : ℕ) → from ≤ i → i < upto → MayStart i → ⊥
+  NoneMay from upto = (i : ℕ) → from ≤ i → i < upto → MayStart code s i → ⊥
 
   -- the first such place from p on, or the end of the text
   pub record IsOpenStart (p f : ℕ) : Type 0 where
     pub within : (p ≤ f) × (f ≤ length s)
-    pub before : (i : ℕ) → p ≤ i → i < f → MayStart i → ⊥
-    pub here : f < length s → MayStart f
+    pub before : (i : ℕ) → p ≤ i → i < f → MayStart code s i → ⊥
+    pub here : f < length s → MayStart code s f
 
   -- how a search from place to place went
   abbrev pub IsProgress : ℕ → Progress → Type 0

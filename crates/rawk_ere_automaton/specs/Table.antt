@@ -4,7 +4,7 @@ use Rattle.rawk_ere_tree.specs.declared.code.Instruction.{Instruction}
 use Rattle.rawk_ere_automaton.specs.declared.table.Table.{Table}
 use Rattle.rawk_ere_begins.specs.Filters.{IsFilter}
 use Rattle.rawk_ere_tree.specs.StateSets.{Adds}
-use Rattle.rawk_ere_automaton.specs.Sets.{Closes, AdvancesBy, TakesFrom, AsksIn}
+use Rattle.rawk_ere_walks.specs.Sets.{Closes, AdvancesBy, TakesFrom, AsksIn}
 
 -- the states of a row
 abbrev pub members : List (ℕ × List ℕ) → ℕ → List ℕ

@@ -4,4 +4,3 @@
 pub mod progress;
 pub mod search;
 pub mod table;
-pub mod walk;

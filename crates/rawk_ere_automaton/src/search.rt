@@ -1,18 +1,19 @@
 //! Searches for a way through a code, from a place on.
 
 ghost use Rattle.std.specs.Prelude.{◌≡◌, ℕ, ◌+◌, ◌-◌, ◌*◌, ◌<◌, ◌≤◌, ◌↔◌, ◌⊎◌, true, false, length, Option, Some, IfOk, IsTrue};
-ghost use Rattle.rawk_ere_automaton.specs.Sets.{IsFarthest, WantsFrom};
+ghost use Rattle.rawk_ere_walks.specs.Sets.{IsFarthest, WantsFrom};
 ghost use Rattle.rawk_ere_tree.specs.Code.{wide_code};
 ghost use Rattle.rawk_ere_automaton.specs.Table.{IsTable};
 ghost use Rattle.std.specs.Option.{ForSome};
-ghost use Rattle.rawk_ere_automaton.specs.Search.{BeginsIn, BeginsNone, EndsFrom, IsFirstBegin, IsProgress, Widens, IsBetween, AreBetween, IsFound, IsFirstOpen, IsOpenStart, MayStart, MayIn, NoneMay, IsOpening, IsOpened, Knows};
+ghost use Rattle.rawk_ere_walks.specs.Ways.{BeginsIn, EndsFrom, MayStart, MayIn};
+ghost use Rattle.rawk_ere_automaton.specs.Search.{BeginsNone, IsFirstBegin, IsProgress, Widens, IsBetween, AreBetween, IsFound, IsFirstOpen, IsOpenStart, NoneMay, IsOpening, IsOpened, Knows};
 
 use crate::progress::{Opening, Progress};
 use crate::table::{Table, first_end_by, first_stop, run, run_here, run_open, skip_on, skip_open};
-use crate::walk::{Walked, first_end, may_begin_by, no_states, walk};
 use rawk_ere_begins::block::Block;
 use rawk_ere_tree::code::Code;
 use rawk_ere_tree::set::StateSet;
+use rawk_ere_walks::walk::{Walked, first_end, may_begin_by, no_states, walk};
 use std::alloc::{AllocError, Global};
 
 /// How many bytes a search reads in vain before one pass over the text tells whether there is a way at all.

@@ -2,18 +2,19 @@
 
 ghost use Rattle.std.specs.Prelude.{◌≡◌, ℕ, ◌+◌, ◌-◌, ◌*◌, ◌<◌, ◌≤◌, ◌↔◌, ◌⊎◌, true, List, [], ◌++◌, length, slice_index_or, false, IfOk, OnOk, IsTrue, Contains, Some, slice_index};
 ghost use Rattle.rawk_ere_tree.specs.StateSets.{Adds};
-ghost use Rattle.rawk_ere_automaton.specs.Sets.{Closes, IsFarthest, AsksIn, WantsFrom};
+ghost use Rattle.rawk_ere_walks.specs.Sets.{Closes, IsFarthest, AsksIn, WantsFrom};
 ghost use Rattle.rawk_ere_automaton.specs.Table.{members, Begins, LeadsBy, EndsLast, AreFilled, AreStarts, IsTable, IsPlaced, Extends, AreAlike, AreMarkedAlike, IsTarget};
 ghost use Rattle.rawk_ere_tree.specs.Code.{wide_code};
-ghost use Rattle.rawk_ere_automaton.specs.Search.{EndsFrom, Widens, Way, BeginsNone, NoneMay, Knows};
+ghost use Rattle.rawk_ere_walks.specs.Ways.{EndsFrom, Way};
+ghost use Rattle.rawk_ere_automaton.specs.Search.{Widens, BeginsNone, NoneMay, Knows};
 ghost use Rattle.std.specs.Option.{ForSome};
 
-use crate::walk::{asks_in, close, has_end, no_states, read, reads_from};
 use rawk_ere_begins::block::Block;
 use rawk_ere_begins::filter::{Filter, find_filter};
 use rawk_ere_begins::seek::{LONG, seek, seek_noting};
 use rawk_ere_tree::code::Code;
 use rawk_ere_tree::set::StateSet;
+use rawk_ere_walks::walk::{asks_in, close, has_end, no_states, read, reads_from};
 use std::alloc::{AllocError, Global};
 
 /// The rows: the sets of states, of which only what a walk asks is kept.

@@ -3,7 +3,7 @@ use Rattle.std.specs.Prelude.{◌≡◌, ℕ, ◌+◌, Bool, true, false, ◌&&�
 use Rattle.rawk_ere_last.specs.declared.shape.Shape.{Shape}
 use Rattle.rawk_ere_tree.specs.Tree.{Tree, Empty, OneOf, Start, End, Join, Either, Group, Repeat}
 use Rattle.rawk_ere_tree.specs.declared.code.Instruction.{Instruction}
-use Rattle.rawk_ere_automaton.specs.Search.{Way}
+use Rattle.rawk_ere_walks.specs.Ways.{Way}
 
 abbrev pub shape_with : ℕ → Bool → Shape
 shape_with n last = record { width = n; is_last = last }

@@ -3,7 +3,8 @@
 ghost use Rattle.std.specs.Prelude.{◌<◌, ◌≤◌, ◌↔◌, length, IfOk, IsTrue};
 ghost use Rattle.std.specs.Option.{ForSome};
 ghost use Rattle.rawk_ere_automaton.specs.Table.{IsTable};
-ghost use Rattle.rawk_ere_automaton.specs.Search.{BeginsIn, IsFound};
+ghost use Rattle.rawk_ere_walks.specs.Ways.{BeginsIn};
+ghost use Rattle.rawk_ere_automaton.specs.Search.{IsFound};
 ghost use Rattle.rawk_ere_last.specs.Shapes.{AreLast};
 
 use rawk_ere_automaton::search::{first, is_found_by_walk};

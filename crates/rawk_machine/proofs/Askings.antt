@@ -2,10 +2,9 @@
 use Rattle.std.proofs.Common.{◌≡◌, ℕ, ◌+◌, ◌-◌, ◌≤◌, inl, inr, List, [], ◌∷◌, ◌++◌, length, Option, None, refl, sym, ap, ◌∙◌, subst, arith}
 use Rattle.std.proofs.lemmas.List.{length-append}
 use Rattle.rawk_value.specs.Values.{Bytes}
-use Rattle.rawk_tape.specs.Records.{Input}
-use Rattle.rawk_tape.specs.Inputs.{CountsUp, before}
+use Rattle.rawk_devices.specs.Inputs.{Input, CountsUp, before}
 use Rattle.rawk_tape.specs.Tapes.{TapeState, MayBe}
-use Rattle.rawk_tape.specs.declared.source.Ending.{Ending as End}
+use Rattle.rawk_devices.specs.declared.source.Ending.{Ending as End}
 use Rattle.rawk_store.specs.declared.registers.Ending.{Ending}
 use Rattle.rawk_store.specs.Layout.{Layout, state, operands, keys}
 use Rattle.rawk_store.specs.State.{State}

@@ -1,8 +1,7 @@
 -- What a run asked for of its input.
 use Rattle.std.proofs.Common.{◌≡◌, ◌⊎◌, inl, inr, ◌≤◌, ℕ, List, [], length, refl}
 use Rattle.rawk_value.specs.Values.{Bytes}
-use Rattle.rawk_tape.specs.Records.{Input}
-use Rattle.rawk_tape.specs.Inputs.{CountsUp, before}
+use Rattle.rawk_devices.specs.Inputs.{Input, CountsUp, before}
 use Rattle.rawk_tree.specs.declared.tree.Program.{Program}
 use Rattle.rawk_code.specs.Actions.{Given}
 use Rattle.rawk_code.specs.Correct.{CodeOf, first}

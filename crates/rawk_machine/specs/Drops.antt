@@ -2,8 +2,7 @@
 use Rattle.std.proofs.Common.{◌≡◌, ℕ, ◌+◌, ◌-◌, ◌≤◌, [], ◌++◌, length, take, drop, refl, sym, ap, ◌∙◌, arith, append_assoc}
 use Rattle.std.proofs.lemmas.List.{append-nil, length-append, take-append-drop, length-take-le}
 use Rattle.rawk_value.specs.Values.{Bytes}
-use Rattle.rawk_tape.specs.Records.{Input}
-use Rattle.rawk_tape.specs.Inputs.{before}
+use Rattle.rawk_devices.specs.Inputs.{Input, before}
 use Rattle.rawk_store.specs.State.{State}
 use Rattle.rawk_machine.specs.Standing.{Standing, MayCome, IsAt, dropped, whole, ground_of, moment_of}
 use Rattle.rawk_machine.specs.Reached.{stands_as}

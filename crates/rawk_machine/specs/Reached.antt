@@ -1,7 +1,7 @@
 -- Where a machine stands, its code's run has reached.
 use Rattle.std.proofs.Common.{◌≡◌, ℕ, ◌+◌, false, List, length, Option, None, Some, sym, ap, ◌∙◌, subst}
 use Rattle.rawk_value.specs.Values.{Bytes}
-use Rattle.rawk_tape.specs.Records.{Input}
+use Rattle.rawk_devices.specs.Inputs.{Input}
 use Rattle.rawk_store.specs.State.{State}
 use Rattle.rawk_code.specs.Actions.{Point, Run, Ending, Given, SetAt}
 use Rattle.rawk_code.specs.Trace.{site_at_end}

@@ -15,11 +15,11 @@ ghost use Rattle.rawk_store.specs.Observed.{Observed};
 
 use crate::last_move::LastMove;
 use crate::machine::Machine;
+use rawk_devices::Source;
 use rawk_history::Keeper;
 use rawk_store::{
     FieldRef, Group, RareChanges, Record, ValueRef, global_after, global_before, led_to, saved_at,
 };
-use rawk_tape::Source;
 use rawk_value::Value;
 
 /// A global's value where groups lead, if they hold it; for a number of a global.

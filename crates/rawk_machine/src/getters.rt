@@ -6,16 +6,16 @@ ghost use Rattle.rawk_value.specs.Values.{Bytes};
 ghost use Rattle.rawk_frames.specs.Frame.{Frame, IsOf, locals_now};
 ghost use Rattle.rawk_arrays.specs.Elements.{array_at, element_at};
 ghost use Rattle.rawk_store.specs.State.{array_in, count_in, element_in, keys_in};
-ghost use Rattle.rawk_tape.specs.Records.{Input};
+ghost use Rattle.rawk_devices.specs.Inputs.{Input};
 ghost use Rattle.rawk_record.specs.FieldRefs.{ref_value};
 ghost use Rattle.rawk_code.specs.Actions.{SetAt};
 ghost use Rattle.rawk_machine.specs.Kept.{AllBelow, Few};
 ghost use Rattle.rawk_machine.specs.Standing.{Earlier, MayCome, LastMade};
 
 use crate::machine::Machine;
+use rawk_devices::Source;
 use rawk_history::Keeper;
 use rawk_store::{Activation, Ending, FieldRef, Local};
-use rawk_tape::Source;
 use rawk_value::{Bytes, Value};
 use rawk_words::Array;
 use std::alloc::{AllocError, Global};

@@ -3,9 +3,8 @@
 ghost use Rattle.std.specs.Prelude.{◌≡◌, ◌↔◌, ◌≤◌, ◌<◌, ◌+◌, ◌-◌, ◌*◌, ◌^◌, [], ◌++◌, ℕ, nat_lt, List, None, Some, IsSome, IsTrue, length, take, drop, IfOk, IfErr, OnOk, OnErr};
 ghost use Rattle.std.specs.Option.{option_map};
 ghost use Rattle.rawk_value.specs.Values.{Bytes};
-ghost use Rattle.rawk_tape.specs.Inputs.{CountsUp};
-ghost use Rattle.rawk_tape.specs.Records.{Input};
-ghost use Rattle.rawk_tape.specs.declared.source.Ending.{Ending as End};
+ghost use Rattle.rawk_devices.specs.Inputs.{Input, CountsUp};
+ghost use Rattle.rawk_devices.specs.declared.source.Ending.{Ending as End};
 ghost use Rattle.rawk_store.specs.Stores.{now_of, start_of};
 ghost use Rattle.rawk_store.specs.State.{assigned};
 ghost use Rattle.rawk_code.specs.Actions.{fault_of};
@@ -17,7 +16,8 @@ ghost use Rattle.rawk_reading.specs.Drawing.{Draws};
 
 use crate::last_move::LastMove;
 use crate::step::Step;
-use rawk_code::{Code, SetAt, Settings};
+use rawk_code::{SetAt, Settings};
+use rawk_devices::Source;
 use rawk_history::{Keeper, Off, saved_in_groups};
 use rawk_patterns::Expressions;
 use rawk_steps::arrival::{site_at, step};
@@ -25,7 +25,8 @@ use rawk_steps::back::{drop_newest, go_back, write_copy};
 use rawk_steps::journal::journaled;
 use rawk_steps::start::{copy_settings, fill_first};
 use rawk_store::{Ending, Group, Phase, Registers, Store, Target};
-use rawk_tape::{Source, Tape};
+use rawk_tape::Tape;
+use rawk_told::Code;
 use rawk_travel::count::Count;
 use rawk_value::{Fault, Value};
 use std::alloc::{AllocError, Global};
@@ -55,7 +56,7 @@ pub struct Machine<R: Source + Drop, K: Keeper> {
 
 impl<R: Source + Drop, K: Keeper> Model for Machine<R, K> {
     ghost use Rattle.std.specs.Prelude.{◌≡◌, Some, length, reverse};
-    ghost use Rattle.rawk_tape.specs.declared.source.Ending.{Ending};
+    ghost use Rattle.rawk_devices.specs.declared.source.Ending.{Ending};
     ghost use Rattle.rawk_store.specs.Stores.{now_of};
     ghost use Rattle.rawk_machine.specs.Standing.{Standing};
 

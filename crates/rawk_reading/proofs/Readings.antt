@@ -4,9 +4,9 @@ use Rattle.std.specs.Prelude.{IfOk, slice_range}
 use Rattle.rawk_value.specs.declared.fault.Fault.{Fault}
 use Rattle.rawk_value.specs.declared.fault.Fault.TheVariants as fault
 use Rattle.rawk_value.specs.Values.{Bytes, text_of}
-use Rattle.rawk_tape.specs.Records.{Input, next_record}
+use Rattle.rawk_devices.specs.Inputs.{Input, before}
+use Rattle.rawk_tape.specs.Records.{next_record}
 use Rattle.rawk_tape.specs.Records as records
-use Rattle.rawk_tape.specs.Inputs.{before}
 use Rattle.rawk_tape.specs.Tapes.{TapeState, MayBe, Answers, text_at}
 use Rattle.rawk_tape.specs.declared.found.Found.{Found as Place}
 use Rattle.rawk_store.specs.State.{RS}

@@ -6,8 +6,9 @@ use Rattle.rawk_value.specs.declared.fault.Fault.{Fault}
 use Rattle.rawk_value.specs.declared.value.Value.{Value}
 use Rattle.rawk_value.specs.declared.value.Value.TheVariants.{Uninitialized, Number, Input}
 use Rattle.rawk_value.specs.Values.{Bytes, next_ok, number_of, checked, text_of, is_empty}
+use Rattle.rawk_devices.specs.Inputs as inputs
 use Rattle.rawk_tape.specs.Records as records
-use Rattle.rawk_tape.specs.Inputs.{before}
+use Rattle.rawk_devices.specs.Inputs.{before}
 use Rattle.rawk_pieces.specs.Fields.{fields_of}
 use Rattle.rawk_record.specs.Shown.{Shown}
 use Rattle.rawk_store.specs.State.{State, NR, FNR, FS, RS, global_text, with_global, with_record}
@@ -83,7 +84,7 @@ taken_whole m consumed count handed text =
     ∙ sym (next_next (counter_up NR m.globals) (λ k. next_ok (counter_up FNR m.globals) (last k)) done)
 
 -- the reading, by what the next record of the kept input is
-reading_by : (m : Moving) (points : List Point) (gone handed : Bytes) (input : records.Input) (r : Result (Option records.Found) Fault) → records.next_record input m.registers.consumed (text_of (global_in RS m.globals)) ≡ r →
+reading_by : (m : Moving) (points : List Point) (gone handed : Bytes) (input : inputs.Input) (r : Result (Option records.Found) Fault) → records.next_record input m.registers.consumed (text_of (global_in RS m.globals)) ≡ r →
     read_record (before gone input) (run_in m points gone handed)
     ≡ and_then (need (next_ok (next_ok (moved (length gone) r) (counted (full m (length gone + m.registers.consumed) handed))) kept) (run_in m points gone handed)) taken
 reading_by m points gone handed input r e =
@@ -91,28 +92,28 @@ reading_by m points gone handed input r e =
     ap (λ (x : Result (Option records.Found) Fault). and_then (need (next_ok (next_ok x (counted s)) kept) (run_in m points gone handed)) taken)
     (next_record-before gone input m.registers.consumed (text_of (global_in RS m.globals)) ∙ ap (moved (length gone)) e)
 
-pub read_missing : (m : Moving) (points : List Point) (gone handed : Bytes) (input : records.Input) → records.next_record input m.registers.consumed (text_of (global_in RS m.globals)) ≡ Ok None →
+pub read_missing : (m : Moving) (points : List Point) (gone handed : Bytes) (input : inputs.Input) → records.next_record input m.registers.consumed (text_of (global_in RS m.globals)) ≡ Ok None →
     read_record (before gone input) (run_in m points gone handed) ≡ Goes false (run_in m points gone handed)
 read_missing m points gone handed input e = reading_by m points gone handed input (Ok None) e
 
-pub read_fault : (m : Moving) (points : List Point) (gone handed : Bytes) (input : records.Input) (f : Fault) → records.next_record input m.registers.consumed (text_of (global_in RS m.globals)) ≡ Err f →
+pub read_fault : (m : Moving) (points : List Point) (gone handed : Bytes) (input : inputs.Input) (f : Fault) → records.next_record input m.registers.consumed (text_of (global_in RS m.globals)) ≡ Err f →
     read_record (before gone input) (run_in m points gone handed) ≡ Breaks (Stops (Faulted f)) (run_in m points gone handed)
 read_fault m points gone handed input f e = reading_by m points gone handed input (Err f) e
 
-read_found : (m : Moving) (points : List Point) (gone handed : Bytes) (input : records.Input) (text : Bytes) (count : ℕ) → records.next_record input m.registers.consumed (text_of (global_in RS m.globals)) ≡ Ok (Some (record { text = text; count = count })) →
+read_found : (m : Moving) (points : List Point) (gone handed : Bytes) (input : inputs.Input) (text : Bytes) (count : ℕ) → records.next_record input m.registers.consumed (text_of (global_in RS m.globals)) ≡ Ok (Some (record { text = text; count = count })) →
     read_record (before gone input) (run_in m points gone handed)
     ≡ and_then (need (next_ok (taken_of text m) (λ n. Ok (state_of (length gone + count) handed text n))) (run_in m points gone handed)) taken
 read_found m points gone handed input text count e =
     reading_by m points gone handed input (Ok (Some (record { text = text; count = count }))) e
     ∙ ap (λ (x : Result (Option Reading) Fault). and_then (need x (run_in m points gone handed)) taken) (taken_whole m (length gone + m.registers.consumed) (length gone + count) handed text)
 
-pub read_taken : (m n : Moving) (points : List Point) (gone handed : Bytes) (input : records.Input) (text : Bytes) (count : ℕ) → records.next_record input m.registers.consumed (text_of (global_in RS m.globals)) ≡ Ok (Some (record { text = text; count = count })) →
+pub read_taken : (m n : Moving) (points : List Point) (gone handed : Bytes) (input : inputs.Input) (text : Bytes) (count : ℕ) → records.next_record input m.registers.consumed (text_of (global_in RS m.globals)) ≡ Ok (Some (record { text = text; count = count })) →
     taken_of text m ≡ Ok n → read_record (before gone input) (run_in m points gone handed) ≡ Goes true (run_in (with_consumed count n) points gone handed)
 read_taken m n points gone handed input text count e t =
     read_found m points gone handed input text count e
     ∙ ap (λ (x : Result Moving Fault). and_then (need (next_ok x (λ k. Ok (state_of (length gone + count) handed text k))) (run_in m points gone handed)) taken) t
 
-pub read_refused : (m : Moving) (points : List Point) (gone handed : Bytes) (input : records.Input) (text : Bytes) (count : ℕ) (f : Fault) →
+pub read_refused : (m : Moving) (points : List Point) (gone handed : Bytes) (input : inputs.Input) (text : Bytes) (count : ℕ) (f : Fault) →
     records.next_record input m.registers.consumed (text_of (global_in RS m.globals)) ≡ Ok (Some (record { text = text; count = count })) →
     taken_of text m ≡ Err f → read_record (before gone input) (run_in m points gone handed) ≡ Breaks (Stops (Faulted f)) (run_in m points gone handed)
 read_refused m points gone handed input text count f e t =
@@ -141,7 +142,7 @@ counted_whole m consumed count handed text =
     ∙ sym (next_next (counter_up NR m.globals) (λ k. next_ok (counter_up FNR m.globals) (λ j. Ok (make k j))) done)
 
 -- the reading of a text, by what the next record of the kept input is
-text_by : (m : Moving) (points : List Point) (gone handed : Bytes) (input : records.Input) (r : Result (Option records.Found) Fault) → records.next_record input m.registers.consumed (text_of (global_in RS m.globals)) ≡ r →
+text_by : (m : Moving) (points : List Point) (gone handed : Bytes) (input : inputs.Input) (r : Result (Option records.Found) Fault) → records.next_record input m.registers.consumed (text_of (global_in RS m.globals)) ≡ r →
     read_text (before gone input) (run_in m points gone handed)
     ≡ and_then (need (next_ok (moved (length gone) r) (counted (full m (length gone + m.registers.consumed) handed))) (run_in m points gone handed)) text_taken
 text_by m points gone handed input r e =
@@ -149,16 +150,16 @@ text_by m points gone handed input r e =
     ap (λ (x : Result (Option records.Found) Fault). and_then (need (next_ok x (counted s)) (run_in m points gone handed)) text_taken)
     (next_record-before gone input m.registers.consumed (text_of (global_in RS m.globals)) ∙ ap (moved (length gone)) e)
 
-pub text_missing : (m : Moving) (points : List Point) (gone handed : Bytes) (input : records.Input) → records.next_record input m.registers.consumed (text_of (global_in RS m.globals)) ≡ Ok None →
+pub text_missing : (m : Moving) (points : List Point) (gone handed : Bytes) (input : inputs.Input) → records.next_record input m.registers.consumed (text_of (global_in RS m.globals)) ≡ Ok None →
     read_text (before gone input) (run_in m points gone handed) ≡ Goes None (run_in m points gone handed)
 text_missing m points gone handed input e = text_by m points gone handed input (Ok None) e
 
-pub text_fault : (m : Moving) (points : List Point) (gone handed : Bytes) (input : records.Input) (f : Fault) → records.next_record input m.registers.consumed (text_of (global_in RS m.globals)) ≡ Err f →
+pub text_fault : (m : Moving) (points : List Point) (gone handed : Bytes) (input : inputs.Input) (f : Fault) → records.next_record input m.registers.consumed (text_of (global_in RS m.globals)) ≡ Err f →
     read_text (before gone input) (run_in m points gone handed) ≡ Breaks (Stops (Faulted f)) (run_in m points gone handed)
 text_fault m points gone handed input f e = text_by m points gone handed input (Err f) e
 
 -- where a text was found, by what its counters are
-pub text_found : (m : Moving) (points : List Point) (gone handed : Bytes) (input : records.Input) (text : Bytes) (count : ℕ) (r : Result Moving Fault) →
+pub text_found : (m : Moving) (points : List Point) (gone handed : Bytes) (input : inputs.Input) (text : Bytes) (count : ℕ) (r : Result Moving Fault) →
     records.next_record input m.registers.consumed (text_of (global_in RS m.globals)) ≡ Ok (Some (record { text = text; count = count })) → text_taken_of text m ≡ r →
     read_text (before gone input) (run_in m points gone handed)
     ≡ and_then (need (next_ok r (λ n. Ok (state_of (length gone + count) handed text n))) (run_in m points gone handed)) text_taken

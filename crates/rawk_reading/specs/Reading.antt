@@ -5,8 +5,7 @@ use Rattle.rawk_value.specs.declared.value.Value.{Value}
 use Rattle.rawk_value.specs.declared.value.Value.TheVariants.{Number}
 use Rattle.rawk_value.specs.declared.value.Value.TheVariants as value
 use Rattle.rawk_value.specs.Values.{Bytes, next_ok, number_of, checked, text_of, is_empty}
-use Rattle.rawk_tape.specs.Records.{Input}
-use Rattle.rawk_tape.specs.Inputs.{before}
+use Rattle.rawk_devices.specs.Inputs.{Input, before}
 use Rattle.rawk_record.specs.Shown.{Shown, read_as}
 use Rattle.rawk_store.specs.State.{NR, FNR, FS, RS}
 use Rattle.rawk_code.specs.Actions.{Point, Run, Goes, Breaks, Stops, Faulted, read_record, read_text}

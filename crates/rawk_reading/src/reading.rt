@@ -11,19 +11,21 @@ ghost use Rattle.rawk_operands.specs.Borrowed.{global_in};
 ghost use Rattle.rawk_reading.specs.Drawing.{Draws, IsDue};
 ghost use Rattle.rawk_record.specs.Shown.{read_as};
 ghost use Rattle.rawk_value.specs.Values.{Bytes, text_of, is_empty};
-ghost use Rattle.rawk_tape.specs.Records.{Input, next_record};
+ghost use Rattle.rawk_devices.specs.Inputs.{Input};
+ghost use Rattle.rawk_tape.specs.Records.{next_record};
 ghost use Rattle.rawk_tape.specs.Tapes.{Answers, IsWithin, MayBe};
-ghost use Rattle.rawk_tape.specs.declared.source.Ending.{Ending};
+ghost use Rattle.rawk_devices.specs.declared.source.Ending.{Ending};
 ghost use Rattle.rawk_code.specs.Actions.{Point};
 
 use itoa::Buffer;
+use rawk_devices::Source;
 use rawk_operands::borrowed::global_borrowed;
 use rawk_operands::stack::push_input;
 use rawk_operands::variables::global_number;
 use rawk_operators::{number, text_borrowed};
 use rawk_special::{FNR, FS, NR, RS};
 use rawk_store::{Cells, Store};
-use rawk_tape::{Found, Source, Tape};
+use rawk_tape::{Found, Tape};
 use rawk_value::{Fault, Value};
 use std::alloc::{AllocError, Global};
 

@@ -3,12 +3,12 @@ use Rattle.std.proofs.Common.{◌≡◌, ℕ, ◌+◌, Bool, true, false, ◌&&�
 use Rattle.std.specs.Prelude.{if◌then◌else◌, nat_le}
 use Rattle.std.proofs.lemmas.Bool.{and_parts, and_from}
 use Rattle.rawk_ere_tree.specs.Tree.{Tree, size_of, nesting_of, IsWithinLimits}
-use Rattle.rawk_ere.specs.declared.token.Token.{Token}
-use Rattle.rawk_ere.specs.declared.error.EreError.TheVariants as error
-use Rattle.rawk_ere.specs.PatternOf.{IsPatternOf, IsRefused}
+use Rattle.rawk_ere_pattern.specs.declared.token.Token.{Token}
+use Rattle.rawk_ere_pattern.specs.declared.error.EreError.TheVariants as error
+use Rattle.rawk_ere_pattern.specs.PatternOf.{IsPatternOf, IsRefused}
 use Rattle.rawk_search.specs.Expressions.{tokens, read, limited, ere_of}
 use Rattle.rawk_search.proofs.TokenLemmas.{tokens_all, are_tokens}
-use Rattle.rawk_ere.specs.ReadingLemmas.{read_all, derived_all}
+use Rattle.rawk_ere_pattern.specs.ReadingLemmas.{read_all, derived_all}
 
 -- the tree, within the limits or not
 abbrev tree_of : List ℕ → Option Tree

@@ -4,7 +4,7 @@ use Rattle.std.proofs.Common.{refl}
 use Rattle.rawk_value.specs.Values.{Bytes}
 use Rattle.rawk_ere_tree.specs.declared.node.Count.TheVariants.{Star, Between}
 use Rattle.rawk_ere_tree.specs.Tree.{Tree, OneOf, Join, Either, Repeat}
-use Rattle.rawk_ere.specs.Pattern.{item_at}
+use Rattle.rawk_ere_pattern.specs.Pattern.{item_at}
 use Rattle.rawk_search.specs.declared.span.Span.{Span}
 use Rattle.rawk_search.specs.Expressions.{ere_of, set_of, word_of}
 use Rattle.rawk_search.specs.Matches.{ends, first_match}

@@ -2,15 +2,15 @@
 use Rattle.std.proofs.Common.{ℕ, zero, suc, ◌+◌, ◌-◌, ◌*◌, ◌<◌, ◌≤◌, Bool, true, false, not, ◌&&◌, ◌||◌, List, [], ◌∷◌, length, drop, Option, Some, None, arith, length-drop}
 use Rattle.std.specs.Prelude.{if◌then◌else◌, nat_eq, nat_le}
 use Rattle.rawk_ere_tree.specs.declared.node.Count.TheVariants.{AtLeast, Between}
-use Rattle.rawk_ere.specs.declared.token.Token.{Token}
-use Rattle.rawk_ere.specs.declared.bracket.Class.{Class}
-use Rattle.rawk_ere.specs.declared.bracket.BracketPlace.{BracketPlace}
-use Rattle.rawk_ere.specs.declared.bracket.BracketPlace.TheVariants.{First, AfterByte, AfterRange}
-use Rattle.rawk_ere.specs.declared.bracket.Item.{Item}
-use Rattle.rawk_ere.specs.declared.bracket.Item.TheVariants.{Range}
-use Rattle.rawk_ere.specs.declared.byte_kind.ByteKind.{ByteKind}
-use Rattle.rawk_ere.specs.declared.byte_kind.ByteKind.TheVariants as kind
-use Rattle.rawk_ere.specs.Pattern.{is_digit, is_octal, begins, begins_digit, digits_from, octal_from, escaped_byte, with_rest, as_byte, escape, class_at, name_length, endpoint, ended_by, begun_with, begun_by, named, hyphen, item_at, closes, Braced, Itself, Wrong, Interval, exactly, at_least, between, after_comma, after_least, without_least, braced}
+use Rattle.rawk_ere_pattern.specs.declared.token.Token.{Token}
+use Rattle.rawk_ere_pattern.specs.declared.bracket.Class.{Class}
+use Rattle.rawk_ere_pattern.specs.declared.bracket.BracketPlace.{BracketPlace}
+use Rattle.rawk_ere_pattern.specs.declared.bracket.BracketPlace.TheVariants.{First, AfterByte, AfterRange}
+use Rattle.rawk_ere_pattern.specs.declared.bracket.Item.{Item}
+use Rattle.rawk_ere_pattern.specs.declared.bracket.Item.TheVariants.{Range}
+use Rattle.rawk_ere_pattern.specs.declared.byte_kind.ByteKind.{ByteKind}
+use Rattle.rawk_ere_pattern.specs.declared.byte_kind.ByteKind.TheVariants as kind
+use Rattle.rawk_ere_pattern.specs.Pattern.{is_digit, is_octal, begins, begins_digit, digits_from, octal_from, escaped_byte, with_rest, as_byte, escape, class_at, name_length, endpoint, ended_by, begun_with, begun_by, named, hyphen, item_at, closes, Braced, Itself, Wrong, Interval, exactly, at_least, between, after_comma, after_least, without_least, braced}
 use Rattle.rawk_search.specs.Expressions.{with_item, items, bracketed, bracket, escaped, brace, first_token}
 
 -- what is left of the text is shorter than n, if something was read

@@ -3,17 +3,17 @@ use Rattle.std.proofs.Common.{◌≡◌, ℕ, zero, suc, ◌+◌, ◌<◌, inl, 
 use Rattle.std.specs.Prelude.{◌↔◌, if◌then◌else◌, nat_eq, nat_le}
 use Rattle.std.proofs.lemmas.Bool.{or_cases, and_parts, and_from}
 use Rattle.rawk_ere_tree.specs.ByteSets.{IsInRanges}
-use Rattle.rawk_ere.specs.declared.token.Token.{Token}
-use Rattle.rawk_ere.specs.declared.token.Token.TheVariants as token
-use Rattle.rawk_ere.specs.declared.bracket.BracketPlace.{BracketPlace}
-use Rattle.rawk_ere.specs.declared.bracket.BracketPlace.TheVariants.{First}
-use Rattle.rawk_ere.specs.declared.bracket.Item.{Item}
-use Rattle.rawk_ere.specs.declared.byte_kind.ByteKind.{ByteKind}
-use Rattle.rawk_ere.specs.declared.byte_kind.ByteKind.TheVariants as kind
-use Rattle.rawk_ere.specs.Pattern.{begins, escape, item_at, closes, Items, closed, more, IsBracket, Braced, Itself, Wrong, Interval, braced, kind_of, IsOneOf, IsBracketed, IsBraced, IsFirstToken, AreTokens}
+use Rattle.rawk_ere_pattern.specs.declared.token.Token.{Token}
+use Rattle.rawk_ere_pattern.specs.declared.token.Token.TheVariants as token
+use Rattle.rawk_ere_pattern.specs.declared.bracket.BracketPlace.{BracketPlace}
+use Rattle.rawk_ere_pattern.specs.declared.bracket.BracketPlace.TheVariants.{First}
+use Rattle.rawk_ere_pattern.specs.declared.bracket.Item.{Item}
+use Rattle.rawk_ere_pattern.specs.declared.byte_kind.ByteKind.{ByteKind}
+use Rattle.rawk_ere_pattern.specs.declared.byte_kind.ByteKind.TheVariants as kind
+use Rattle.rawk_ere_pattern.specs.Pattern.{begins, escape, item_at, closes, Items, closed, more, IsBracket, Braced, Itself, Wrong, Interval, braced, kind_of, IsOneOf, IsBracketed, IsBraced, IsFirstToken, AreTokens}
 use Rattle.rawk_search.specs.Expressions.{set_of, one_of, in_ranges, with_item, items, bracketed, bracket, escaped, brace, first_token, with_token, tokens}
 use Rattle.rawk_search.specs.Repeats.{or_left, or_right}
-use Rattle.rawk_ere.specs.ByteSetLemmas.{set_same}
+use Rattle.rawk_ere_pattern.specs.ByteSetLemmas.{set_same}
 use Rattle.rawk_search.proofs.SetLemmas.{set_is}
 use Rattle.rawk_search.proofs.ShortLemmas.{Under, after_token, item_under, items_on, first_under}
 

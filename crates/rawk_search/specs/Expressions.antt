@@ -3,15 +3,15 @@ use Rattle.std.specs.Prelude.{ℕ, zero, suc, ◌+◌, ◌*◌, ◌^◌, Bool, t
 use Rattle.rawk_value.specs.Values.{Bytes}
 use Rattle.rawk_ere_tree.specs.declared.node.Count.TheVariants.{Star, Plus, Maybe}
 use Rattle.rawk_ere_tree.specs.Tree.{Tree, size_of, nesting_of}
-use Rattle.rawk_ere.specs.declared.token.Token.{Token}
-use Rattle.rawk_ere.specs.declared.token.Token.TheVariants as token
-use Rattle.rawk_ere.specs.declared.bracket.BracketPlace.{BracketPlace}
-use Rattle.rawk_ere.specs.declared.bracket.BracketPlace.TheVariants.{First}
-use Rattle.rawk_ere.specs.declared.bracket.Item.{Item}
-use Rattle.rawk_ere.specs.declared.byte_kind.ByteKind.{ByteKind}
-use Rattle.rawk_ere.specs.declared.byte_kind.ByteKind.TheVariants as kind
-use Rattle.rawk_ere.specs.Pattern.{begins, escape, ranges_in, item_at, closes, Braced, Itself, Wrong, Interval, braced, kind_of}
-use Rattle.rawk_ere.specs.Reading.{fresh, run}
+use Rattle.rawk_ere_pattern.specs.declared.token.Token.{Token}
+use Rattle.rawk_ere_pattern.specs.declared.token.Token.TheVariants as token
+use Rattle.rawk_ere_pattern.specs.declared.bracket.BracketPlace.{BracketPlace}
+use Rattle.rawk_ere_pattern.specs.declared.bracket.BracketPlace.TheVariants.{First}
+use Rattle.rawk_ere_pattern.specs.declared.bracket.Item.{Item}
+use Rattle.rawk_ere_pattern.specs.declared.byte_kind.ByteKind.{ByteKind}
+use Rattle.rawk_ere_pattern.specs.declared.byte_kind.ByteKind.TheVariants as kind
+use Rattle.rawk_ere_pattern.specs.Pattern.{begins, escape, ranges_in, item_at, closes, Braced, Itself, Wrong, Interval, braced, kind_of}
+use Rattle.rawk_ere_pattern.specs.Reading.{fresh, run}
 
 -- a number of n bits: the bit k says whether `from + k` passes the test
 unfoldable pub word_of : (ℕ → Bool) → ℕ → ℕ → ℕ

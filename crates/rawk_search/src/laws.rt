@@ -5,7 +5,7 @@ ghost use Rattle.rawk_ere_tree.specs.Cuts.{AreCuts};
 ghost use Rattle.rawk_ere_tree.specs.Ends.{Ends, IsMatch};
 ghost use Rattle.rawk_ere_tree.specs.Open.{Needs, IsNonempty};
 ghost use Rattle.rawk_ere_tree.specs.Tree.{Tree, IsWithinLimits};
-ghost use Rattle.rawk_ere.specs.PatternOf.{IsPatternOf};
+ghost use Rattle.rawk_ere_pattern.specs.PatternOf.{IsPatternOf};
 ghost use Rattle.rawk_ere.specs.Search.{AreBetween};
 ghost use Rattle.rawk_search.specs.declared.span.Span.{Span};
 ghost use Rattle.rawk_search.specs.Expressions as patterns;

@@ -3,7 +3,8 @@
 ghost use Rattle.std.specs.Prelude.{◌≡◌, IfOk};
 ghost use Rattle.rawk_search.specs.Expressions.{ere_of};
 
-use rawk_ere::{Ere, EreError};
+use rawk_ere::Ere;
+use rawk_ere_pattern::EreError;
 use std::alloc::{AllocError, Global};
 
 /// The expression that a pattern is (POSIX XBD 9.4), or None where it is none within the limits. An error: memory was refused.

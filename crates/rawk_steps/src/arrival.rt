@@ -2,12 +2,12 @@
 
 ghost use Rattle.std.specs.Prelude.{◌≡◌, ◌<◌, ◌≤◌, ◌+◌, ◌^◌, List, None, Some, length, slice_get, IfOk, OnOk, OnErr};
 ghost use Rattle.std.specs.Option.{option_copied};
-ghost use Rattle.rawk_tape.specs.Records.{Input};
+ghost use Rattle.rawk_devices.specs.Inputs.{Input};
 ghost use Rattle.rawk_tape.specs.Tapes.{MayBe};
-ghost use Rattle.rawk_tape.specs.declared.source.Ending.{Ending as End};
+ghost use Rattle.rawk_devices.specs.declared.source.Ending.{Ending as End};
 ghost use Rattle.rawk_store.specs.Layout.{Grown, IsSound};
 ghost use Rattle.rawk_store.specs.Stores.{BeganNested, now_of, start_of};
-ghost use Rattle.rawk_code.specs.Quick.{IsTold};
+ghost use Rattle.rawk_told.specs.Quick.{IsTold};
 ghost use Rattle.rawk_code.specs.Valid.{Descends};
 ghost use Rattle.rawk_travel.specs.Travel.{HasRoom, IsThere, Stops};
 ghost use Rattle.rawk_reading.specs.Drawing.{Draws};
@@ -15,10 +15,11 @@ ghost use Rattle.rawk_travel.specs.Asking.{Asks};
 ghost use Rattle.rawk_operands.specs.Moving.{moving, with_registers};
 ghost use Rattle.rawk_steps.specs.Arrival.{settled, site_by, Arrives, HasCome, ends_quietly, EndsByRead, IsSettled};
 
-use rawk_code::{Code, Told};
+use rawk_devices::Source;
 use rawk_patterns::Expressions;
 use rawk_store::{Ending, Store};
-use rawk_tape::{Source, Tape};
+use rawk_tape::Tape;
+use rawk_told::{Code, Told};
 use rawk_travel::count::Count;
 use rawk_travel::travel::{Next, travel};
 use std::alloc::{AllocError, Global};

@@ -1,9 +1,9 @@
 //! The end of a step: what it changed is kept, or forgotten.
 
 ghost use Rattle.std.specs.Prelude.{◌≡◌, ◌<◌, ◌≤◌, ◌+◌, ◌^◌, [], None, Some, length, reverse, OnOk, OnErr};
-ghost use Rattle.rawk_tape.specs.Records.{Input};
+ghost use Rattle.rawk_devices.specs.Inputs.{Input};
 ghost use Rattle.rawk_tape.specs.Tapes.{MayBe};
-ghost use Rattle.rawk_tape.specs.declared.source.Ending.{Ending as End};
+ghost use Rattle.rawk_devices.specs.declared.source.Ending.{Ending as End};
 ghost use Rattle.rawk_history.specs.Keeping.{keeps_any};
 ghost use Rattle.rawk_store.specs.Layout.{Layout, Grown, IsSound};
 ghost use Rattle.rawk_store.specs.Stores.{BeganNested, now_of, start_of};
@@ -15,11 +15,12 @@ ghost use Rattle.rawk_steps.specs.Closing.{Closes, FitAll};
 ghost use Rattle.rawk_steps.specs.Leading.{all_back, AllArraysFit, arrays_forth, globals_forth, record_forth};
 
 use crate::arrival::step;
-use rawk_code::Code;
+use rawk_devices::Source;
 use rawk_history::Keeper;
 use rawk_patterns::Expressions;
 use rawk_store::{Group, Store};
-use rawk_tape::{Source, Tape};
+use rawk_tape::Tape;
+use rawk_told::Code;
 use rawk_travel::count::Count;
 use std::alloc::{AllocError, Global};
 

@@ -7,9 +7,10 @@ ghost use Rattle.rawk_arrays.specs.Laid.{arrays_of};
 ghost use Rattle.rawk_special.specs.Special.{first_specials};
 ghost use Rattle.rawk_code.specs.Trace.{with_first, settled};
 
-use rawk_code::{Code, FirstValue, Settings};
+use rawk_code::{FirstValue, Settings};
 use rawk_special::{COUNT, first_value, global_number};
 use rawk_store::{Arrays, Cells, Ranges};
+use rawk_told::Code;
 use rawk_value::{Bytes, Value};
 use std::alloc::{AllocError, Global};
 

@@ -5,7 +5,6 @@ mod assign;
 pub mod group;
 pub mod lent;
 pub mod numbering;
-pub mod output;
 pub mod rare_changes;
 pub mod registers;
 mod split;
@@ -16,7 +15,6 @@ pub use assign::array_number;
 pub use group::Group;
 pub use lent::{ValueRef, global_after, global_before};
 pub use numbering::field_number;
-pub use output::Output;
 pub use rare_changes::{FewGroup, RareChanges, RareGroup};
 pub use rawk_arrays::{Arrays, ArraysGroup};
 pub use rawk_cells::Cells;
@@ -25,6 +23,7 @@ pub use rawk_frames::{
     Activation, Frames, FramesGroup, HasStacks, KeptStacks, KeysLeft, KeysLeftGroup, Local, Ranges,
     RangesGroup,
 };
+pub use rawk_output::Output;
 pub use rawk_pieces::{Fields, Piece, Separator, fields_of, pieces_between};
 pub use rawk_record::{FieldRef, Record, RecordChange};
 pub use rawk_slots::{Reversible, Saved, SlotGroup, Slots, Stack, StackGroup, led_to, saved_at};

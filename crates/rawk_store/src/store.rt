@@ -13,13 +13,13 @@ ghost use Rattle.rawk_slots.specs.Journaled.{at_rest};
 ghost use Rattle.rawk_frames.specs.LaidKeys.{AreKeysLive};
 
 use crate::group::Group;
-use crate::output::Output;
 use crate::rare_changes::{FewGroup, RareChanges, RareGroup};
 use crate::registers::{Bank, Registers};
 use rawk_arrays::Arrays;
 use rawk_cells::{Appended, Cells};
 use rawk_current::Current;
 use rawk_frames::{Frames, KeysLeft, Ranges};
+use rawk_output::Output;
 use rawk_slots::{Slots, Stack};
 use rawk_value::Value;
 use std::alloc::{AllocError, Global};

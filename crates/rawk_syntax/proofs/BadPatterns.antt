@@ -3,7 +3,7 @@ use Rattle.std.proofs.Common.{◌≡◌, ◌<◌, inl, inr, ℕ, List, [], lengt
 use Rattle.std.proofs.lemmas.Bool.{false≢true}
 use Rattle.std.proofs.lemmas.Option.{slice_get_within, slice_get-get_or}
 use Rattle.rawk_ere_tree.specs.Tree.{IsWithinLimits}
-use Rattle.rawk_ere.specs.PatternOfLemmas.{read_once}
+use Rattle.rawk_ere_pattern.specs.PatternOfLemmas.{read_once}
 use Rattle.rawk_keys.specs.ArrayKey.{ArrayKey, array_key}
 use Rattle.rawk_names.specs.declared.usage.Usage.{Usage}
 use Rattle.rawk_names.specs.Noted.{Word, pattern_left}

@@ -1,9 +1,9 @@
 -- The regular expressions that stand in a program: each is one, or the first that is none has a place.
 use Rattle.std.specs.Prelude.{◌≡◌, ◌<◌, ◌⊎◌, ℕ, List, length, slice_get, Some}
 use Rattle.rawk_ere_tree.specs.Tree.{Tree, IsWithinLimits}
-use Rattle.rawk_ere.specs.declared.error.EreError.TheVariants as ere
-use Rattle.rawk_ere.specs.PatternOf.{IsPatternOf}
-use Rattle.rawk_ere.specs.PatternOf as reading
+use Rattle.rawk_ere_pattern.specs.declared.error.EreError.TheVariants as ere
+use Rattle.rawk_ere_pattern.specs.PatternOf.{IsPatternOf}
+use Rattle.rawk_ere_pattern.specs.PatternOf as reading
 use Rattle.rawk_keys.specs.ArrayKey.{ArrayKey}
 use Rattle.rawk_names.specs.declared.usage.Usage.{Usage}
 use Rattle.rawk_names.specs.Noted.{Word, Noted, pattern_left}

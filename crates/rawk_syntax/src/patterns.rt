@@ -4,8 +4,8 @@ ghost use Rattle.std.specs.Prelude.{IfOk, MatchBool, MatchOption};
 ghost use Rattle.rawk_names.specs.Noted.{shown};
 ghost use Rattle.rawk_syntax.specs.Patterns.{AllReadable, IsBad, IsBadPlace, IsFirstBad, IsReadable};
 
-use rawk_ere::EreError;
-use rawk_ere::read::read;
+use rawk_ere_pattern::EreError;
+use rawk_ere_pattern::read::read;
 use rawk_names::Register;
 use std::alloc::{AllocError, Global};
 

@@ -1,12 +1,11 @@
 -- What reading ahead leaves.
 use Rattle.std.proofs.Common.{◌⊎◌, inl, inr, ◌≡◌, ◌≤◌, ◌+◌, ◌-◌, ℕ, List, Option, None, Some, length, ◌++◌, drop, arith, subst, sym, ◌∙◌, ap, refl}
 use Rattle.std.proofs.lemmas.List.{length-append, append_assoc, drop-append-le}
-use Rattle.rawk_tape.specs.Records.{Input}
-use Rattle.rawk_tape.specs.Inputs.{before, CountsUp}
-use Rattle.rawk_tape.specs.declared.source.Ending.{Ending}
+use Rattle.rawk_devices.specs.Inputs.{Input, before, CountsUp}
+use Rattle.rawk_devices.specs.declared.source.Ending.{Ending}
 use Rattle.rawk_tape.specs.Tapes.{TapeState, MayBe, ReadsOn, ReadsAhead, LeadsBack, LastRead, IsUnsettled}
 use Rattle.rawk_tape.specs.Laws.{MayBe-consumed}
-use Rattle.rawk_tape.proofs.Handed.{counts_more}
+use Rattle.rawk_devices.specs.Counts.{counts_more}
 
 -- what may be after a read might have been before it
 pub MayBe-back : {S : Type 0} (may_give : S → Input → Type 0) (old new : TapeState S) (chunk : List ℕ) → new.bytes ≡ old.bytes ++ chunk → ((rest : Input) → may_give new.source rest → may_give old.source (before chunk rest)) → (input : Input) → MayBe may_give new input → MayBe may_give old input

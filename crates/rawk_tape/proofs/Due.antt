@@ -4,15 +4,15 @@ use Rattle.std.specs.List.{position_or_len}
 use Rattle.std.proofs.lemmas.List.{length-append, length-take-le, append-nil}
 use Rattle.std.proofs.Math.Seq.{drop-append-add}
 use Rattle.rawk_value.specs.Values.{Bytes}
-use Rattle.rawk_tape.specs.Records.{Input, is_newline}
-use Rattle.rawk_tape.specs.Inputs.{CountsUp, before, nothing}
+use Rattle.rawk_devices.specs.Inputs.{Input, CountsUp, before, nothing}
+use Rattle.rawk_tape.specs.Records.{is_newline}
 use Rattle.rawk_tape.specs.Tapes.{ReadsOn}
 use Rattle.rawk_tape.specs.Lines.{FindsNone, IsDue, IsEndless, LinesState, PassesOver, ReadsMore, failures_by}
 use Rattle.rawk_tape.specs.Laws.{before-before}
 use Rattle.rawk_tape.specs.declared.lines.NoLine.{NoLine}
 use Rattle.rawk_tape.specs.declared.lines.NoLine.TheVariants.{TooMany, Unread}
-use Rattle.rawk_tape.specs.declared.source.Ending.{Ending}
-use Rattle.rawk_tape.specs.declared.source.Ending.TheVariants.{Ended, Failed}
+use Rattle.rawk_devices.specs.declared.source.Ending.{Ending}
+use Rattle.rawk_devices.specs.declared.source.Ending.TheVariants.{Ended, Failed}
 use Rattle.rawk_tape.proofs.Newlines.{fails_left, first_behind, last_left, line_whole, none_held}
 
 -- what has not failed counts no failure

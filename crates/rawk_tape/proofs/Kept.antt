@@ -3,9 +3,9 @@ use Rattle.std.proofs.Common.{◌≡◌, ◌≤◌, ◌<◌, ◌+◌, ◌-◌, �
 use Rattle.std.proofs.lemmas.List.{length-drop, length-take-le, take-append-le, drop-take}
 use Rattle.std.proofs.lemmas.List.Edits.{take-paste}
 use Rattle.std.proofs.Math.Seq.{take-append-add, paste}
-use Rattle.rawk_tape.specs.declared.source.DeviceFault.{DeviceFault}
-use Rattle.rawk_tape.specs.declared.source.Ending.TheVariants.{Ended, Failed}
-use Rattle.rawk_tape.specs.Inputs.{size_taken, ending_of}
+use Rattle.rawk_devices.specs.declared.source.DeviceFault.{DeviceFault}
+use Rattle.rawk_devices.specs.declared.source.Ending.TheVariants.{Ended, Failed}
+use Rattle.rawk_devices.specs.Inputs.{size_taken, ending_of}
 use Rattle.rawk_tape.specs.Lines.{failures_by}
 
 -- bytes put behind the first of a list

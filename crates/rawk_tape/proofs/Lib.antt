@@ -1,4 +1,3 @@
-pub mod Handed
 pub mod Kept
 pub mod Scan
 pub mod Ahead

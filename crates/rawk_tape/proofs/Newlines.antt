@@ -9,11 +9,11 @@ use Rattle.memchr.proofs.lemmas.FindLemmas.{Nowhere-then}
 use Rattle.memchr.specs.Find.{Nowhere, NoneBefore, Passes, is_byte}
 use Rattle.rawk_value.specs.Values.{Bytes, is_empty}
 use Rattle.rawk_value.specs.declared.fault.Fault.TheVariants.{ReadFailed}
-use Rattle.rawk_tape.specs.Records.{Input, found, is_newline, last_line, next_record}
-use Rattle.rawk_tape.specs.Inputs.{before, nothing}
+use Rattle.rawk_devices.specs.Inputs.{Input, before, nothing}
+use Rattle.rawk_tape.specs.Records.{found, is_newline, last_line, next_record}
 use Rattle.rawk_tape.specs.Lines.{IsNextLine, NoNewline, newline}
-use Rattle.rawk_tape.specs.declared.source.Ending.{Ending}
-use Rattle.rawk_tape.specs.declared.source.Ending.TheVariants.{Ended, Failed}
+use Rattle.rawk_devices.specs.declared.source.Ending.{Ending}
+use Rattle.rawk_devices.specs.declared.source.Ending.TheVariants.{Ended, Failed}
 use Rattle.rawk_tape.proofs.OneByte.{not_true}
 
 -- bytes of which none of the first is a newline have none there

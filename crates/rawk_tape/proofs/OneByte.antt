@@ -7,10 +7,10 @@ use Rattle.std.proofs.lemmas.Bool.{lt-ltb, le-ltb}
 use Rattle.memchr.proofs.lemmas.FindLemmas.{Nowhere-then}
 use Rattle.memchr.specs.Find.{Nowhere, NoneBefore, Passes, is_byte}
 use Rattle.rawk_value.specs.declared.fault.Fault.{Fault}
-use Rattle.rawk_tape.specs.Records.{Input, Found, found, last_line, next_line, next_record}
-use Rattle.rawk_tape.specs.Inputs.{before, nothing, is_failed}
+use Rattle.rawk_devices.specs.Inputs.{Input, before, nothing, is_failed}
+use Rattle.rawk_tape.specs.Records.{Found, found, last_line, next_line, next_record}
 use Rattle.rawk_tape.specs.Tapes.{TapeState, MayBe, Answers, IsUnsettled}
-use Rattle.rawk_tape.specs.declared.source.Ending.{Ending}
+use Rattle.rawk_devices.specs.declared.source.Ending.{Ending}
 use Rattle.rawk_tape.specs.declared.found.Found.{Found as Place}
 
 -- what is not true is false

@@ -2,11 +2,11 @@
 use Rattle.std.proofs.Common.{◌≡◌, ◌≢◌, ◌≤◌, ◌<◌, ◌+◌, ◌-◌, ℕ, List, [], Option, None, Some, Result, Ok, Err, length, ◌++◌, take, drop, slice_range, arith, subst, sym, ◌∙◌, ap, IfOk, IfSome}
 use Rattle.std.proofs.lemmas.List.{length-append, get_or_append_left, take-append-le, drop-append-le, append-nil, length-drop}
 use Rattle.rawk_value.specs.declared.fault.Fault.{Fault}
-use Rattle.rawk_tape.specs.Records.{Input, Found, found, next_paragraph, next_record}
-use Rattle.rawk_tape.specs.Inputs.{before, nothing, is_failed}
+use Rattle.rawk_devices.specs.Inputs.{Input, before, nothing, is_failed}
+use Rattle.rawk_tape.specs.Records.{Found, found, next_paragraph, next_record}
 use Rattle.rawk_tape.specs.Tapes.{TapeState, MayBe, Answers, IsShortOf, text_at}
 use Rattle.rawk_tape.specs.Paragraphs.{IsScanned, IsParagraph}
-use Rattle.rawk_tape.specs.declared.source.Ending.{Ending}
+use Rattle.rawk_devices.specs.declared.source.Ending.{Ending}
 use Rattle.rawk_tape.specs.declared.found.Found.{Found as Place}
 use Rattle.rawk_tape.proofs.Breaks.{found_is}
 

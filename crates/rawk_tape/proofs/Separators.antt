@@ -7,11 +7,11 @@ use Rattle.rawk_ere_tree.specs.Tree.{Tree}
 use Rattle.rawk_search.specs.declared.span.Span.{Span}
 use Rattle.rawk_search.specs.Matches.{first_nonempty, open_match}
 use Rattle.rawk_search.specs.Laws.{IsSpan, IsSkip, open_within, open_longer, open_closed, skip_longer, skip_trans}
-use Rattle.rawk_tape.specs.Records.{Input, Found, found, last_line, separator_in, ended_by, next_match, next_record}
-use Rattle.rawk_tape.specs.Inputs.{before, nothing, is_failed}
+use Rattle.rawk_devices.specs.Inputs.{Input, before, nothing, is_failed}
+use Rattle.rawk_tape.specs.Records.{Found, found, last_line, separator_in, ended_by, next_match, next_record}
 use Rattle.rawk_tape.specs.Tapes.{TapeState, MayBe, Answers, IsUnsettled, IsExpression, IsWithin, place_before, text_at}
-use Rattle.rawk_tape.specs.declared.source.Ending.{Ending}
-use Rattle.rawk_tape.specs.declared.source.Ending.TheVariants.{Ended, Failed}
+use Rattle.rawk_devices.specs.declared.source.Ending.{Ending}
+use Rattle.rawk_devices.specs.declared.source.Ending.TheVariants.{Ended, Failed}
 use Rattle.rawk_tape.specs.declared.found.Found.{Found as Place}
 
 -- a search from the first place on

@@ -9,10 +9,10 @@ use Rattle.rawk_value.specs.declared.fault.Fault.TheVariants.{ReadFailed}
 use Rattle.rawk_ere_tree.specs.Tree.{Tree}
 use Rattle.rawk_search.specs.declared.span.Span.{Span}
 use Rattle.rawk_search.specs.Expressions.{ere_of}
-use Rattle.rawk_tape.specs.Records.{Input, Found, found, next_line, next_paragraph, separator_in, ended_by, next_match, next_record}
-use Rattle.rawk_tape.specs.Inputs.{before}
+use Rattle.rawk_devices.specs.Inputs.{Input, before}
+use Rattle.rawk_tape.specs.Records.{Found, found, next_line, next_paragraph, separator_in, ended_by, next_match, next_record}
 use Rattle.rawk_tape.specs.Tapes.{TapeState, MayBe, ReadsAhead}
-use Rattle.rawk_tape.specs.declared.source.Ending.{Ending}
+use Rattle.rawk_devices.specs.declared.source.Ending.{Ending}
 
 -- some input may always be the tape's, where its source always gives some
 pub some_input : {S : Type 0} (may_give : S → Input → Type 0) (gives_some : (s : S) → (rest : Input) × may_give s rest) (tape : TapeState S) → (input : Input) × MayBe may_give tape input

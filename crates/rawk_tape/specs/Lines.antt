@@ -2,10 +2,10 @@
 use Rattle.std.specs.Prelude.{◌≡◌, ◌≢◌, ℕ, ◌+◌, ◌-◌, ◌^◌, ◌<◌, ◌≤◌, [], ◌∷◌, ◌++◌, ◌⊎◌, length, take, drop, slice_index, Option, None, Some, Ok, Err}
 use Rattle.rawk_value.specs.Values.{Bytes}
 use Rattle.rawk_value.specs.declared.fault.Fault.TheVariants.{ReadFailed}
-use Rattle.rawk_tape.specs.Records.{Input, next_record}
-use Rattle.rawk_tape.specs.Inputs.{CountsUp, before}
-use Rattle.rawk_tape.specs.declared.source.Ending.{Ending}
-use Rattle.rawk_tape.specs.declared.source.Ending.TheVariants.{Failed}
+use Rattle.rawk_devices.specs.Inputs.{Input, CountsUp, before}
+use Rattle.rawk_tape.specs.Records.{next_record}
+use Rattle.rawk_devices.specs.declared.source.Ending.{Ending}
+use Rattle.rawk_devices.specs.declared.source.Ending.TheVariants.{Failed}
 use Rattle.rawk_tape.specs.declared.lines.Line.{Line}
 use Rattle.rawk_tape.specs.declared.lines.NoLine.{NoLine}
 use Rattle.rawk_tape.specs.declared.lines.NoLine.TheVariants.{Ended, Unread, TooMany}

@@ -1,18 +1,14 @@
--- An input, and its next record (POSIX awk, "Variables and Special Variables": RS).
+-- The next record of an input (POSIX awk, "Variables and Special Variables": RS).
 use Rattle.std.specs.Prelude.{ℕ, ◌+◌, Bool, true, ◌&&◌, ◌||◌, ◌==◌, nat_lt, if◌then◌else◌, [], ◌∷◌, length, take, drop, Option, None, Some, Result, Ok, Err}
 use Rattle.std.specs.List.{prefix_len, position_or_len}
 use Rattle.rawk_value.specs.Values.{Bytes, begins, is_empty}
 use Rattle.rawk_value.specs.declared.fault.Fault.{Fault}
 use Rattle.rawk_value.specs.declared.fault.Fault.TheVariants.{BadSeparator, ReadFailed}
+use Rattle.rawk_devices.specs.Inputs.{Input}
 use Rattle.rawk_ere_tree.specs.Tree.{Tree}
 use Rattle.rawk_search.specs.declared.span.Span.{Span}
 use Rattle.rawk_search.specs.Expressions.{ere_of}
 use Rattle.rawk_search.specs.Matches.{first_nonempty, open_match}
-
--- all bytes of an input, and whether a failed read ends it
-pub record Input : Type 0 where
-  pub bytes : Bytes
-  pub fails : Bool
 
 -- a record, and how many bytes of the input are consumed then
 pub record Found : Type 0 where

@@ -6,9 +6,9 @@ use Rattle.rawk_value.specs.declared.fault.Fault.TheVariants.{ReadFailed, OutOfM
 use Rattle.rawk_ere_tree.specs.Tree.{Tree}
 use Rattle.rawk_search.specs.declared.span.Span.{Span}
 use Rattle.rawk_search.specs.Expressions.{ere_of}
-use Rattle.rawk_tape.specs.Records.{Input, Found, next_record}
-use Rattle.rawk_tape.specs.Inputs.{before, CountsUp}
-use Rattle.rawk_tape.specs.declared.source.Ending.{Ending}
+use Rattle.rawk_devices.specs.Inputs.{Input, before, CountsUp}
+use Rattle.rawk_tape.specs.Records.{Found, next_record}
+use Rattle.rawk_devices.specs.declared.source.Ending.{Ending}
 use Rattle.rawk_tape.specs.declared.found.Found.{Found as Place}
 
 -- the source of what is still to come, the bytes read and kept, and how many of them are consumed

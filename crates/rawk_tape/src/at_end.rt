@@ -1,12 +1,13 @@
 //! The last record, where the input is over.
 ghost use Rattle.std.specs.Prelude.{◌≡◌, ◌≤◌, ℕ, drop, length, IfOk, IfSome, IfErr};
-ghost use Rattle.rawk_tape.specs.declared.source.Ending.{Ending};
+ghost use Rattle.rawk_devices.specs.declared.source.Ending.{Ending};
 ghost use Rattle.rawk_tape.specs.Records.{last_line, next_paragraph};
-ghost use Rattle.rawk_tape.specs.Inputs.{is_failed};
+ghost use Rattle.rawk_devices.specs.Inputs.{is_failed};
 ghost use Rattle.rawk_tape.specs.Tapes.{Answers, IsWithin};
 ghost use Rattle.rawk_tape.specs.Paragraphs.{IsParagraph};
 
-use crate::{Ending, Found};
+use crate::Found;
+use rawk_devices::Ending;
 use rawk_value::Fault;
 
 /// The rest as the last record, where no separator stands in it and the input is over.

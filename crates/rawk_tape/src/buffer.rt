@@ -3,7 +3,7 @@ ghost use Rattle.std.specs.Prelude.{◌≡◌, ◌≤◌, ◌<◌, ◌^◌, [], 
 ghost use Rattle.rawk_tape.specs.Tapes.{ReadsOn};
 
 use crate::room::{ending_of_read, make_room, move_to_front, read_behind, size_of_read};
-use crate::{Ending, Source};
+use rawk_devices::{Ending, Source};
 use std::alloc::{AllocError, Global};
 use std::marker::Model;
 

@@ -2,7 +2,8 @@
 ghost use Rattle.std.specs.Prelude.{◌≡◌, ◌≤◌, Ok, IfOk, OnErr, length};
 ghost use Rattle.rawk_tape.specs.Tapes.{TapeState, LeadsBack, ReadsAhead, consumed_by};
 
-use crate::{Source, Tape};
+use crate::Tape;
+use rawk_devices::Source;
 use rawk_slots::Reversible;
 use std::alloc::{AllocError, Global};
 

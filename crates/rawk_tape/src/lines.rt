@@ -1,15 +1,15 @@
 //! The lines of a source, each read when it is due.
 ghost use Rattle.std.specs.Prelude.{◌≡◌, ◌≢◌, ◌≤◌, ◌<◌, ◌-◌, ◌+◌, ◌^◌, [], drop, take, length, None, Some, IfOk, IfErr, OnOk, OnErr};
 ghost use Rattle.std.specs.List.{position_or_len};
-ghost use Rattle.rawk_tape.specs.declared.source.Ending.{Ending as End};
+ghost use Rattle.rawk_devices.specs.declared.source.Ending.{Ending as End};
 ghost use Rattle.rawk_tape.specs.Records.{is_newline};
-ghost use Rattle.rawk_tape.specs.Inputs.{CountsUp};
+ghost use Rattle.rawk_devices.specs.Inputs.{CountsUp};
 ghost use Rattle.rawk_tape.specs.Tapes.{ReadsOn};
 ghost use Rattle.rawk_tape.specs.Lines.{Finds, FindsNone, PassesOver, ReadsMore, failures_at, failures_by};
 
 use crate::room::{CHUNK, ending_of_read, make_room, move_to_front, read_behind, size_of_read};
 use crate::search::find_in;
-use crate::{Ending, Source};
+use rawk_devices::{Ending, Source};
 use std::alloc::{AllocError, Global};
 use std::marker::Model;
 

@@ -3,14 +3,15 @@ ghost use Rattle.std.specs.Prelude.{◌≡◌, ◌≤◌, ◌<◌, ◌+◌, ◌^
 ghost use Rattle.rawk_search.specs.Matches.{open_match};
 ghost use Rattle.rawk_search.specs.Laws.{IsSkip};
 ghost use Rattle.rawk_value.specs.Values.{Bytes};
-ghost use Rattle.rawk_tape.specs.declared.source.Ending.{Ending};
-ghost use Rattle.rawk_tape.specs.Records.{Input, next_match};
-ghost use Rattle.rawk_tape.specs.Inputs.{is_failed};
+ghost use Rattle.rawk_devices.specs.declared.source.Ending.{Ending};
+ghost use Rattle.rawk_devices.specs.Inputs.{Input, is_failed};
+ghost use Rattle.rawk_tape.specs.Records.{next_match};
 ghost use Rattle.rawk_tape.specs.Tapes.{MayBe, ReadsAhead, LastRead, Answers, IsWithin, IsExpression, place_before};
 
+use crate::Found;
 use crate::at_end::last_line;
 use crate::buffer::Buffer;
-use crate::{Ending, Found, Source};
+use rawk_devices::{Ending, Source};
 use rawk_ere::Ere;
 use rawk_search::{Span, next_nonempty, next_open, skip_to};
 use rawk_value::Fault;

@@ -1,10 +1,10 @@
 //! Room for reads, behind bytes that are kept.
 ghost use Rattle.std.specs.Prelude.{◌≡◌, ◌≤◌, ◌<◌, ◌+◌, ◌-◌, drop, take, length, None, Some, OnOk, OnErr};
-ghost use Rattle.rawk_tape.specs.declared.source.Ending.{Ending as End};
-ghost use Rattle.rawk_tape.specs.Inputs.{CountsUp, size_taken, ending_of, failures_of};
+ghost use Rattle.rawk_devices.specs.declared.source.Ending.{Ending as End};
+ghost use Rattle.rawk_devices.specs.Inputs.{CountsUp, size_taken, ending_of, failures_of};
 ghost use Rattle.rawk_tape.specs.Tapes.{ReadsOn};
 
-use crate::{DeviceFault, Ending, Source};
+use rawk_devices::{DeviceFault, Ending, Source};
 use std::alloc::AllocError;
 
 /// How many bytes a read asks for, at most.

@@ -1,11 +1,12 @@
 //! What is held of an input, and its next record.
 ghost use Rattle.std.specs.Bool.{OnFalse};
 
+use crate::Found;
 use crate::at_end::{last_line, last_paragraph};
 use crate::buffer::Buffer;
 use crate::matches::next_match;
 use crate::search::{find_in, scan_paragraph};
-use crate::{Ending, Found, Source};
+use rawk_devices::{Ending, Source};
 use rawk_search::CachedExpression;
 use rawk_value::Fault;
 use std::alloc::Global;
@@ -36,8 +37,9 @@ impl<R: Source + Drop> Model for Tape<R> {
 
 impl<R: Source + Drop> Tape<R> {
     ghost use Rattle.std.specs.Prelude.{◌≡◌, ◌≤◌, ◌<◌, ◌^◌, ◌+◌, ◌*◌, [], ◌∷◌, ◌⊎◌, ℕ, drop, length, None, Some, Ok, OnOk, OnErr, IfErr, IfSome, slice_range};
-    ghost use Rattle.rawk_tape.specs.declared.source.Ending.{Ending};
-    ghost use Rattle.rawk_tape.specs.Records.{Input, next_record};
+    ghost use Rattle.rawk_devices.specs.declared.source.Ending.{Ending};
+    ghost use Rattle.rawk_devices.specs.Inputs.{Input};
+    ghost use Rattle.rawk_tape.specs.Records.{next_record};
     ghost use Rattle.rawk_tape.specs.Tapes.{MayBe, ReadsOn, ReadsAhead, LastRead};
     ghost use Rattle.rawk_tape.specs.Tapes.{Answers, IsWithin, IsShortOf};
 

@@ -10,7 +10,8 @@
 
 ghost use Rattle.std.specs.Prelude.{◌≤◌, length};
 
-use rawk_ere::{Ere, EreError, Finder};
+use rawk_ere::{Ere, Finder};
+use rawk_ere_pattern::EreError;
 use rawk_search::{
     CachedExpression, Span, next_cut, next_match, next_nonempty, next_open, skip_to,
 };

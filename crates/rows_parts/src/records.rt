@@ -6,7 +6,8 @@
 
 ghost use Rattle.std.specs.Prelude.{◌≡◌, None};
 
-use rawk_tape::{BytesSource, Source, Tape};
+use rawk_devices::{BytesSource, Source};
+use rawk_tape::Tape;
 use rawk_value::Fault;
 use rows_cases::setting_of;
 use std::alloc::{AllocError, Global};

@@ -5,9 +5,9 @@
 //! with their calling points, the locals of the innermost, and how many old values it keeps.
 
 use crate::kept::STEPS;
+use rawk_devices::BytesSource;
 use rawk_machine::{Full, Machine, Step};
 use rawk_store::{FieldRef, Local};
-use rawk_tape::BytesSource;
 use rawk_value::{Bytes, push_number};
 use rawk_words::Array;
 use rows_cases::push_value;

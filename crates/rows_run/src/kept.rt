@@ -4,11 +4,12 @@
 //! Further parts are a first value, `@let NAME=TEXT`, a limit of steps, `@steps N`, and `@source fails N`: the source fails behind N bytes.
 
 use crate::back::compare;
-use rawk_code::{Code, Settings};
+use rawk_code::Settings;
 use rawk_compiler::compile;
+use rawk_devices::BytesSource;
 use rawk_machine::{Full, Machine, Step};
 use rawk_syntax::parse;
-use rawk_tape::BytesSource;
+use rawk_told::Code;
 use rows_cases::setting_of;
 use std::alloc::{AllocError, Global};
 

@@ -1,5 +1,5 @@
 use Rattle.std.proofs.Common.{◌-◌}
-use Rattle.rawk_tape.specs.Inputs.{CountsUp}
+use Rattle.rawk_devices.specs.Inputs.{CountsUp}
 use Rattle.rawk.proofs.SoFar.{SoFar}
 use Rattle.rawk.proofs.running.run_on.Given as goal
 

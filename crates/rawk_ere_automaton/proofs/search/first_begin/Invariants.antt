@@ -1,5 +1,6 @@
 use Rattle.std.proofs.Common.{◌≡◌, ◌+◌, ◌-◌, ◌≤◌, length}
-use Rattle.rawk_ere_automaton.specs.Search.{BeginsIn, BeginsNone}
+use Rattle.rawk_ere_walks.specs.Ways.{BeginsIn}
+use Rattle.rawk_ere_automaton.specs.Search.{BeginsNone}
 use Rattle.rawk_ere_automaton.proofs.search.first_begin.Given as goal
 
 abbrev pub invariant-loop-low : goal.invariant-loop-low

@@ -1,5 +1,6 @@
 use Rattle.std.proofs.Common.{◌≡◌, ◌+◌, ◌-◌, ◌<◌, ◌≤◌, length}
-use Rattle.rawk_ere_automaton.specs.Search.{MayIn, NoneMay}
+use Rattle.rawk_ere_walks.specs.Ways.{MayIn}
+use Rattle.rawk_ere_automaton.specs.Search.{NoneMay}
 use Rattle.rawk_ere_automaton.proofs.search.first_may.Given as goal
 
 abbrev pub invariant-loop-low : goal.invariant-loop-low

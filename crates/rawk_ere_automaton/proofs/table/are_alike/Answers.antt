@@ -1,5 +1,5 @@
 use Rattle.std.proofs.Common.{◌≤◌, subst, below_more}
-use Rattle.rawk_ere_automaton.specs.Sets.{TakesFrom}
+use Rattle.rawk_ere_walks.specs.Sets.{TakesFrom}
 use Rattle.rawk_ere_automaton.proofs.BuildLemmas.{alike_all, alike_here, same_truth}
 use Rattle.rawk_ere_automaton.proofs.table.are_alike.Goals as goal
 

@@ -1,6 +1,6 @@
 use Rattle.std.proofs.Common.{ℕ, ◌<◌}
 use Rattle.std.specs.Prelude.{◌↔◌}
-use Rattle.rawk_ere_automaton.specs.Sets.{TakesFrom}
+use Rattle.rawk_ere_walks.specs.Sets.{TakesFrom}
 use Rattle.rawk_ere_automaton.proofs.table.are_alike.Given as goal
 
 abbrev pub invariant-loop-state : goal.invariant-loop-state

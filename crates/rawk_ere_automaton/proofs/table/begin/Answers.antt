@@ -1,7 +1,7 @@
 use Rattle.std.proofs.Common.{◌≡◌, ℕ, List, false, ap, subst, ◌∙◌}
 use Rattle.std.specs.Prelude.{IsTrue}
 use Rattle.rawk_ere_tree.specs.StateSets.{Adds}
-use Rattle.rawk_ere_automaton.specs.Sets.{Closes}
+use Rattle.rawk_ere_walks.specs.Sets.{Closes}
 use Rattle.rawk_ere_automaton.proofs.table.begin.Goals as goal
 
 pub returns : goal.returns

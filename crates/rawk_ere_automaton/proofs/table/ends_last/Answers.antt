@@ -1,7 +1,7 @@
 use Rattle.std.proofs.Common.{ℕ, List, true, false, ap, subst, ◌∙◌}
 use Rattle.std.specs.Prelude.{IsTrue, Contains}
 use Rattle.rawk_ere_tree.specs.StateSets.{Adds}
-use Rattle.rawk_ere_automaton.specs.Sets.{Closes}
+use Rattle.rawk_ere_walks.specs.Sets.{Closes}
 use Rattle.rawk_ere_automaton.proofs.table.ends_last.Goals as goal
 
 pub returns : goal.returns

@@ -1,7 +1,7 @@
 use Rattle.std.proofs.Common.{ℕ, List, [], ◌<◌, length, arith, subst}
 use Rattle.std.specs.Prelude.{◌↔◌, IsTrue}
 use Rattle.std.proofs.lemmas.List.{get_or_read}
-use Rattle.rawk_ere_automaton.specs.Sets.{AsksIn}
+use Rattle.rawk_ere_walks.specs.Sets.{AsksIn}
 use Rattle.rawk_ere_automaton.specs.Table.{members}
 use Rattle.rawk_ere_automaton.proofs.BuildLemmas.{marks_more}
 use Rattle.rawk_ere_automaton.proofs.table.find_wants.Goals as goal

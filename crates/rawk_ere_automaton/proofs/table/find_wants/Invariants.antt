@@ -1,6 +1,6 @@
 use Rattle.std.proofs.Common.{◌≡◌, ℕ, false, ◌<◌, length}
 use Rattle.std.specs.Prelude.{◌↔◌, IsTrue, slice_index_or}
-use Rattle.rawk_ere_automaton.specs.Sets.{AsksIn}
+use Rattle.rawk_ere_walks.specs.Sets.{AsksIn}
 use Rattle.rawk_ere_automaton.specs.Table.{members}
 use Rattle.rawk_ere_automaton.proofs.table.find_wants.Given as goal
 

@@ -1,6 +1,6 @@
 use Rattle.std.proofs.Common.{ℕ, ◌+◌, ◌*◌, ◌<◌, true, length, get_or, arith, sym, subst}
 use Rattle.std.proofs.lemmas.List.{get_or_read}
-use Rattle.rawk_ere_automaton.specs.Sets.{IsFarthest}
+use Rattle.rawk_ere_walks.specs.Sets.{IsFarthest}
 use Rattle.rawk_ere_automaton.proofs.TableLemmas.{single_is}
 use Rattle.rawk_ere_automaton.proofs.table.run_here.Goals as goal
 use Rattle.rawk_ere_automaton.proofs.table.run_here.Goals.{then-to-table, else-to-table}

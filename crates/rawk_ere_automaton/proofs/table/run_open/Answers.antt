@@ -1,9 +1,9 @@
 use Rattle.std.proofs.Common.{◌≡◌, ◌+◌, ◌*◌, ◌<◌, inl, inr, false, length, get_or, arith, sym, subst, refl}
 use Rattle.std.specs.Prelude.{◌↔◌, IsTrue, Contains}
 use Rattle.std.proofs.lemmas.List.{get_or_read}
-use Rattle.rawk_ere_automaton.specs.Sets.{AsksIn, AreReached}
+use Rattle.rawk_ere_walks.specs.Sets.{AsksIn, AreReached}
 use Rattle.rawk_ere_automaton.specs.Table.{members, IsTable}
-use Rattle.rawk_ere_automaton.proofs.WalkLemmas.{farthest_stop, wants_none, wants_in}
+use Rattle.rawk_ere_walks.specs.WalkLemmas.{farthest_stop, wants_none, wants_in}
 use Rattle.rawk_ere_automaton.proofs.TableLemmas.{OpenRunning, open_running_start, open_running_next, open_running_end}
 use Rattle.rawk_ere_automaton.proofs.table.run_open.Goals as goal
 use Rattle.rawk_ere_automaton.proofs.table.run_open.Goals.{then-from-eq0, else-from-eq0}

@@ -1,6 +1,6 @@
 use Rattle.std.proofs.Common.{ℕ, List, false, ap, subst, ◌∙◌}
 use Rattle.std.specs.Prelude.{IsTrue}
-use Rattle.rawk_ere_automaton.specs.Sets.{AdvancesBy, Closes}
+use Rattle.rawk_ere_walks.specs.Sets.{AdvancesBy, Closes}
 use Rattle.rawk_ere_automaton.proofs.table.step.Goals as goal
 
 pub returns : goal.returns

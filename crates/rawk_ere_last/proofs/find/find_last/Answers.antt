@@ -1,5 +1,5 @@
 use Rattle.std.proofs.Common.{◌≡◌, ◌-◌, true, length, arith, subst, sym, ◌∙◌, true≢false}
-use Rattle.rawk_ere_automaton.specs.Search.{Way}
+use Rattle.rawk_ere_walks.specs.Ways.{Way}
 use Rattle.rawk_ere_last.proofs.find.find_last.Goals as goal
 
 pub returns-then-text-from : goal.returns-then-text-from

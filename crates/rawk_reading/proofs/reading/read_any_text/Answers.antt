@@ -1,6 +1,6 @@
 use Rattle.std.proofs.Common.{◌≡◌, Some, refl}
 use Rattle.std.specs.Prelude.{slice_range}
-use Rattle.rawk_tape.specs.declared.source.Ending.TheVariants.{Failed}
+use Rattle.rawk_devices.specs.declared.source.Ending.TheVariants.{Failed}
 use Rattle.rawk_operands.specs.Moving.{moving}
 use Rattle.rawk_reading.specs.Reading.{text_taken_of, ReadsText}
 use Rattle.rawk_reading.proofs.Quiets.{quiet_text}

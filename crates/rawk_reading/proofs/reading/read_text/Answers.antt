@@ -1,7 +1,7 @@
 use Rattle.std.proofs.Common.{◌≡◌, Some, inl, refl}
 use Rattle.std.specs.Prelude.{slice_range}
 use Rattle.rawk_value.specs.Values.{text_of}
-use Rattle.rawk_tape.specs.declared.source.Ending.TheVariants.{Failed}
+use Rattle.rawk_devices.specs.declared.source.Ending.TheVariants.{Failed}
 use Rattle.rawk_store.specs.State.{RS}
 use Rattle.rawk_operands.specs.Borrowed.{global_in}
 use Rattle.rawk_operands.specs.Moving.{moving}

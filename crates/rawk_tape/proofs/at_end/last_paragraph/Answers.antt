@@ -1,8 +1,8 @@
 use Rattle.std.proofs.Common.{◌<◌, length, arith, ap, ◌∙◌, drop, false}
 use Rattle.std.proofs.lemmas.Bool.{false≢true}
 use Rattle.rawk_tape.specs.Records.{next_paragraph}
-use Rattle.rawk_tape.specs.Inputs.{is_failed}
-use Rattle.rawk_tape.specs.declared.source.Ending.{Ending}
+use Rattle.rawk_devices.specs.Inputs.{is_failed}
+use Rattle.rawk_devices.specs.declared.source.Ending.{Ending}
 use Rattle.rawk_tape.proofs.Breaks.{found_is, none_is, fails_is}
 use Rattle.rawk_tape.proofs.at_end.last_paragraph.Goals as goal
 

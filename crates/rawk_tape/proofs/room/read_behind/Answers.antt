@@ -1,6 +1,6 @@
 use Rattle.std.proofs.Common.{◌≡◌, ◌≤◌, ◌<◌, ◌++◌, length, take, arith, ap, sym, ◌∙◌}
 use Rattle.std.proofs.lemmas.List.{append-nil, length-take-le}
-use Rattle.rawk_tape.specs.Inputs.{size_taken}
+use Rattle.rawk_devices.specs.Inputs.{size_taken}
 use Rattle.rawk_tape.proofs.Kept.{none_taken, put_behind, some_taken}
 use Rattle.rawk_tape.proofs.room.read_behind.Goals as goal
 

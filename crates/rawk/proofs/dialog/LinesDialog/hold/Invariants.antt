@@ -1,6 +1,6 @@
 use Rattle.std.proofs.Common.{◌≡◌, ◌≢◌, ◌-◌, ◌^◌, Some}
-use Rattle.rawk_tape.specs.Inputs.{CountsUp}
-use Rattle.rawk_tape.specs.declared.source.Ending.TheVariants.{Failed}
+use Rattle.rawk_devices.specs.Inputs.{CountsUp}
+use Rattle.rawk_devices.specs.declared.source.Ending.TheVariants.{Failed}
 use Rattle.rawk_debug.specs.Sessions.{stand, machine_of}
 use Rattle.rawk_answers.specs.Works.{Draws}
 use Rattle.rawk.proofs.DialogSoFar.{SoFar}

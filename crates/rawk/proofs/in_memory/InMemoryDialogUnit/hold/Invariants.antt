@@ -1,6 +1,5 @@
 use Rattle.std.proofs.Common.{length}
-use Rattle.rawk_tape.specs.Records.{Input}
-use Rattle.rawk_tape.specs.Inputs.{CountsUp}
+use Rattle.rawk_devices.specs.Inputs.{Input, CountsUp}
 use Rattle.rawk_debug.specs.Sessions.{stand, machine_of}
 use Rattle.rawk_answers.specs.Works.{Draws}
 use Rattle.rawk.proofs.LinesInMemory.{Carried}

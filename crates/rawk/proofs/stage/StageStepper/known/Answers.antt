@@ -3,7 +3,7 @@ use Rattle.rawk_machine.specs.Standing.{MayCome, step_of}
 use Rattle.rawk_machine.specs.InTrace.{exactly_in_trace}
 use Rattle.rawk_answers.specs.Positions.{IsPosition, Stands}
 use Rattle.rawk.specs.Staged.{Staged, position_of, held_of}
-use Rattle.rawk_tape.specs.declared.source.Ending.TheVariants.{Failed}
+use Rattle.rawk_devices.specs.declared.source.Ending.TheVariants.{Failed}
 use Rattle.rawk_code.specs.Actions.{Ending}
 use Rattle.rawk_answers.specs.Works.{read_failed}
 use Rattle.rawk.proofs.Stages.{raised_few, upto_all, stands_in, comes_behind}

@@ -1,5 +1,5 @@
 use Rattle.std.proofs.Common.{◌≡◌, IsTrue}
-use Rattle.rawk_tape.specs.Records.{Input}
+use Rattle.rawk_devices.specs.Inputs.{Input}
 use Rattle.rawk_debug.specs.Moves.{depth_of}
 use Rattle.rawk_debug.specs.Sessions.{stand}
 use Rattle.rawk_debug.proofs.Searches.{Backs}

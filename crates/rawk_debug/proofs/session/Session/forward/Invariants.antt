@@ -1,5 +1,5 @@
 use Rattle.std.proofs.Common.{◌≡◌, ◌-◌, None}
-use Rattle.rawk_tape.specs.Records.{Input}
+use Rattle.rawk_devices.specs.Inputs.{Input}
 use Rattle.rawk_answers.specs.Positions.{Stands}
 use Rattle.rawk_debug.specs.Moves.{Halts, depth_of}
 use Rattle.rawk_debug.specs.Sessions.{stand}

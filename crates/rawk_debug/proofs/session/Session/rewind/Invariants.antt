@@ -1,5 +1,5 @@
 use Rattle.std.proofs.Common.{◌≡◌, ◌≤◌}
-use Rattle.rawk_tape.specs.Records.{Input}
+use Rattle.rawk_devices.specs.Inputs.{Input}
 use Rattle.rawk_answers.specs.Positions.{back_at}
 use Rattle.rawk_debug.specs.Sessions.{stand}
 use Rattle.rawk_debug.proofs.session.Session.rewind.Given as goal

@@ -2,7 +2,7 @@ use Rattle.std.proofs.Common.{length, ap, ◌∙◌}
 use Rattle.std.specs.Prelude.{IsTrue, ◌↔◌}
 use Rattle.rawk_ere_tree.specs.Code.{code_of}
 use Rattle.rawk_ere_tree.specs.Ends.{HasMatch}
-use Rattle.rawk_ere_automaton.specs.Search.{BeginsIn}
+use Rattle.rawk_ere_walks.specs.Ways.{BeginsIn}
 use Rattle.rawk_ere_last.specs.Shapes.{last_in}
 use Rattle.rawk_ere.proofs.EreLemmas.{has_from_begins, has_on_empty, if_ok_where}
 use Rattle.rawk_ere.proofs.LastLemmas.{are_last}

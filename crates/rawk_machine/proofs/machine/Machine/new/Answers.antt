@@ -1,6 +1,6 @@
 use Rattle.std.proofs.Common.{List, [], length, reverse, inl, refl, ap, sym, subst, arith}
 use Rattle.rawk_tape.specs.Tapes.{TapeState, MayBe}
-use Rattle.rawk_tape.specs.Records.{Input}
+use Rattle.rawk_devices.specs.Inputs.{Input, CountsUp, before}
 use Rattle.rawk_store.specs.Groups.{Group}
 use Rattle.rawk_history.specs.Steps.{Kept}
 use Rattle.rawk_code.specs.Actions.{SetAt}
@@ -11,7 +11,6 @@ use Rattle.rawk_store.specs.Stores.{now_of}
 use Rattle.rawk_operands.specs.Moving.{moving_of}
 use Rattle.rawk_machine.proofs.Stands.{at_start, come_some, come_first, starts_first}
 use Rattle.rawk_value.specs.Values.{Bytes}
-use Rattle.rawk_tape.specs.Inputs.{CountsUp, before}
 use Rattle.rawk_code.specs.Trace.{FirstValue}
 use Rattle.rawk_travel.specs.Asking.{Asks}
 use Rattle.rawk_machine.specs.Asked.{HasAsked, Unstood}

@@ -1,7 +1,7 @@
 use Rattle.std.proofs.Common.{◌≡◌, ◌≤◌, Some, length, inr, arith, ap, sym, ◌∙◌}
 use Rattle.std.specs.List.{position_or_len}
-use Rattle.rawk_tape.specs.declared.source.Ending.{Ending}
-use Rattle.rawk_tape.specs.declared.source.Ending.TheVariants.{Ended, Failed}
+use Rattle.rawk_devices.specs.declared.source.Ending.{Ending}
+use Rattle.rawk_devices.specs.declared.source.Ending.TheVariants.{Ended, Failed}
 use Rattle.rawk_tape.specs.Records.{is_newline}
 use Rattle.rawk_tape.proofs.Newlines.{fails_left, last_left, line_whole, none_left}
 use Rattle.rawk_tape.proofs.Due.{none_then, passes_then, reads_none}

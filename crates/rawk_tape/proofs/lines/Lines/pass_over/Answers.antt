@@ -1,8 +1,8 @@
 use Rattle.std.proofs.Common.{◌≡◌, ◌+◌, None, Some, length, arith, ap, refl, sym, ◌∙◌}
 use Rattle.std.specs.List.{position_or_len}
 use Rattle.rawk_value.specs.Values.{Bytes}
-use Rattle.rawk_tape.specs.declared.source.Ending.{Ending}
-use Rattle.rawk_tape.specs.declared.source.Ending.TheVariants.{Ended, Failed}
+use Rattle.rawk_devices.specs.declared.source.Ending.{Ending}
+use Rattle.rawk_devices.specs.declared.source.Ending.TheVariants.{Ended, Failed}
 use Rattle.rawk_tape.specs.Records.{is_newline}
 use Rattle.rawk_tape.specs.Lines.{failures_by}
 use Rattle.rawk_tape.proofs.Newlines.{first_inside}

@@ -1,5 +1,5 @@
 use Rattle.std.proofs.Common.{◌≡◌, None}
-use Rattle.rawk_tape.specs.Inputs.{CountsUp}
+use Rattle.rawk_devices.specs.Inputs.{CountsUp}
 use Rattle.rawk_tape.proofs.Due.{Passing}
 use Rattle.rawk_tape.proofs.lines.Lines.pass_over.Given as goal
 

@@ -1,7 +1,7 @@
 use Rattle.std.proofs.Common.{◌≡◌, ◌≤◌, ◌++◌, ◌+◌, ℕ, [], length, take, drop, arith, ap, sym, subst, ◌∙◌}
 use Rattle.std.proofs.lemmas.List.{take-append-le, take_all}
 use Rattle.rawk_value.specs.Values.{Bytes}
-use Rattle.rawk_tape.specs.Inputs.{size_taken}
+use Rattle.rawk_devices.specs.Inputs.{size_taken}
 use Rattle.rawk_tape.specs.Tapes.{ReadsOn}
 use Rattle.rawk_tape.proofs.lines.Lines.read_anew.Goals as goal
 

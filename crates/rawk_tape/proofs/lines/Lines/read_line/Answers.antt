@@ -1,8 +1,8 @@
 use Rattle.std.proofs.Common.{◌≡◌, ◌≤◌, length, None, arith, ap, refl, sym, subst, ◌∙◌, Option}
 use Rattle.std.specs.List.{position_or_len}
 use Rattle.rawk_value.specs.Values.{Bytes}
-use Rattle.rawk_tape.specs.Inputs.{CountsUp}
-use Rattle.rawk_tape.specs.declared.source.Ending.{Ending}
+use Rattle.rawk_devices.specs.Inputs.{CountsUp}
+use Rattle.rawk_devices.specs.declared.source.Ending.{Ending}
 use Rattle.rawk_tape.specs.Records.{is_newline}
 use Rattle.rawk_tape.specs.Lines.{failures_by}
 use Rattle.rawk_tape.proofs.Newlines.{seen_all}

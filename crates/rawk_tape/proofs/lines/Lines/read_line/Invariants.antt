@@ -1,7 +1,7 @@
 use Rattle.std.proofs.Common.{◌≡◌, ◌≤◌, ◌+◌, ◌-◌, ◌*◌, ◌^◌, length, take, Some, is_none, if◌then◌else◌}
 use Rattle.std.specs.List.{position_or_len}
-use Rattle.rawk_tape.specs.Inputs.{CountsUp}
-use Rattle.rawk_tape.specs.declared.source.Ending.TheVariants.{Failed}
+use Rattle.rawk_devices.specs.Inputs.{CountsUp}
+use Rattle.rawk_devices.specs.declared.source.Ending.TheVariants.{Failed}
 use Rattle.rawk_tape.specs.Records.{is_newline}
 use Rattle.rawk_tape.specs.Lines.{ReadsMore, failures_by}
 use Rattle.rawk_tape.proofs.lines.Lines.read_line.Given as goal

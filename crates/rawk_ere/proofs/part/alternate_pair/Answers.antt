@@ -1,5 +1,0 @@
-use Rattle.rawk_ere.proofs.PartLemmas.{tree-Either-pair}
-use Rattle.rawk_ere.proofs.part.alternate_pair.Goals as goal
-
-pub returns : goal.returns
-returns c = tree-Either-pair c.in_ok-parts.parts c.args.a c.args.b c.in_ok-parts.ensures

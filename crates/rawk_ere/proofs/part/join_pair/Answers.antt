@@ -1,5 +1,0 @@
-use Rattle.rawk_ere.proofs.PartLemmas.{tree-Join-pair}
-use Rattle.rawk_ere.proofs.part.join_pair.Goals as goal
-
-pub returns : goal.returns
-returns c = tree-Join-pair c.in_ok-parts.parts c.args.a c.args.b c.in_ok-parts.ensures

@@ -1,5 +1,0 @@
-use Rattle.rawk_ere.specs.PatternOfLemmas.{read_once}
-use Rattle.rawk_ere.proofs.read.is_read_once.Goals as goal
-
-pub returns : goal.returns
-returns c = read_once

@@ -1,0 +1,4 @@
+pub mod PartLemmas
+pub mod PatternLemmas
+pub mod BracketLemmas
+pub mod IntervalLemmas

@@ -1,0 +1,3 @@
+pub mod Sets
+pub mod Ways
+pub mod WalkLemmas
