@@ -1,6 +1,6 @@
 //! Runs, written as they go.
 
-ghost use Rattle.std.specs.Prelude.{◌≡◌, ◌+◌, ◌≤◌, [], ℕ, None, Some, IfOk, IfSome, OnOk, OnErr};
+ghost use Rattle.std.specs.Prelude.{◌≡◌, ◌+◌, ◌≤◌, [], None, Some, IfSome, OnOk, OnErr};
 ghost use Rattle.rawk_devices.specs.Inputs.{Input, CountsUp, failures_of};
 ghost use Rattle.rawk_devices.specs.declared.source.Ending.{Ending};
 ghost use Rattle.rawk_machine.specs.Standing.{MayCome, IsAt, step_of};

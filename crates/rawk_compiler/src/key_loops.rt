@@ -1,6 +1,6 @@
 // Loops over the keys of arrays, and what is deleted of arrays.
 
-ghost use Rattle.std.specs.Prelude.{◌≡◌, [], ◌∷◌, ◌++◌, ◌+◌, ◌<◌, ◌≤◌, ◌^◌, Some, IfOk, OnOk, length, map};
+ghost use Rattle.std.specs.Prelude.{◌≡◌, [], ◌∷◌, ◌++◌, ◌+◌, ◌<◌, ◌^◌, Some, IfOk, OnOk, length, map};
 ghost use Rattle.rawk_emission.specs.Expressions.{expr_code, key_code, key_operand, unless_ready};
 ghost use Rattle.rawk_compiler.specs.Code.{keys_around, scalar_destination};
 ghost use Rattle.rawk_compiler.specs.Written.{keys_written};

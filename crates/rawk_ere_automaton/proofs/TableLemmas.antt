@@ -11,7 +11,7 @@ use Rattle.rawk_ere_tree.specs.StateSets.{Adds}
 use Rattle.rawk_ere_walks.specs.Sets.{Closes, AreReached, IsFarthestBefore, IsFarthest}
 use Rattle.rawk_ere_walks.specs.Ways.{EndsFrom, MayStart}
 use Rattle.rawk_ere_automaton.specs.Search.{Widens, BeginsNone, NoneMay, Knows}
-use Rattle.rawk_ere_begins.specs.Filters.{IsPassedOver, Tells, IsLastRow, IsNextMarked, IsUnmarked, pair_marks}
+use Rattle.rawk_ere_begins.specs.Filters.{IsPassedOver, Tells, AllLeadTo, IsNextMarked, IsUnmarked, pair_marks}
 use Rattle.rawk_ere_begins.specs.declared.block.Block.{Block}
 use Rattle.rawk_ere_automaton.specs.declared.table.Table.{Table}
 use Rattle.rawk_ere_automaton.specs.Table.{members, Begins, LeadsBy, EndsLast, AreFilled, AreStarts, IsTable}
@@ -344,6 +344,15 @@ module _ (code : List Instruction) (s : List ℕ) where
       running_end is.sets i at row l.real result ends (subst (EndsLast code (members is.sets row)) ee (is.last row l.runs.within)) le pos e l.runs
       (elim c [ inl h ↦ inl h | inr h ↦ inr (h.0, h.1 ∙ sym (l.agrees (λ x. h.0 (sym ee ∙ ends_also_last t is row l.runs.within x)))) ])
 
+  -- the same over bytes of which each leads to the row
+  pub lagging_stays : (t : Table) (is : IsTable code t) (i row : ℕ) (longest : Option ℕ) → AllLeadTo t.next.items row row → ((k : ℕ) → get_or s k 0 < 256) → (n at : ℕ) → i ≤ at → at + n ≤ length s
+      → Lagging is.sets t.ends.items i at row longest → Lagging is.sets t.ends.items i (at + n) row longest
+  lagging_stays t is i row longest stays fits zero at le within l = subst (λ (k : ℕ). Lagging is.sets t.ends.items i k row longest) (omega arith) l
+  lagging_stays t is i row longest stays fits (suc n) at le within l =
+      let b = get_or s at 0 in
+      subst (λ (k : ℕ). Lagging is.sets t.ends.items i k row longest) (omega arith)
+      (lagging_stays t is i row longest stays fits n (at + 1) (omega (arith, le)) (omega (arith, within)) (lagging_stay t is i at row b longest le (omega (arith, within)) refl (fits at) (sym (stays b (fits at))) l))
+
   -- an end at a row is one of a way, also at the end of the text
   pub running_mark : (t : Table) (is : IsTable code t) (i at row : ℕ) (longest : Option ℕ) → i ≤ at → at ≤ length s → 0 < length s → get_or t.ends.items row false ≡ true → Running is.sets i at row longest → (n : ℕ) × Path code true s n 0 i (length code) at
   running_mark t is i at row longest le within some end r = elim (cases_lt at (length s)) [
@@ -358,7 +367,7 @@ module _ (code : List Instruction) (s : List ℕ) where
 
   -- a way of one byte is the longest, where no byte leads on from its end
   pub single_farthest : (t : Table) (is : IsTable code t) (at b to : ℕ) → IsLater t at → at < length s → b ≡ get_or s at 0 → b < 256 → ((k : ℕ) → get_or s k 0 < 256) → to ≡ get_or t.next.items (t.later * 256 + b) 0
-      → get_or t.ends.items t.later false ≡ false → get_or t.ends.items to false ≡ true → IsLastRow t.next.items t.dead to → IsFarthest code true s at (Some (at + 1))
+      → get_or t.ends.items t.later false ≡ false → get_or t.ends.items to false ≡ true → AllLeadTo t.next.items t.dead to → IsFarthest code true s at (Some (at + 1))
   single_farthest t is at b to pos lt eb lb fits e ne ends last =
       let r0 = running_later t is at pos in
       let r1 = running_on t is at at t.later b to None (omega arith) lt eb lb e ne r0 in
@@ -388,7 +397,7 @@ module _ (code : List Instruction) (s : List ℕ) where
         λ d. λ j n p. begins_not t is at b (inl pos) lt refl (fits at) one.begin (sym e ∙ d) j (n, p),
         λ nd. elim (one.each b (fits at)) as (λ _. IsFarthest code true s at (Some (at + 1))) [
           | inl d ↦ absurd (nd (e ∙ d))
-          | inr h ↦ single_farthest t is at b to (inl pos) lt refl (fits at) fits e one.begin (ap (λ x. get_or t.ends.items x false) e ∙ h.0) (subst (IsLastRow t.next.items t.dead) (sym e) h.1)
+          | inr h ↦ single_farthest t is at b to (inl pos) lt refl (fits at) fits e one.begin (ap (λ x. get_or t.ends.items x false) e ∙ h.0) (subst (AllLeadTo t.next.items t.dead) (sym e) h.1)
         ],
       )
 

@@ -2,7 +2,7 @@
 use Rattle.std.specs.Prelude.{◌≡◌, ℕ, ◌+◌, ◌*◌, ◌/◌, ◌%◌, ◌<◌, ◌↔◌, Bool, true, false, IsTrue, List, [], ◌++◌, length, slice_index, slice_index_or, Contains, ◌-◌}
 use Rattle.rawk_ere_tree.specs.declared.code.Instruction.{Instruction}
 use Rattle.rawk_ere_automaton.specs.declared.table.Table.{Table}
-use Rattle.rawk_ere_begins.specs.Filters.{IsFilter}
+use Rattle.rawk_ere_begins.specs.Filters.{AllLeadTo, IsFilter}
 use Rattle.rawk_ere_tree.specs.StateSets.{Adds}
 use Rattle.rawk_ere_walks.specs.Sets.{Closes, AdvancesBy, TakesFrom, AsksIn}
 
@@ -55,6 +55,8 @@ pub record IsTable (code : List Instruction) (t : Table) : Type 0 where
   pub last : (r : ℕ) → r < length sets → EndsLast code (members sets r) (slice_index_or t.last_ends.items r false)
   pub wants_all : length t.wants.items ≡ length sets
   pub wants_are : (r : ℕ) → r < length sets → IsTrue (slice_index_or t.wants.items r false) ↔ AsksIn code (members sets r)
+  pub stays_all : length t.stays.items ≡ length sets
+  pub stays_are : (r : ℕ) → r < length sets → IsTrue (slice_index_or t.stays.items r false) ↔ AllLeadTo t.next.items r r
   pub none : t.dead < length sets → length (members sets t.dead) ≡ 0
   pub begin_with : IsFilter t.next.items t.ends.items t.later t.dead t.begins
 

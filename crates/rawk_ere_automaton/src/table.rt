@@ -1,6 +1,7 @@
 //! The sets of states that a walk can be in between two bytes, each found once, and where each byte leads.
 
 ghost use Rattle.std.specs.Prelude.{◌≡◌, ℕ, ◌+◌, ◌-◌, ◌*◌, ◌<◌, ◌≤◌, ◌↔◌, ◌⊎◌, true, List, [], ◌++◌, length, slice_index_or, false, IfOk, OnOk, IsTrue, Contains, Some, slice_index};
+ghost use Rattle.rawk_ere_begins.specs.Filters.{AllLeadTo};
 ghost use Rattle.rawk_ere_tree.specs.StateSets.{Adds};
 ghost use Rattle.rawk_ere_walks.specs.Sets.{Closes, IsFarthest, AsksIn, WantsFrom};
 ghost use Rattle.rawk_ere_automaton.specs.Table.{members, Begins, LeadsBy, EndsLast, AreFilled, AreStarts, IsTable, IsPlaced, Extends, AreAlike, AreMarkedAlike, IsTarget};
@@ -10,7 +11,7 @@ ghost use Rattle.rawk_ere_automaton.specs.Search.{Widens, BeginsNone, NoneMay, K
 ghost use Rattle.std.specs.Option.{ForSome};
 
 use rawk_ere_begins::block::Block;
-use rawk_ere_begins::filter::{Filter, find_filter};
+use rawk_ere_begins::filter::{Filter, all_lead_to, find_filter};
 use rawk_ere_begins::seek::{LONG, seek, seek_noting};
 use rawk_ere_tree::code::Code;
 use rawk_ere_tree::set::StateSet;
@@ -28,6 +29,8 @@ pub struct Table {
     pub last_ends: Vec<bool>,
     /// Whether a state of the row wants to know what follows the text.
     pub wants: Vec<bool>,
+    /// Whether each byte leads from the row to itself.
+    pub stays: Vec<bool>,
     /// The row at the start of the text.
     pub start: usize,
     /// The row at a later place.
@@ -75,7 +78,8 @@ fn marked(ends: bool, at: usize, longest: Option<usize>) -> Option<usize>
     if ends { Some(at) } else { longest }
 }
 
-/// Walks from a place by a table of the code. What a row is marked with is looked at where a byte leads to another row.
+/// Walks from a place by a table of the code. What a row is marked with is looked at where a byte leads to another row; one that each byte
+/// leads to itself goes to the end of the text.
 pub fn run(table: &Table, code: &Code, text: &[u8], from: usize) -> Ran
     requires within { from ≤ length text.now }
     requires some { 0 < length text.now }
@@ -99,6 +103,12 @@ pub fn run(table: &Table, code: &Code, text: &[u8], from: usize) -> Ran
                 };
             }
             row = to;
+            if table.stays[row] {
+                return Ran {
+                    longest: marked(table.last_ends[row], text.len(), longest),
+                    stop: text.len(),
+                };
+            }
         }
     }
     longest = marked(table.last_ends[row], text.len(), longest);
@@ -406,12 +416,14 @@ fn finish(
     match packed {
         None => Ok(None),
         Some(next) => {
+            let stays = find_stays(alloc, &next, sets.len())?;
             let begins = find_filter(&next, &ends, later, dead);
             Ok(Some(Table {
                 next,
                 ends,
                 last_ends,
                 wants,
+                stays,
                 start,
                 later,
                 dead,
@@ -468,6 +480,19 @@ fn find_wants(alloc: Global, code: &Code, sets: &[StateSet]) -> Result<Vec<bool>
     let mut found = Vec::new(alloc);
     for index in 0..sets.len() {
         found.push(asks_in(code, &sets[index]))?;
+    }
+    Ok(found)
+}
+
+/// Whether each byte leads from each row to itself.
+fn find_stays(alloc: Global, next: &[u8], rows: usize) -> Result<Vec<bool>, AllocError>
+    requires { length next.now ≡ 256 * rows }
+    ensures all { IfOk result (λ stays. length stays.items ≡ rows) }
+    ensures each { IfOk result (λ stays. (r : ℕ) → r < rows → IsTrue (slice_index_or stays.items r false) ↔ AllLeadTo next.now r r) }
+{
+    let mut found = Vec::new(alloc);
+    for row in 0..rows {
+        found.push(all_lead_to(next, row, row))?;
     }
     Ok(found)
 }

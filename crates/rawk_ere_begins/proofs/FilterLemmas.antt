@@ -1,12 +1,12 @@
 -- Marks tell which bytes lead on.
-use Rattle.std.proofs.Common.{◌≡◌, ◌≢◌, ℕ, ◌+◌, ◌*◌, ◌/◌, ◌%◌, ◌<◌, ◌⊎◌, inl, inr, Bool, true, false, Option, Some, None, List, get_or, refl, sym, ap, subst, ◌∙◌, arith}
+use Rattle.std.proofs.Common.{◌≡◌, ◌≢◌, ℕ, ◌+◌, ◌*◌, ◌/◌, ◌%◌, ◌<◌, ◌⊎◌, inl, inr, Bool, true, false, Option, Some, None, List, get_or, refl, sym, ap, subst, ◌∙◌, arith, bit_and}
 use Rattle.std.specs.Int.{bit_at}
 use Rattle.std.specs.Option.{ForSome}
 use Rattle.std.proofs.lemmas.Bool.{cases_eq}
-use Rattle.std.proofs.lemmas.Nat.Bits.{bit_at_and, bit_at-zero}
+use Rattle.std.proofs.lemmas.Nat.Bits.{bit_at_and, bit_at-lt, bit_at-zero, same_from_bits}
 use Rattle.rawk_ere_begins.specs.declared.nibbles.Nibbles.{Nibbles}
 use Rattle.rawk_ere_begins.specs.declared.filter.Filter.{Filter}
-use Rattle.rawk_ere_begins.specs.Filters.{AreSingle, HasMark, IsOnly, KeepsMarks, marks_of, pair_marks, IsFilter}
+use Rattle.rawk_ere_begins.specs.Filters.{AreSingle, HasMark, IsAsked, IsOnly, KeepsMarks, marks_of, pair_marks, IsFilter}
 
 module _ (next : List ℕ) (ends : List Bool) where
   -- the bytes that may come after one that led to the row have the mark
@@ -32,8 +32,8 @@ not_true true h = absurd (h refl)
 not_true false h = refl
 
 -- what bytes without marks tell
-pub is_filter : (next : List ℕ) (ends : List Bool) (later dead : ℕ) (f : Filter) → ForSome f.only (IsOnly f.first f.second) → (f.is_empty ≡ true → (a : ℕ) → a < 256 → get_or next (later * 256 + a) 0 ≡ dead) → ((a : ℕ) → a < 256 → get_or next (later * 256 + a) 0 ≢ dead → Marked next ends later dead f.first f.second a) → (f.is_single ≡ true → AreSingle next ends later dead) → IsFilter next ends later dead f
-is_filter next ends later dead f only none marked long = record { only = only; empty = none; one = long; single = one; pair = two }
+pub is_filter : (next : List ℕ) (ends : List Bool) (later dead : ℕ) (f : Filter) → IsAsked f.first f.second f.asked → (f.is_empty ≡ true → (a : ℕ) → a < 256 → get_or next (later * 256 + a) 0 ≡ dead) → ((a : ℕ) → a < 256 → get_or next (later * 256 + a) 0 ≢ dead → Marked next ends later dead f.first f.second a) → (f.is_single ≡ true → AreSingle next ends later dead) → IsFilter next ends later dead f
+is_filter next ends later dead f asked none marked long = record { asked = asked; empty = none; one = long; single = one; pair = two }
   where
     one : (a : ℕ) → a < 256 → marks_of f.first a ≡ 0 → get_or next (later * 256 + a) 0 ≡ dead
     one a la z = elim (cases_eq (get_or next (later * 256 + a) 0) dead) [
@@ -121,3 +121,14 @@ module _ (next : List ℕ) (ends : List Bool) (later dead : ℕ) where
 abbrev pub IsOnlyBelow : Nibbles → ℕ → Option ℕ → Type 0
 IsOnlyBelow marks n None = (x : ℕ) → x < n → marks_of marks x ≢ 0 → ⊥
 IsOnlyBelow marks n (Some a) = (x : ℕ) → x < n → marks_of marks x ≢ 0 → x ≡ a
+
+-- where each byte has all marks that first ones have, a first one has them all in common with it
+pub has_in_common : (first second : Nibbles) (all : ℕ) → ((x i : ℕ) → x < 256 → bit_at (marks_of first x) i ≡ 1 → bit_at all i ≡ 1) → ((y i : ℕ) → y < 256 → bit_at all i ≡ 1 → bit_at (marks_of second y) i ≡ 1)
+    → (x y : ℕ) → x < 256 → y < 256 → bit_and (marks_of first x) (marks_of second y) ≡ marks_of first x
+has_in_common first second all has have x y lx ly = same_from_bits _ _ each
+  where
+    each : (i : ℕ) → bit_at (bit_and (marks_of first x) (marks_of second y)) i ≡ bit_at (marks_of first x) i
+    each i = elim (cases_eq (bit_at (marks_of first x) i) 1) [
+      | inl one ↦ omega (arith, bit_at_and (marks_of first x) (marks_of second y) i, one, have y i ly (has x i lx one))
+      | inr not ↦ (let n : bit_at (marks_of first x) i ≡ 1 → ⊥ = not in omega (arith, bit_at_and (marks_of first x) (marks_of second y) i, n, bit_at-lt (marks_of first x) i))
+    ]

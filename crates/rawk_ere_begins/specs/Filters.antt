@@ -1,10 +1,11 @@
 -- Marks of bytes, and what they tell of the places of a text.
 use Rattle.std.specs.Prelude.{◌≡◌, ◌≢◌, ◌↔◌, ℕ, ◌+◌, ◌-◌, ◌*◌, ◌/◌, ◌%◌, ◌<◌, ◌≤◌, ◌⊎◌, Bool, true, false, List, length, slice_index, slice_index_or, bit_and}
 use Rattle.std.specs.Int.{bit_at}
-use Rattle.std.specs.Option.{ForSome}
 use Rattle.rawk_ere_begins.specs.declared.block.Block.{Block}
 use Rattle.rawk_ere_begins.specs.declared.nibbles.Nibbles.{Nibbles}
 use Rattle.rawk_ere_begins.specs.declared.filter.Filter.{Filter}
+use Rattle.rawk_ere_begins.specs.declared.filter.Asked.{Asked}
+use Rattle.rawk_ere_begins.specs.declared.filter.Asked.TheVariants as asked
 
 -- the byte has the mark
 abbrev pub HasMark : Nibbles → ℕ → ℕ → Type 0
@@ -26,20 +27,27 @@ pair_marks f a b = bit_and (marks_of f.first a) (marks_of f.second b)
 abbrev pub IsOnly : Nibbles → Nibbles → ℕ × ℕ → Type 0
 IsOnly first second p = (x y : ℕ) → x < 256 → y < 256 → (bit_and (marks_of first x) (marks_of second y) ≢ 0) ↔ ((x ≡ p.0) × (y ≡ p.1))
 
--- each byte leads from the row to `dead`
-abbrev pub IsLastRow : List ℕ → ℕ → ℕ → Type 0
-IsLastRow next dead row = (b : ℕ) → b < 256 → slice_index next (row * 256 + b) ≡ dead
+-- of bytes that have a mark in common the first has one, and where it is as was asked they have one in common
+abbrev pub IsAsked : Nibbles → Nibbles → Asked → Type 0
+IsAsked first second asked.Marks = Unit {0}
+IsAsked first second asked.First = (x y : ℕ) → x < 256 → y < 256 → marks_of first x ≢ 0 → bit_and (marks_of first x) (marks_of second y) ≢ 0
+IsAsked first second (asked.Byte a) = (x y : ℕ) → x < 256 → y < 256 → (bit_and (marks_of first x) (marks_of second y) ≢ 0) ↔ (x ≡ a)
+IsAsked first second (asked.Pair a b) = IsOnly first second (a, b)
+
+-- each byte leads from the row to that one
+abbrev pub AllLeadTo : List ℕ → ℕ → ℕ → Type 0
+AllLeadTo next to row = (b : ℕ) → b < 256 → slice_index next (row * 256 + b) ≡ to
 
 -- the row `later` is no end, and each byte leads from there to `dead`, or to an end from which each byte leads to `dead`
 pub record AreSingle (next : List ℕ) (ends : List Bool) (later dead : ℕ) : Type 0 where
   pub begin : slice_index_or ends later false ≡ false
   pub each : (a : ℕ) → a < 256 → (slice_index next (later * 256 + a) ≡ dead)
-      ⊎ ((slice_index_or ends (slice_index next (later * 256 + a)) false ≡ true) × IsLastRow next dead (slice_index next (later * 256 + a)))
+      ⊎ ((slice_index_or ends (slice_index next (later * 256 + a)) false ≡ true) × AllLeadTo next dead (slice_index next (later * 256 + a)))
 
 -- In a table of rows, of which `next` has 256 entries each for where the bytes lead: where the filter is empty, all bytes lead
 -- from the row `later` to the row `dead`; where it says so, ways are one byte long; so does a byte without marks; and of two bytes without a mark in common so does the first, or it leads to a row that is no end, and the second from there to `dead`.
 pub record IsFilter (next : List ℕ) (ends : List Bool) (later dead : ℕ) (f : Filter) : Type 0 where
-  pub only : ForSome f.only (IsOnly f.first f.second)
+  pub asked : IsAsked f.first f.second f.asked
   pub empty : f.is_empty ≡ true → (a : ℕ) → a < 256 → slice_index next (later * 256 + a) ≡ dead
   pub one : f.is_single ≡ true → AreSingle next ends later dead
   pub single : (a : ℕ) → a < 256 → marks_of f.first a ≡ 0 → slice_index next (later * 256 + a) ≡ dead

@@ -1,10 +1,24 @@
 //! Which bytes a way may begin with, and which may come next.
 
-ghost use Rattle.std.specs.Prelude.{◌≡◌, ◌≢◌, ℕ, ◌+◌, ◌*◌, ◌<◌, ◌≤◌, ◌⊎◌, IsTrue, true, false, length, slice_index, slice_index_or};
+ghost use Rattle.std.specs.Prelude.{◌≡◌, ◌≢◌, ◌↔◌, ℕ, ◌+◌, ◌*◌, ◌<◌, ◌≤◌, ◌⊎◌, IsTrue, true, false, length, slice_index, slice_index_or};
+ghost use Rattle.std.specs.Int.{bit_at};
 ghost use Rattle.std.specs.Option.{ForSome};
-ghost use Rattle.rawk_ere_begins.specs.Filters.{AreSingle, HasMark, KeepsMarks, IsFilter, IsLastRow, IsOnly, marks_of};
+ghost use Rattle.rawk_ere_begins.specs.Filters.{AllLeadTo, AreSingle, HasMark, IsAsked, IsFilter, IsOnly, KeepsMarks, marks_of};
 
 use crate::nibbles::Nibbles;
+
+/// What has to be asked of a byte and the next one, to know whether they have a mark in common.
+#[derive(Clone, Copy)]
+pub enum Asked {
+    /// which marks both have
+    Marks,
+    /// whether the first one has marks: then it has one in common with any that comes next
+    First,
+    /// whether the first one is this byte: it has a mark in common with any that comes next, and no other has
+    Byte(u8),
+    /// whether they are these two: no others have a mark in common
+    Pair(u8, u8),
+}
 
 /// The first bytes of ways and their second bytes: those of one way have a mark in common.
 #[derive(Clone, Copy)]
@@ -15,8 +29,7 @@ pub struct Filter {
     pub is_empty: bool,
     /// Whether each way is one byte long.
     pub is_single: bool,
-    /// The only two bytes that have a mark in common, if no others do.
-    pub only: Option<(u8, u8)>,
+    pub asked: Asked,
 }
 
 /// Gives a mark to the bytes that may come after one that led to the row.
@@ -61,13 +74,63 @@ fn find_only(first: &Nibbles, second: &Nibbles) -> Option<(u8, u8)>
     Some((a, b))
 }
 
-/// Whether no byte leads on from a row.
-fn is_last(next: &[u8], row: usize, dead: usize) -> bool
-    requires { 256 * (row + 1) ≤ length next.now }
-    ensures { IsTrue result → IsLastRow next.now dead row }
+/// The marks that bytes have.
+fn all_marks(marks: &Nibbles) -> u8
+    ensures { (x i : ℕ) → x < 256 → bit_at (marks_of marks.now x) i ≡ 1 → bit_at result i ≡ 1 }
+{
+    let mut all = 0;
+    for byte in 0..256usize {
+        all |= marks.of(byte as u8);
+    }
+    all
+}
+
+/// Whether each byte has all of some marks.
+fn have_all(marks: &Nibbles, all: u8) -> bool
+    ensures { IsTrue result → (y i : ℕ) → y < 256 → bit_at all i ≡ 1 → bit_at (marks_of marks.now y) i ≡ 1 }
 {
     for byte in 0..256usize {
-        if next[row * 256 + byte] as usize != dead {
+        if marks.of(byte as u8) & all != all {
+            return false;
+        }
+    }
+    true
+}
+
+/// The only byte that has marks, where any may come next.
+fn find_byte(first: &Nibbles) -> Option<u8>
+    ensures { ForSome result (λ a. (x : ℕ) → x < 256 → (marks_of first.now x ≢ 0) ↔ (x ≡ a)) }
+{
+    let byte = only_marked(first)?;
+    if first.of(byte) == 0 {
+        return None;
+    }
+    Some(byte)
+}
+
+/// What has to be asked of two bytes.
+fn find_asked(first: &Nibbles, second: &Nibbles) -> Asked
+    ensures { IsAsked first.now second.now result }
+{
+    if have_all(second, all_marks(first)) {
+        return match find_byte(first) {
+            Some(byte) => Asked::Byte(byte),
+            None => Asked::First,
+        };
+    }
+    match find_only(first, second) {
+        Some((a, b)) => Asked::Pair(a, b),
+        None => Asked::Marks,
+    }
+}
+
+/// Whether each byte leads from a row to another one, or to itself.
+pub fn all_lead_to(next: &[u8], row: usize, to: usize) -> bool
+    requires { 256 * (row + 1) ≤ length next.now }
+    ensures { IsTrue result ↔ AllLeadTo next.now to row }
+{
+    for byte in 0..256usize {
+        if next[row * 256 + byte] as usize != to {
             return false;
         }
     }
@@ -88,7 +151,7 @@ fn are_single(next: &[u8], ends: &[bool], later: usize, dead: usize) -> bool
     for byte in 0..256usize {
         let to = next[later * 256 + byte] as usize;
         if to != dead && to != row {
-            if !ends[to] || !is_last(next, to, dead) {
+            if !ends[to] || !all_lead_to(next, to, dead) {
                 return false;
             }
             row = to;
@@ -125,6 +188,6 @@ pub fn find_filter(next: &[u8], ends: &[bool], later: usize, dead: usize) -> Fil
         second,
         is_empty: row == dead,
         is_single: are_single(next, ends, later, dead),
-        only: find_only(&first, &second),
+        asked: find_asked(&first, &second),
     }
 }

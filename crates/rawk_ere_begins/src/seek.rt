@@ -2,11 +2,10 @@
 
 ghost use Rattle.std.specs.Prelude.{◌≡◌, ◌≢◌, ℕ, ◌+◌, ◌<◌, ◌≤◌, ◌⊎◌, length, slice_index};
 ghost use Rattle.std.specs.Int.{bit_at};
-ghost use Rattle.std.specs.Option.{ForSome};
-ghost use Rattle.rawk_ere_begins.specs.Filters.{pair_marks, IsPassedOver, IsOnly, Tells};
+ghost use Rattle.rawk_ere_begins.specs.Filters.{marks_of, pair_marks, IsAsked, IsPassedOver, Tells};
 
 use crate::block::Block;
-use crate::filter::Filter;
+use crate::filter::{Asked, Filter};
 use crate::lanes::{
     bits_from, both, both_bits, by_high_bits, by_low_bits, equal, load, lowest, nonzero,
 };
@@ -30,29 +29,54 @@ fn has_marks(filter: &Filter, text: &[u8], at: usize) -> u64
     nonzero(both(both(low, high), both(next_low, next_high)))
 }
 
+/// The same where a byte with marks has one in common with any: where one stands.
+#[inline(always)]
+fn has_first(filter: &Filter, text: &[u8], at: usize) -> u64
+    requires { at + 32 ≤ length text.now }
+    ensures set { (k : ℕ) → k < 32 → marks_of filter.now.first (slice_index text.now (at + k)) ≢ 0 → bit_at result k ≡ 1 }
+    ensures only { (k : ℕ) → bit_at result k ≡ 1 → (k < 32) × (marks_of filter.now.first (slice_index text.now (at + k)) ≢ 0) }
+{
+    let bytes = load(text, at);
+    let low = by_low_bits(&filter.first.low, bytes);
+    let high = by_high_bits(&filter.first.high, bytes);
+    nonzero(both(low, high))
+}
+
+/// The same where one byte alone has one in common with any: where it stands.
+#[inline(always)]
+fn has_byte(text: &[u8], at: usize, byte: u8) -> u64
+    requires { at + 32 ≤ length text.now }
+    ensures set { (k : ℕ) → k < 32 → slice_index text.now (at + k) ≡ byte → bit_at result k ≡ 1 }
+    ensures only { (k : ℕ) → bit_at result k ≡ 1 → (k < 32) × (slice_index text.now (at + k) ≡ byte) }
+{
+    equal(load(text, at), byte)
+}
+
 /// The same where two bytes alone have a mark in common: where they stand side by side.
 #[inline(always)]
-fn has_pair(text: &[u8], at: usize, pair: (u8, u8)) -> u64
+fn has_pair(text: &[u8], at: usize, a: u8, b: u8) -> u64
     requires { at + 33 ≤ length text.now }
-    ensures set { (k : ℕ) → k < 32 → slice_index text.now (at + k) ≡ pair.0 → slice_index text.now (at + k + 1) ≡ pair.1 → bit_at result k ≡ 1 }
-    ensures only { (k : ℕ) → bit_at result k ≡ 1 → (k < 32) × (slice_index text.now (at + k) ≡ pair.0) × (slice_index text.now (at + k + 1) ≡ pair.1) }
+    ensures set { (k : ℕ) → k < 32 → slice_index text.now (at + k) ≡ a → slice_index text.now (at + k + 1) ≡ b → bit_at result k ≡ 1 }
+    ensures only { (k : ℕ) → bit_at result k ≡ 1 → (k < 32) × (slice_index text.now (at + k) ≡ a) × (slice_index text.now (at + k + 1) ≡ b) }
 {
-    let first = equal(load(text, at), pair.0);
-    let second = equal(load(text, at + 1), pair.1);
+    let first = equal(load(text, at), a);
+    let second = equal(load(text, at + 1), b);
     both_bits(first, second)
 }
 
-/// The same by the quicker of the two ways.
+/// The same by the quickest way.
 #[inline(always)]
 fn may_begin(filter: &Filter, text: &[u8], at: usize) -> u64
     requires room { at + 33 ≤ length text.now }
-    requires only { ForSome filter.now.only (IsOnly filter.now.first filter.now.second) }
+    requires asked { IsAsked filter.now.first filter.now.second filter.now.asked }
     ensures set { (k : ℕ) → k < 32 → pair_marks filter.now (slice_index text.now (at + k)) (slice_index text.now (at + k + 1)) ≢ 0 → bit_at result k ≡ 1 }
     ensures only { (k : ℕ) → bit_at result k ≡ 1 → (k < 32) × (pair_marks filter.now (slice_index text.now (at + k)) (slice_index text.now (at + k + 1)) ≢ 0) }
 {
-    match filter.only {
-        Some(pair) => has_pair(text, at, pair),
-        None => has_marks(filter, text, at),
+    match filter.asked {
+        Asked::Marks => has_marks(filter, text, at),
+        Asked::First => has_first(filter, text, at),
+        Asked::Byte(byte) => has_byte(text, at, byte),
+        Asked::Pair(a, b) => has_pair(text, at, a, b),
     }
 }
 
@@ -61,7 +85,7 @@ fn may_begin(filter: &Filter, text: &[u8], at: usize) -> u64
 #[inline]
 pub fn seek(filter: &Filter, text: &[u8], from: usize) -> usize
     requires within { from ≤ length text.now }
-    requires only { ForSome filter.now.only (IsOnly filter.now.first filter.now.second) }
+    requires asked { IsAsked filter.now.first filter.now.second filter.now.asked }
     ensures low { from ≤ result }
     ensures high { result ≤ length text.now }
     ensures passed { (k : ℕ) → from ≤ k → k < result → IsPassedOver filter.now text.now k }
@@ -75,7 +99,7 @@ pub fn seek(filter: &Filter, text: &[u8], from: usize) -> usize
 #[inline(always)]
 pub fn seek_noting(filter: &Filter, text: &[u8], from: usize, known: &mut Block) -> usize
     requires within { from ≤ length text.now }
-    requires only { ForSome filter.now.only (IsOnly filter.now.first filter.now.second) }
+    requires asked { IsAsked filter.now.first filter.now.second filter.now.asked }
     ensures low { from ≤ result }
     ensures high { result ≤ length text.now }
     ensures passed { (k : ℕ) → from ≤ k → k < result → IsPassedOver filter.now text.now k }

@@ -1,6 +1,6 @@
 //! What stood in the parts before the last move.
 
-ghost use Rattle.std.specs.Prelude.{◌≡◌, ◌∷◌, ◌<◌, ◌-◌, List, None, Some, if◌then◌else◌, length, nat_lt, slice_get, option_copied, option_map};
+ghost use Rattle.std.specs.Prelude.{◌≡◌, ◌<◌, ◌-◌, List, None, Some, if◌then◌else◌, length, nat_lt, slice_get, option_copied, option_map};
 ghost use Rattle.rawk_value.specs.declared.value.Value.{Value};
 ghost use Rattle.rawk_record.specs.FieldRefs.{ref_value};
 ghost use Rattle.rawk_record.specs.Shown.{Shown, record_back};

@@ -1,6 +1,6 @@
 //! What a machine holds.
 
-ghost use Rattle.std.specs.Prelude.{◌≡◌, ◌≤◌, ◌<◌, ◌+◌, ◌-◌, ◌^◌, ◌∷◌, ◌++◌, List, ℕ, IfOk, MatchOption, None, Some, length, slice_get, option_copied, option_map};
+ghost use Rattle.std.specs.Prelude.{◌≡◌, ◌≤◌, ◌<◌, ◌+◌, ◌-◌, IfOk, MatchOption, None, Some, length, slice_get, option_copied, option_map};
 ghost use Rattle.std.specs.FinMap.{len};
 ghost use Rattle.rawk_value.specs.Values.{Bytes};
 ghost use Rattle.rawk_frames.specs.Frame.{Frame, IsOf, locals_now};
@@ -8,9 +8,8 @@ ghost use Rattle.rawk_arrays.specs.Elements.{array_at, element_at};
 ghost use Rattle.rawk_store.specs.State.{array_in, count_in, element_in, keys_in};
 ghost use Rattle.rawk_devices.specs.Inputs.{Input};
 ghost use Rattle.rawk_record.specs.FieldRefs.{ref_value};
-ghost use Rattle.rawk_code.specs.Actions.{SetAt};
 ghost use Rattle.rawk_machine.specs.Kept.{AllBelow, Few};
-ghost use Rattle.rawk_machine.specs.Standing.{Earlier, MayCome, LastMade};
+ghost use Rattle.rawk_machine.specs.Standing.{MayCome, LastMade};
 
 use crate::machine::Machine;
 use rawk_devices::Source;

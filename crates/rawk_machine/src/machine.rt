@@ -1,11 +1,10 @@
 //! A machine that runs a code from point to point.
 
-ghost use Rattle.std.specs.Prelude.{◌≡◌, ◌↔◌, ◌≤◌, ◌<◌, ◌+◌, ◌-◌, ◌*◌, ◌^◌, [], ◌++◌, ℕ, nat_lt, List, None, Some, IsSome, IsTrue, length, take, drop, IfOk, IfErr, OnOk, OnErr};
-ghost use Rattle.std.specs.Option.{option_map};
+ghost use Rattle.std.specs.Prelude.{◌≡◌, ◌↔◌, ◌≤◌, ◌<◌, ◌+◌, ◌-◌, ◌*◌, ◌^◌, [], ◌++◌, nat_lt, None, Some, IsSome, IsTrue, length, take, drop, IfOk, IfErr, OnOk, OnErr};
 ghost use Rattle.rawk_value.specs.Values.{Bytes};
 ghost use Rattle.rawk_devices.specs.Inputs.{Input, CountsUp};
 ghost use Rattle.rawk_devices.specs.declared.source.Ending.{Ending as End};
-ghost use Rattle.rawk_store.specs.Stores.{now_of, start_of};
+ghost use Rattle.rawk_store.specs.Stores.{now_of};
 ghost use Rattle.rawk_store.specs.State.{assigned};
 ghost use Rattle.rawk_code.specs.Actions.{fault_of};
 ghost use Rattle.rawk_machine.specs.Kept.{below};

@@ -1,6 +1,6 @@
 //! Assignments.
 
-ghost use Rattle.std.specs.Prelude.{◌≡◌, ◌<◌, IfOk, OnErr, OnOk, slice_index_or};
+ghost use Rattle.std.specs.Prelude.{◌≡◌, ◌<◌, IfOk, IsSome, OnErr, OnOk, slice_index_or};
 ghost use Rattle.std.specs.Bool.{OnTrue};
 ghost use Rattle.std.specs.Option.{option_copied};
 ghost use Rattle.rawk_value.specs.declared.value.Value.{Value};
@@ -62,14 +62,15 @@ fn assign_field<const SAVES: bool>(
 }
 
 /// Makes a text the record, with its fields by the separators of now, or answers the fault of the field separator, which changes nothing. It fails where memory is
-/// refused.
-fn assign_record_text<const SAVES: bool>(
+/// refused. It is for a text that lies in another part of the store.
+pub fn assign_record_text<const SAVES: bool>(
     alloc: Global,
     globals: &Cells,
     current: &mut Current,
     text: &[u8],
 ) -> Result<Option<Fault>, AllocError>
     ensures did { IfOk result (λ fault. Becomes fault (read_as text.now (text_of (slice_index_or globals.now.now FS Value.Uninitialized)) (is_empty (text_of (slice_index_or globals.now.now RS Value.Uninitialized)))) current.old.now current.new.now) }
+    ensures same { IfOk result (λ fault. IsSome fault → current.new ≡ current.old) }
     ensures start { OnTrue SAVES (current.new.start ≡ current.old.start) }
 {
     let mut field_digits = Buffer::new();

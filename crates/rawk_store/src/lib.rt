@@ -11,7 +11,7 @@ mod split;
 pub mod store;
 pub mod target;
 
-pub use assign::array_number;
+pub use assign::{array_number, assign_record_text};
 pub use group::Group;
 pub use lent::{ValueRef, global_after, global_before};
 pub use numbering::field_number;

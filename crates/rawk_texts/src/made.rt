@@ -1,19 +1,27 @@
 //! Texts that functions make of texts that lie there, which are pushed at once.
 
 ghost use Rattle.std.specs.Bool.{OnTrue};
-ghost use Rattle.std.specs.Prelude.{◌≡◌, ◌++◌, ◌+◌, ◌≤◌, IfOk, IfSome, length, map, take};
-ghost use Rattle.rawk_value.specs.Values.{text_of};
+ghost use Rattle.std.specs.Prelude.{◌≡◌, ◌++◌, ◌+◌, ◌≤◌, IfOk, IfSome, Ok, length, map, take};
+ghost use Rattle.rawk_value.specs.declared.value.Value.{Value};
+ghost use Rattle.rawk_value.specs.Values.{next_ok, text_of};
 ghost use Rattle.rawk_builtins.specs.Builtins.{lower, upper};
+ghost use Rattle.rawk_code.specs.Term as term;
 ghost use Rattle.rawk_store.specs.Layout.{Grown};
+ghost use Rattle.rawk_store.specs.State.{field_number};
 ghost use Rattle.rawk_store.specs.Stores.{start_of};
 ghost use Rattle.rawk_frames.specs.LaidFrames.{frames_of};
-ghost use Rattle.rawk_operands.specs.Moving.{moving, simple_of};
+ghost use Rattle.rawk_operands.specs.Borrowed.{shown_value};
+ghost use Rattle.rawk_operands.specs.Moving.{moving, simple_in, simple_of, term_in};
 ghost use Rattle.rawk_texts.specs.Pushes.{IsPushedIf};
 
+use itoa::Buffer;
 use rawk_builtins::substr;
-use rawk_code::{Formula, Instr, Op, Operand, Shape, Simple};
-use rawk_operands::numbers::given_number;
+use rawk_code::{Formula, Op, Operand, Shape, Simple};
+use rawk_operands::borrowed::simple_in;
+use rawk_operands::formulas::field_of;
+use rawk_operands::numbers::{few_number, given_number};
 use rawk_operands::stack::push_string;
+use rawk_operators::{Borrowed, text_borrowed};
 use rawk_store::{Cells, Current, FieldRef, Frames, Local, Store};
 use rawk_tree::{Joiner, Unary};
 use rawk_value::Value;
@@ -63,7 +71,18 @@ pub fn text_lying<'a>(
     }
 }
 
-/// The part of a text that lies there becomes the newest operand, where its place and its count are constants or stand in variables; whether it did is answered, and else nothing has changed. It fails
+/// The number that a formula is, or makes of few numbers, without a call where it is a constant or a variable; none of others, and where there is a fault.
+#[inline(always)]
+pub(crate) fn number_of_few(formula: &Formula, store: &Store) -> Option<i64>
+    ensures { IfSome result (λ n. term_in formula.now (moving store.now) ≡ Ok (Value.Number n)) }
+{
+    match given_number(formula, store) {
+        Some(n) => Some(n),
+        None => few_number(formula, store),
+    }
+}
+
+/// The part of a text that lies there becomes the newest operand, where its place and its count are made of few numbers; whether it did is answered, and else nothing has changed. It fails
 /// where memory is refused.
 #[inline(never)]
 pub fn push_part<const SAVES: bool>(
@@ -76,10 +95,10 @@ pub fn push_part<const SAVES: bool>(
     ensures did { IfOk result (λ done. IsPushedIf done (Op.SubstrOf from.now place.now count.now) store.old store.new) }
     ensures start { OnTrue SAVES (Grown (start_of store.old) (start_of store.new)) }
 {
-    let Some(at) = given_number(place, store) else {
+    let Some(at) = number_of_few(place, store) else {
         return Ok(false);
     };
-    let Some(size) = given_number(count, store) else {
+    let Some(size) = number_of_few(count, store) else {
         return Ok(false);
     };
     let Some(text) = text_lying(from, &store.globals, &store.frames, &store.current) else {
@@ -100,7 +119,7 @@ fn push_rest<const SAVES: bool>(
     ensures did { IfOk result (λ done. IsPushedIf done (Op.JoinOf from.now Joiner.Substr place.now) store.old store.new) }
     ensures start { OnTrue SAVES (Grown (start_of store.old) (start_of store.new)) }
 {
-    let Some(at) = given_number(place, store) else {
+    let Some(at) = number_of_few(place, store) else {
         return Ok(false);
     };
     let Some(text) = text_lying(from, &store.globals, &store.frames, &store.current) else {
@@ -130,7 +149,54 @@ fn beside<'a>(own: &'a mut [u8; 64], left: &[u8], right: &[u8]) -> &'a [u8]
     &own[..left.len() + right.len()]
 }
 
-/// The same of two texts side by side, where they have few bytes.
+/// The text of what has its value at once; that of a number stands in the buffer.
+#[inline(always)]
+fn simple_text<'a>(from: &'a Simple, store: &'a Store, digits: &'a mut Buffer) -> &'a [u8]
+    ensures { result.now ≡ text_of (simple_in from.now (moving store.now)) }
+{
+    match text_lying(from, &store.globals, &store.frames, &store.current) {
+        Some(text) => text,
+        None => text_borrowed(simple_in(from, store), digits),
+    }
+}
+
+/// The text of the field of a number; none of a number that no field has, and of a field that is no part of the record's text.
+#[inline(always)]
+pub(crate) fn field_piece(n: i64, current: &Current) -> Option<&[u8]>
+    ensures { IfSome result (λ t. (v : Value) × (next_ok (field_number n) (λ k. Ok (shown_value k current.now.now)) ≡ Ok v) × (text_of v ≡ t.now)) }
+{
+    match field_of(n, current) {
+        Ok(Borrowed::Input(text)) => Some(text),
+        _ => None,
+    }
+}
+
+/// The same, where the number is what a formula is, or makes of few numbers; none of others.
+#[inline(always)]
+pub fn field_lying<'a>(number: &Formula, store: &'a Store) -> Option<&'a [u8]>
+    ensures { IfSome result (λ t. (v : Value) × (term_in (term.At number.now) (moving store.now) ≡ Ok v) × (text_of v ≡ t.now)) }
+{
+    let n = number_of_few(number, store)?;
+    field_piece(n, &store.current)
+}
+
+/// The text of what a formula is, where that has its value at once or is such a field; none of others.
+#[inline(always)]
+fn text_behind<'a>(
+    formula: &'a Formula,
+    store: &'a Store,
+    digits: &'a mut Buffer,
+) -> Option<&'a [u8]>
+    ensures { IfSome result (λ t. (v : Value) × (term_in formula.now (moving store.now) ≡ Ok v) × (text_of v ≡ t.now)) }
+{
+    match formula.shape() {
+        Shape::Given(last) => Some(simple_text(last, store, digits)),
+        Shape::At(number) => field_lying(number, store),
+        _ => None,
+    }
+}
+
+/// The same of two texts side by side, where they have few bytes: of what has its value at once, and of that or a field.
 #[inline(always)]
 fn push_both<const SAVES: bool>(
     alloc: Global,
@@ -141,20 +207,18 @@ fn push_both<const SAVES: bool>(
     ensures did { IfOk result (λ done. IsPushedIf done (Op.JoinOf from.now Joiner.Concat behind.now) store.old store.new) }
     ensures start { OnTrue SAVES (Grown (start_of store.old) (start_of store.new)) }
 {
-    let Shape::Given(last) = behind.shape() else {
+    let mut left_digits = Buffer::new();
+    let mut right_digits = Buffer::new();
+    let Some(right) = text_behind(behind, store, &mut right_digits) else {
         return Ok(false);
     };
-    let Some(left) = text_lying(from, &store.globals, &store.frames, &store.current) else {
-        return Ok(false);
-    };
-    let Some(right) = text_lying(last, &store.globals, &store.frames, &store.current) else {
-        return Ok(false);
-    };
+    let left = simple_text(from, store, &mut left_digits);
     if left.len() > FEW || right.len() > FEW - left.len() {
         return Ok(false);
     }
     let mut own = [0; 64];
-    push_string::<SAVES>(alloc, &mut store.operands, beside(&mut own, left, right))?;
+    let both = beside(&mut own, left, right);
+    push_string::<SAVES>(alloc, &mut store.operands, both)?;
     Ok(true)
 }
 

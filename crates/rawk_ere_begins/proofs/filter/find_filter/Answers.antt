@@ -42,4 +42,4 @@ loop-byte-preserved c =
     ]
 
 pub returns : goal.returns
-returns c = is_filter c.args.next.now c.args.ends.now c.args.later c.args.dead _ c.find_only.ensures (λ e a lt. c.loop-byte.invariant.none (eqb-true c.loop-byte.row c.args.dead e) a (omega (arith, lt))) (λ a lt not. c.loop-byte.invariant.done a (omega (arith, lt)) not) c.are_single.ensures
+returns c = is_filter c.args.next.now c.args.ends.now c.args.later c.args.dead _ c.find_asked.ensures (λ e a lt. c.loop-byte.invariant.none (eqb-true c.loop-byte.row c.args.dead e) a (omega (arith, lt))) (λ a lt not. c.loop-byte.invariant.done a (omega (arith, lt)) not) c.are_single.ensures
