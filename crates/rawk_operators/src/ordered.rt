@@ -4,7 +4,7 @@ ghost use Rattle.std.specs.Bool.{OnTrue};
 ghost use Rattle.std.specs.Prelude.{◌≡◌, false, Ok, Some, None, if◌then◌else◌};
 ghost use Rattle.std.specs.Cmp.Lexicographic.{slice_cmp};
 ghost use Rattle.std.specs.Ordering.{nat_cmp};
-ghost use Rattle.rawk_value.specs.Values.{counts, holds, int_order, next_ok, number_of, order_of, text_of};
+ghost use Rattle.rawk_value.specs.Values.{counts, front, front_number, holds, int_order, is_numeric, next_ok, number_of, order_of, text_of};
 ghost use Rattle.rawk_operators.specs.Borrowed.{borrowed_value};
 
 use crate::borrowed::{Borrowed, text_borrowed};
@@ -12,6 +12,28 @@ use itoa::Buffer;
 use rawk_value::order::{holds, number_if_counts, number_if_numeric, number_order};
 use rawk_value::{Comparison, Fault, Value};
 use std::cmp::Ordering;
+
+/// Whether a text begins with a byte past the digits, so that it is no number: letters do. No clause says when else it is none.
+#[inline(always)]
+fn begins_past_digits(text: &[u8]) -> bool
+    ensures { OnTrue result (is_numeric text.now ≡ false) }
+{
+    match text {
+        [first, ..] => *first > b'9',
+        [] => false,
+    }
+}
+
+/// The number of a numeric string; another text has none here.
+#[inline(always)]
+fn number_of_input(text: &[u8]) -> Option<Result<i64, Fault>>
+    ensures { result ≡ (if is_numeric text.now then Some (front_number (front text.now)) else None) }
+{
+    if begins_past_digits(text) {
+        return None;
+    }
+    number_if_numeric(text)
+}
 
 /// Its number, where a comparison takes it as a number.
 #[inline]
@@ -22,7 +44,7 @@ fn number_if_compared(value: Borrowed<'_>) -> Option<Result<i64, Fault>>
         Borrowed::Nothing => Some(Ok(0)),
         Borrowed::Number(n) => Some(Ok(n)),
         Borrowed::Text(_) => None,
-        Borrowed::Input(text) => number_if_numeric(text),
+        Borrowed::Input(text) => number_of_input(text),
         Borrowed::Kept(value) => number_if_counts(value),
         Borrowed::Pattern(_) => None,
     }

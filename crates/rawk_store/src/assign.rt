@@ -35,10 +35,12 @@ use std::mem;
 const LONG: usize = 64;
 
 /// The text of a global, in place but for a number's digits, which stand in the buffer. It takes no memory.
+#[inline(always)]
 fn text_of_global<'a>(globals: &'a Cells, number: usize, digits: &'a mut Buffer) -> &'a [u8]
     ensures { result.now ≡ text_of (slice_index_or globals.now.now number Value.Uninitialized) }
 {
     match globals.value(number) {
+        Some(Value::String(text)) => text.as_slice(),
         Some(value) => text_in(value, digits),
         None => b"",
     }
