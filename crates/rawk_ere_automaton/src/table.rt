@@ -78,8 +78,8 @@ fn marked(ends: bool, at: usize, longest: Option<usize>) -> Option<usize>
     if ends { Some(at) } else { longest }
 }
 
-/// Walks from a place by a table of the code. What a row is marked with is looked at where a byte leads to another row; one that each byte
-/// leads to itself goes to the end of the text.
+/// Walks from a place by a table of the code. What a row is marked with is looked at where a byte leads to another row; behind one that each
+/// byte leads to itself no byte is looked at.
 pub fn run(table: &Table, code: &Code, text: &[u8], from: usize) -> Ran
     requires within { from ≤ length text.now }
     requires some { 0 < length text.now }

@@ -196,7 +196,8 @@ fn text_behind<'a>(
     }
 }
 
-/// The same of two texts side by side, where they have few bytes: of what has its value at once, and of that or a field.
+/// Two texts side by side become the newest operand, where they have few bytes: that of what has its value at once, and behind it such a one or a field's; whether they did is answered, and else nothing has changed. It fails where
+/// memory is refused.
 #[inline(always)]
 fn push_both<const SAVES: bool>(
     alloc: Global,
