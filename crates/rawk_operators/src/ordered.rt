@@ -1,7 +1,7 @@
 //! Comparison of values in place.
 
 ghost use Rattle.std.specs.Bool.{OnTrue};
-ghost use Rattle.std.specs.Prelude.{◌≡◌, false, Ok, Some, None, if◌then◌else◌};
+ghost use Rattle.std.specs.Prelude.{◌≡◌, false, IfSome, Ok, Some, None, if◌then◌else◌};
 ghost use Rattle.std.specs.Cmp.Lexicographic.{slice_cmp};
 ghost use Rattle.std.specs.Ordering.{nat_cmp};
 ghost use Rattle.rawk_value.specs.Values.{counts, front, front_number, holds, int_order, is_numeric, next_ok, number_of, order_of, text_of};
@@ -50,16 +50,57 @@ fn number_if_compared(value: Borrowed<'_>) -> Option<Result<i64, Fault>>
     }
 }
 
-/// Whether it is a text that a comparison never takes as a number.
+/// Whether it is a text that a comparison never takes as a number, or one from the input that begins past the digits.
 #[inline(always)]
 fn is_string(value: Borrowed<'_>) -> bool
     ensures { OnTrue result (counts (borrowed_value value.entry) ≡ false) }
 {
     match value {
         Borrowed::Text(_) => true,
+        Borrowed::Input(text) => begins_past_digits(text),
         Borrowed::Kept(Value::String(_)) => true,
+        Borrowed::Kept(Value::Input(text)) => begins_past_digits(text.as_slice()),
         _ => false,
     }
+}
+
+/// The bytes of a text that lies there; none of another value.
+#[inline(always)]
+fn bytes_lying<'a>(value: Borrowed<'a>) -> Option<&'a [u8]>
+    ensures { IfSome result (λ text. text.now ≡ text_of (borrowed_value value.entry)) }
+{
+    match value {
+        Borrowed::Text(text) => Some(text),
+        Borrowed::Input(text) => Some(text),
+        Borrowed::Kept(Value::String(text)) => Some(text.as_slice()),
+        Borrowed::Kept(Value::Input(text)) => Some(text.as_slice()),
+        _ => None,
+    }
+}
+
+/// Whether a comparison of two texts holds, byte by byte. That they are the same is told without their order.
+#[inline(always)]
+fn compare_bytes(comparison: Comparison, left: &[u8], right: &[u8]) -> bool
+    ensures { result ≡ holds comparison (slice_cmp nat_cmp left.now right.now) }
+{
+    match comparison {
+        Comparison::Equal => left == right,
+        Comparison::NotEqual => left != right,
+        _ => holds(comparison, left.cmp(&right)),
+    }
+}
+
+/// Whether a comparison of two texts that lie there holds, of which one is never taken as a number; none of others.
+#[inline(always)]
+fn compare_lying(comparison: Comparison, left: Borrowed<'_>, right: Borrowed<'_>) -> Option<bool>
+    ensures { IfSome result (λ is_so. next_ok (order_of (borrowed_value left.entry) (borrowed_value right.entry)) (λ order. Ok (holds comparison order)) ≡ Ok is_so) }
+{
+    if !is_string(right) && !is_string(left) {
+        return None;
+    }
+    let first = bytes_lying(left)?;
+    let second = bytes_lying(right)?;
+    Some(compare_bytes(comparison, first, second))
 }
 
 /// The order of their texts, byte by byte.
@@ -87,8 +128,9 @@ fn order(left: Borrowed<'_>, right: Borrowed<'_>) -> Result<Ordering, Fault>
     }
 }
 
-/// Whether a comparison of them holds, or the fault of the left number, or else of the right one. It takes no memory.
-pub fn compare(
+/// The same of any two, or the fault of the left number, or else of the right one.
+#[inline(never)]
+fn compare_any(
     comparison: Comparison,
     left: Borrowed<'_>,
     right: Borrowed<'_>,
@@ -97,6 +139,21 @@ pub fn compare(
 {
     let order = order(left, right)?;
     Ok(holds(comparison, order))
+}
+
+/// Whether a comparison of them holds, or the fault of the left number, or else of the right one. It takes no memory.
+#[inline(always)]
+pub fn compare(
+    comparison: Comparison,
+    left: Borrowed<'_>,
+    right: Borrowed<'_>,
+) -> Result<bool, Fault>
+    ensures { result ≡ next_ok (order_of (borrowed_value left.entry) (borrowed_value right.entry)) (λ order. Ok (holds comparison order)) }
+{
+    match compare_lying(comparison, left, right) {
+        Some(is_so) => Ok(is_so),
+        None => compare_any(comparison, left, right),
+    }
 }
 
 /// Whether a comparison of two numbers holds.
