@@ -128,7 +128,7 @@ fn order(left: Borrowed<'_>, right: Borrowed<'_>) -> Result<Ordering, Fault>
     }
 }
 
-/// The same of any two, or the fault of the left number, or else of the right one.
+/// Whether a comparison of any two holds, or the fault of the left number, or else of the right one, by a call of its own.
 #[inline(never)]
 fn compare_any(
     comparison: Comparison,
