@@ -90,7 +90,7 @@ fn compare_bytes(comparison: Comparison, left: &[u8], right: &[u8]) -> bool
     }
 }
 
-/// Whether a comparison of two texts that lie there holds, of which one is never taken as a number; none of others.
+/// Whether a comparison of two texts that lie there holds, of which one is no number by its kind or its first byte; none of others.
 #[inline(always)]
 fn compare_lying(comparison: Comparison, left: Borrowed<'_>, right: Borrowed<'_>) -> Option<bool>
     ensures { IfSome result (λ is_so. next_ok (order_of (borrowed_value left.entry) (borrowed_value right.entry)) (λ order. Ok (holds comparison order)) ≡ Ok is_so) }
