@@ -1,5 +1,5 @@
 # make           proves and builds, and leaves bin/rawk
-# make check     the gate: proves every crate from nothing, tries the wrong edits of must-fail/, runs the programs
+# make check     the gate: proves every crate that has not passed on this machine, tries the wrong edits of must-fail/, runs the programs
 # make install   the program and its manual page, below PREFIX=/usr/local
 
 RT ?= rt

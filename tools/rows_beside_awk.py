@@ -15,7 +15,7 @@ LEAST = "-9223372036854775808"
 
 
 def unescaped(text):
-    """The text that a part of a row stands for (crates/rows_cases/src/lib.rs says how rows are written)."""
+    """The text that a part of a row stands for (crates/rows_cases/src/lib.rt says how rows are written)."""
     out, at, times, start = "", 0, None, 0
     while at < len(text):
         two = text[at : at + 2]

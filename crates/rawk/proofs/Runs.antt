@@ -17,7 +17,7 @@ use Rattle.rawk.specs.declared.report.Cause.TheVariants as cause
 use Rattle.rawk.specs.Reports.{stopped_by, read_failures, write_failures}
 use Rattle.rawk.specs.Reads.{IsUnstood}
 use Rattle.rawk.specs.Preparing as preparing
-use Rattle.rawk.specs.Preparing.{IsReady, IsRefused}
+use Rattle.rawk.specs.Preparing.{IsRefused}
 use Rattle.rawk.specs.Runs.{IsRunOf, Runs, IsRun, points_until, trace_of}
 use Rattle.rawk.specs.Tells.{Tells, text_refused, settings_refused, ran}
 use Rattle.rawk.proofs.SoFar.{not_stood}

@@ -18,9 +18,6 @@ pub record Staged (S : Type 0) : Type 0 where
 abbrev pub position_of : {S : Type 0} → Program → Standing S → Position
 position_of p m = record { program = p; settings = m.settings; steps = m.steps; history = m.limit; point = m.point; sets = m.sets; oldest = m.point - length m.history }
 
-abbrev pub stage_position : {S : Type 0} → Staged S → Position
-stage_position stage = position_of stage.program stage.machine
-
 abbrev pub held_of : {S : Type 0} → Standing S → Snapshot
 held_of m = record { over = m.ending; site = m.site; state = m.state }
 

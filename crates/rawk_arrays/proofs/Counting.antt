@@ -1,9 +1,9 @@
 -- Counts of elements.
-use Rattle.std.proofs.Common.{◌≡◌, ◌≢◌, ℕ, suc, zero, ◌+◌, ◌-◌, ◌<◌, ◌≤◌, ◌==◌, Bool, true, false, cond, List, [], ◌∷◌, ◌++◌, inl, inr, length, get_or, set, drop, refl, sym, ap, ◌∙◌, arith, slice_get, Option, None, Some, get_or-set_other, get_or-set_same}
+use Rattle.std.proofs.Common.{◌≡◌, ◌≢◌, ℕ, suc, zero, ◌+◌, ◌-◌, ◌<◌, ◌≤◌, ◌==◌, Bool, true, false, cond, List, [], ◌∷◌, inl, inr, length, get_or, set, drop, refl, sym, ap, ◌∙◌, arith, slice_get, Option, None, Some, get_or-set_other, get_or-set_same}
 use Rattle.std.specs.Prelude.{is_some}
 use Rattle.std.proofs.lemmas.Bool.{cases_eq, false≢true}
 use mathlib.Core.Bool.{beq}
-use Rattle.std.proofs.lemmas.List.{length-set, length-append, drop_more}
+use Rattle.std.proofs.lemmas.List.{length-set, drop_more}
 use Rattle.std.proofs.lemmas.Option.{slice_get_within}
 use Rattle.std.specs.FinMap.{get, len, len-empty, len-insert, len-remove}
 use Rattle.std.specs.Ordering.{nat_cmp}
@@ -86,24 +86,6 @@ count_room index slots i v name counts laid is lt h =
     omega (arith, after, most, now)
 
 -- ---- counts and keys that are added
-
-pub has_more : (counts : List ℕ) → HasMore counts counts
-has_more counts = record { longer = omega arith; same = λ a. refl }
-
-blank : (xs : List ℕ) (a : ℕ) → get_or (xs ++ 0 ∷ []) a 0 ≡ get_or xs a 0
-blank [] zero = refl
-blank [] (suc a) = refl
-blank (x ∷ xs) zero = refl
-blank (x ∷ xs) (suc a) = blank xs a
-
-pub more_blank : (counts mid new : List ℕ) → HasMore counts mid → new ≡ mid ++ 0 ∷ [] → HasMore counts new
-more_blank counts mid new h e = record {
-  longer = omega (arith, h.longer, ap length e, length-append mid (0 ∷ []));
-  same = λ a. ap (λ (xs : List ℕ). get_or xs a 0) e ∙ (blank mid a ∙ h.same a);
-}
-
-pub counted_reached : (index : List ArrayKey) (slots : List (Option Value)) (counts more : List ℕ) → HasMore counts more → AreCounted index slots counts → AreCounted index slots more
-counted_reached index slots counts more m h = record { counted = λ a. m.same a ∙ h.counted a; room = λ i name is. omega (arith, h.room i name is, m.longer) }
 
 pub counted_more : (a : ℕ) (index names2 : List ArrayKey) (slots mid : List (Option Value)) (counts more : List ℕ) → length slots ≤ length index → Longer index names2 → IsAddedTo a index names2 → IsSpread slots mid → HasMore counts more → a < length more → AreCounted index slots counts →
     AreCounted names2 mid more

@@ -1,34 +1,20 @@
 -- Walks over the index of an array.
-use Rattle.std.proofs.Common.{◌≡◌, ◌≢◌, ℕ, ◌<◌, ◌≤◌, List, [], inl, inr, length, set, refl, sym, ap, ◌∙◌, arith, get_or, slice_get, Option, None, Some, get_or-set_other, get_or-set_same}
+use Rattle.std.proofs.Common.{◌≡◌, ◌≢◌, ℕ, ◌<◌, ◌≤◌, List, [], inl, inr, length, refl, sym, ap, ◌∙◌, arith, get_or, slice_get, Option, None, Some}
 use Rattle.std.proofs.lemmas.Bool.{cases_eq, cases_lt}
-use Rattle.std.proofs.lemmas.List.{get_or_past, length-set}
+use Rattle.std.proofs.lemmas.List.{get_or_past}
 use Rattle.std.proofs.lemmas.Option.{same_Some, slice_get_within, slice_get-get_or, none-some}
 use Rattle.std.proofs.lemmas.Map.Lookups.{exact_bytes}
 use Rattle.std.specs.FinMap.{get-empty, same_map}
 use Rattle.std.specs.Ordering.{nat_cmp}
 use Rattle.std.specs.Cmp.Lexicographic.{slice_cmp, nat_list_cmp_total}
 use Rattle.rawk_value.specs.declared.value.Value.{Value}
-use Rattle.rawk_slots.specs.Journaled.{Journaled}
 use Rattle.rawk_keys.specs.ArrayKey.{ArrayKey, array_key, IsLastOf}
 use Rattle.rawk_keys.specs.Found.{IsAfter, left}
 use Rattle.rawk_arrays.specs.Elements.{no_elements}
-use Rattle.rawk_arrays.specs.Laid.{AreLaid, IsEmptied, elements_of, slot}
+use Rattle.rawk_arrays.specs.Laid.{IsEmptied, elements_of, slot}
 use Rattle.rawk_arrays.specs.Walks.{IsSlotEmptied, IsWalking, IsEmptying}
 use Rattle.rawk_arrays.specs.PlaceLaws.{place_there, get_at, elements_same}
 use Rattle.rawk_arrays.specs.Place.{place}
-
-pub slot_emptied : (number : ℕ) (slots new : List (Option Value)) → new ≡ set slots number None → IsSlotEmptied number slots new
-slot_emptied number slots new e = record {
-  here = ap (λ (s : List (Option Value)). slot s number) e ∙ elim (cases_lt number (length slots)) [
-    | inl lt ↦ get_or-set_same slots number None None lt
-    | inr ge ↦ get_or_past (set slots number None) number None (omega (arith, ge, length-set slots number None))
-  ];
-  other = λ j ne. ap (λ (s : List (Option Value)). slot s j) e ∙ get_or-set_other slots number j None None ne;
-  size = ap length e ∙ length-set slots number None;
-}
-
-pub slot_empty : (number : ℕ) (slots : List (Option Value)) → slot slots number ≡ None → IsSlotEmptied number slots slots
-slot_empty number slots e = record { here = e; other = λ j ne. refl; size = refl }
 
 -- the walk goes on to the last of the first n
 pub walks_to : (a : ℕ) (index : List ArrayKey) (n : ℕ) (at : Option ℕ) → n ≤ length index → IsLastOf a index n at → IsWalking a index at
@@ -39,13 +25,6 @@ walks_to a index n (Some k) le h = record { within = omega (arith, h.0); here = 
 last_after : (a : ℕ) (index : List ArrayKey) (n : ℕ) (at : Option ℕ) (j : ℕ) (name : ArrayKey) → IsLastOf a index n at → IsAfter at j → j < n → slice_get index j ≡ Some name → name.array ≢ a
 last_after a index n None j name h after lt is = h j name lt is
 last_after a index n (Some k) j name h after lt is = h.2 j name after lt is
-
-pub emptying_begins : (a : ℕ) (index : List ArrayKey) (slots : List (Option Value)) (at : Option ℕ) → IsLastOf a index (length index) at → IsEmptying a index slots slots at
-emptying_begins a index slots at h = record {
-  gone = λ j name after is same. absurd (last_after a index (length index) at j name h after (slice_get_within index j name is) is same);
-  rest = λ j none. refl;
-  size = refl;
-}
 
 -- the name at which a walk stands
 pub walk_name : (a : ℕ) (index : List ArrayKey) (i : ℕ) (at : Option ℕ) → at ≡ Some i → IsWalking a index at → (name : ArrayKey) × (slice_get index i ≡ Some name) × (name.array ≡ a)
@@ -86,9 +65,6 @@ emptied a index slots new at e le h =
           let lt : place b q index < length index = slice_get_within index (place b q index) name is in
           ne (sym (ap (λ (n : ArrayKey). n.array) (same_Some name (array_key b q) (sym is ∙ place_there b q index lt))) ∙ same)));
     }
-
-pub laid_emptied : (index : List ArrayKey) (slots new : Journaled (List (Option Value))) → AreLaid index slots → length new.now ≡ length slots.now → new.start ≡ slots.start → AreLaid index new
-laid_emptied index slots new h now start = record { distinct = h.distinct; array_key = omega (arith, h.array_key, now); sizes = ap length start ∙ (h.sizes ∙ sym now) }
 
 pub last_left : (a : ℕ) (index : List ArrayKey) (n : ℕ) (at : Option ℕ) → IsLastOf a index n at → left at ≤ n
 last_left a index n None h = omega arith

@@ -10,7 +10,7 @@ use Rattle.std.proofs.lemmas.List.Sums.{sum_by_push, sum_by-cons}
 use Rattle.std.proofs.lemmas.Bool.Decides.{Decides-ltb}
 use Rattle.std.proofs.lemmas.List.{get_or_past, get_or-map, length-append, length-map, append-nil}
 use Rattle.std.proofs.lemmas.Option.{same_Some}
-use Rattle.std.specs.FinMap.{get, get-empty, contains_key, find, from_entries, from_sorted, get-from_entries, get-from_sorted, entries-from_sorted, is_sorted, same_map}
+use Rattle.std.specs.FinMap.{get, get-empty, contains_key, find, from_sorted, get-from_sorted, entries-from_sorted, is_sorted, same_map}
 use Rattle.std.specs.FinMap.Entries.{below_all}
 use Rattle.std.specs.declared.cmp.Ordering.{Ordering}
 use Rattle.std.specs.declared.cmp.Ordering.TheVariants.{Less, Equal, Greater}
@@ -191,10 +191,6 @@ found_value m q n e = ap (λ x. cond (nat_lt 0 x) (Some (unwrap_or (get m q) Uni
     out : (o : Option Value) → cond (nat_lt 0 (one (is_some o))) (Some (unwrap_or o Uninitialized)) None ≡ o
     out None = refl
     out (Some v) = refl
-
--- the finite map of a list of its keys
-pub map_of_keys : (m : Elements) (ks : List Bytes) → IsEach ks m → from_entries (pairs m ks) ≡ m
-map_of_keys m ks each = same_map nat_list_cmp_total exact_bytes (from_entries (pairs m ks)) m (λ q. get-from_entries nat_list_cmp_total (pairs m ks) q ∙ (find_pairs m q ks ∙ found_value m q (times q ks) (each q)))
 
 pair_true : (b c : Bool) → T b → T c → T (b && c)
 pair_true true c p q = q

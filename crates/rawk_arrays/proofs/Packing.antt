@@ -25,12 +25,6 @@ slot_apart b name (Some v) m ne = ap (λ t. cond t (put m name.key (Some v)) m) 
 slot_own : (b : ℕ) (name : ArrayKey) (v : Value) (m : Elements) → name.array ≡ b → put m name.key (Some v) ≡ with_slot b name (Some v) m
 slot_own b name v m e = ap (λ t. cond t (put m name.key (Some v)) m) (sym ((Decides-eqb name.array b).1 e))
 
-pub packed_past : (live : ℕ) (name : ArrayKey) (s : Option Value) (index : List ArrayKey) (slots : List (Option Value)) → live ≤ name.array → IsPacked live name s index slots index slots
-packed_past live name s index slots le = λ b lt. slot_apart b name s (elements_of b index slots) (λ e. absurd (omega (arith, e, lt, le)))
-
-pub packed_none : (live : ℕ) (name : ArrayKey) (s : Option Value) (index : List ArrayKey) (slots : List (Option Value)) → s ≡ None → IsPacked live name s index slots index slots
-packed_none live name s index slots e = λ b lt. ap (λ (o : Option Value). with_slot b name o (elements_of b index slots)) (sym e)
-
 pub packed_put : (live : ℕ) (name : ArrayKey) (s : Option Value) (v : Value) (index new_names : List ArrayKey) (slots new_slots : List (Option Value)) → s ≡ Some v → IsPut name.array name.key (Some v) index slots new_names new_slots → IsPacked live name s index slots new_names new_slots
 packed_put live name s v index new_names slots new_slots e p = λ b lt.
     elim (cases_eq name.array b) [

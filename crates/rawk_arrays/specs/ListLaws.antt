@@ -20,9 +20,6 @@ use Rattle.rawk_arrays.specs.Laid.{Laid, AreLaid, IsLaid, IsPlaceOf, IsPut, IsEm
 use Rattle.rawk_arrays.specs.PlaceLaws.{spread_same, key_is, found_slot, put_at, absent_none}
 use Rattle.rawk_arrays.specs.Place.{same_key}
 
-of : Laid → ℕ → Elements
-of l a = elements_of a l.index l.slots
-
 pub length_arrays : (l : Laid) → length (arrays_of l) ≡ l.live
 length_arrays l = length-map-range_with_len (λ a. elements_of a l.index l.slots) 0 l.live
 

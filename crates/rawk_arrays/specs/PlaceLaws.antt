@@ -2,7 +2,7 @@
 use Rattle.std.proofs.Common.{◌≡◌, ◌≢◌, ℕ, suc, zero, ◌+◌, ◌<◌, ◌≤◌, ◌==◌, Bool, true, false, ◌&&◌, cond, append_assoc, ◌-◌, List, [], ◌∷◌, ◌++◌, inl, inr, length, set, replicate, refl, sym, ap, ◌∙◌, arith, slice_get, Option, None, Some, get_or-set_other, get_or-set_same}
 use Rattle.std.proofs.lemmas.Bool.{cases_lt, false≢true}
 use Rattle.std.proofs.lemmas.Bool.Decides.{Decides-eqb}
-use Rattle.std.proofs.lemmas.List.{get_or_past, length-set, length-append, get_or_append_left, append-nil, get_or-replicate, length-replicate, replicate-append-replicate}
+use Rattle.std.proofs.lemmas.List.{get_or_past, length-set, length-append, get_or_append_left, get_or-replicate, length-replicate, replicate-append-replicate}
 use Rattle.std.proofs.Math.Seq.{get_or-append_right}
 use Rattle.std.proofs.lemmas.Option.{same_Some, none-some}
 use Rattle.std.proofs.lemmas.Map.Views.{tells_apart}
@@ -87,14 +87,6 @@ pub place_there : (a : ℕ) (q : Bytes) (index : List ArrayKey) → place a q in
 place_there a q [] lt = absurd (omega (arith, lt))
 place_there a q (name ∷ index) lt = there_go a q name index (is_here a q name) refl lt (λ l. place_there a q index l)
 
-more_go : (b : Bool) (p p2 n : ℕ) → (p < n → p2 ≡ p) → (n ≤ p → n ≤ p2) → (cond b 0 (suc p) < suc n → cond b 0 (suc p2) ≡ cond b 0 (suc p)) × (suc n ≤ cond b 0 (suc p) → suc n ≤ cond b 0 (suc p2))
-more_go true p p2 n h k = (λ l. refl, λ l. absurd (omega (arith, l)))
-more_go false p p2 n h k = (λ l. ap suc (h (omega (arith, l))), λ l. (let m : n ≤ p2 = k (omega (arith, l)) in omega arith))
-
-place_more : (a : ℕ) (q : Bytes) (index more : List ArrayKey) → (place a q index < length index → place a q (index ++ more) ≡ place a q index) × (length index ≤ place a q index → length index ≤ place a q (index ++ more))
-place_more a q [] more = (λ l. absurd (omega (arith, l)), λ l. omega arith)
-place_more a q (name ∷ index) more = let r = place_more a q index more in more_go (is_here a q name) (place a q index) (place a q (index ++ more)) (length index) r.0 r.1
-
 -- arrays that answer alike at each key are the same
 pub elements_same : (b : ℕ) (index more : List ArrayKey) (slots slots2 : List (Option Value)) → length slots ≤ length index → length slots2 ≤ length more → ((q : Bytes) → slot slots2 (place b q more) ≡ slot slots (place b q index)) → elements_of b more slots2 ≡ elements_of b index slots
 elements_same b index more slots slots2 le le2 h =
@@ -170,9 +162,6 @@ absent_none a q index slots le h =
 
 -- ---- slots that are added
 
-pub covered_none : (count : ℕ) (slots : Journaled (List (Option Value))) → IsCovered count slots slots
-covered_none count slots = record { added = 0; now = sym (append-nil slots.now); start = sym (append-nil slots.start); most = omega arith }
-
 one_more : (xs ys zs : List (Option Value)) (n : ℕ) → ys ≡ xs ++ replicate n None → zs ≡ ys ++ None ∷ [] → zs ≡ xs ++ replicate (n + 1) None
 one_more xs ys zs n e f = f ∙ (ap (λ (ws : List (Option Value)). ws ++ None ∷ []) e ∙ (append_assoc xs (replicate n None) (None ∷ []) ∙ ap (λ (ws : List (Option Value)). xs ++ ws) (replicate-append-replicate n 1 None)))
 
@@ -202,24 +191,11 @@ spread_nones xs ys n e = record {
 pub covered_now : (count : ℕ) (old new : Journaled (List (Option Value))) → IsCovered count old new → IsSpread old.now new.now
 covered_now count old new h = spread_nones old.now new.now h.added h.now
 
-pub covered_start : (count : ℕ) (old new : Journaled (List (Option Value))) → IsCovered count old new → IsSpread old.start new.start
-covered_start count old new h = spread_nones old.start new.start h.added h.start
-
 pub laid_covered : (count : ℕ) (index names2 : List ArrayKey) (old new : Journaled (List (Option Value))) → AreLaid index old → Longer index names2 → AreDistinct names2 → IsCovered count old new → count ≤ length names2 → AreLaid names2 new
 laid_covered count index names2 old new h more d c le = record {
   distinct = d;
   array_key = omega (arith, h.array_key, c.most, le, ap length more.is, length-append index more.more);
   sizes = omega (arith, h.sizes, ap length c.now, ap length c.start, length-append old.now (replicate c.added None), length-append old.start (replicate c.added None));
-}
-
-pub laid_more : (index names2 : List ArrayKey) (slots : Journaled (List (Option Value))) → AreLaid index slots → Longer index names2 → AreDistinct names2 → AreLaid names2 slots
-laid_more index names2 slots h more d = record { distinct = d; array_key = omega (arith, h.array_key, ap length more.is, length-append index more.more); sizes = h.sizes }
-
-pub laid_set : (index : List ArrayKey) (old new : Journaled (List (Option Value))) (i : ℕ) (v : Option Value) → AreLaid index old → new.now ≡ set old.now i v → new.start ≡ old.start → AreLaid index new
-laid_set index old new i v h now start = record {
-  distinct = h.distinct;
-  array_key = omega (arith, h.array_key, ap length now, length-set old.now i v);
-  sizes = ap length start ∙ (h.sizes ∙ sym (ap length now ∙ length-set old.now i v));
 }
 
 -- a write over added index and slots

@@ -7,7 +7,7 @@ ghost use Rattle.std.specs.FinMap.{get};
 ghost use Rattle.rawk_value.specs.Values.{text_of};
 ghost use Rattle.rawk_slots.specs.Journaled.{Longer, at_rest};
 ghost use Rattle.rawk_keys.specs.ArrayKey.{ArrayKey, array_key};
-ghost use Rattle.rawk_arrays.specs.Elements.{map_keys, put};
+ghost use Rattle.rawk_arrays.specs.Elements.{map_keys};
 ghost use Rattle.rawk_arrays.specs.Laid.{AreDistinct, AreLaid, IsCovered, IsEmptied, IsLaid, IsPacked, IsPut, IsSpread, elements_of, slot};
 ghost use Rattle.rawk_arrays.specs.Counted.{AreCounted, IsAddedTo};
 ghost use Rattle.rawk_arrays.specs.Heads.{IsHeaded, headed_keys};

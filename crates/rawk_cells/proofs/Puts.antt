@@ -1,17 +1,15 @@
 -- Values that are put into a slot and taken out of it again.
-use Rattle.std.proofs.Common.{◌≡◌, ◌≢◌, ◌⊎◌, ℤ, Bool, true, false, Option, get_or, refl, ◌≤◌, ◌<◌, ◌+◌, ◌++◌, ◌∙◌, ℕ, List, ap, sym, subst, inl, inr, length, Some, None, Result, Ok, Err, OnErr, take, arith}
-use Rattle.std.proofs.Math.Dec.{eqb}
-use Rattle.std.proofs.lemmas.Bool.Decides.{eqb_tells}
+use Rattle.std.proofs.Common.{◌≡◌, refl, ◌≤◌, ◌<◌, ◌+◌, ◌++◌, ◌∙◌, ℕ, List, ap, sym, subst, inl, inr, length, Some, None, Result, Ok, Err, OnErr, take, arith}
 use Rattle.std.specs.Prelude.{slice_get, slice_set, slice_index_or}
-use Rattle.std.proofs.lemmas.List.{set-set, set-get_or, set_past, get_or-set_same, get_or-set_other, take-append-le, take_all, take_at, length-append, length-set}
+use Rattle.std.proofs.lemmas.List.{set-set, set-get_or, set_past, get_or-set_same, take-append-le, take_all, take_at}
 use Rattle.std.proofs.lemmas.Option.{get_or_from_slice_get, slice_get_cases}
 use Rattle.rawk_value.specs.declared.value.Value.{Value}
-use Rattle.rawk_value.specs.declared.value.Value.TheVariants.{Uninitialized, Number, String}
+use Rattle.rawk_value.specs.declared.value.Value.TheVariants.{Uninitialized, String}
 use Rattle.rawk_value.specs.Values.{Bytes, text_of}
 use Rattle.rawk_slots.specs.Journaled.{Journaled, at_rest}
 use Rattle.rawk_cells.specs.declared.cells.Appended.{Appended}
 use Rattle.rawk_cells.specs.declared.cells.Grown.{Grown}
-use Rattle.rawk_cells.specs.Cells.{Grew, GrewAlone, HasGrown, IsAppended, OnSameTexts, added_at, before_growth, cut_at, lengthened, longer_at, own_length, shortened}
+use Rattle.rawk_cells.specs.Cells.{Grew, GrewAlone, IsAppended, OnSameTexts, added_at, before_growth, cut_at, lengthened, longer_at, own_length, shortened}
 
 pub same_set : (xs : List Value) (p : ℕ) (v : Value) → slice_get xs p ≡ Some v → slice_set xs p v ≡ xs
 same_set xs p v h = ap (λ w. slice_set xs p w) (sym (get_or_from_slice_get xs p v v h)) ∙ set-get_or xs p v
@@ -44,17 +42,6 @@ grew slots new p n text longer more h e t k =
     e ∙ (ap (λ (b : Bytes). at_rest (slice_set slots.now p (String b))) t
     ∙ ap (λ (w : Value). at_rest (slice_set slots.now p (String (text_of w ++ more)))) (sym v)) in
     (ap (λ j. j.start) is, ap (λ j. j.now) is, ap own_length v ∙ sym k, v ∙ ap (λ (w : Value). String (text_of w)) (sym v))
-
--- the text of a global that grew again is still as long at least as it was at first, and leads back there
-pub grew_on : (g : Grown) (slots new : Journaled (List Value)) (more : Bytes) (n : ℕ) → GrewAlone g slots → Grew g.place more slots.now new (Some n) → GrewAlone g new
-grew_on g slots new more n a w =
-    let t = text_of (slice_index_or slots.now g.place Uninitialized) in
-    let size : length new.now ≡ length slots.now = ap length w.1 ∙ length-set slots.now g.place (String (t ++ more)) in
-    let at : slice_index_or new.now g.place Uninitialized ≡ String (t ++ more) =
-    ap (λ (xs : List Value). slice_index_or xs g.place Uninitialized) w.1 ∙ get_or-set_same slots.now g.place (String (t ++ more)) Uninitialized a.within in
-    let own : own_length (slice_index_or slots.now g.place Uninitialized) ≡ length t = ap own_length w.3 in
-    let longer : own_length (slice_index_or new.now g.place Uninitialized) ≡ length t + length more = ap own_length at ∙ length-append t more in
-    record { within = omega (arith, a.within); rest = w.0 ∙ sym w.1; count = omega (arith, a.count) }
 
 pub before_on : (g : Grown) (slots new : Journaled (List Value)) (more : Bytes) (n : ℕ) → GrewAlone g slots → Grew g.place more slots.now new (Some n) → before_growth (Some g) new.start ≡ before_growth (Some g) slots.start
 before_on g slots new more n a w =
@@ -107,29 +94,6 @@ pub unset_slot : {T E : Type 0} (r : Result T E) (xs ys : List Value) (p : ℕ) 
 unset_slot (Ok x) xs ys p v w h e same = tt
 unset_slot (Err x) xs ys p v w h e same = ap (λ (u : Value). slice_set xs p u) same ∙ (same_set xs p v h ∙ e)
 
--- a number is written over a number: no text is longer or shorter
-own_at : (xs : List Value) (p q : ℕ) (k n : ℤ) → get_or xs p Uninitialized ≡ Number k → p < length xs → ((eqb q p ≡ true) × (q ≡ p)) ⊎ ((eqb q p ≡ false) × (q ≢ p)) → own_length (slice_index_or (slice_set xs p (Number n)) q Uninitialized) ≡ own_length (slice_index_or xs q Uninitialized)
-own_at xs p q k n held within (inl (is, same)) =
-    subst (λ (i : ℕ). own_length (slice_index_or (slice_set xs p (Number n)) i Uninitialized) ≡ own_length (slice_index_or xs i Uninitialized)) (sym same)
-    (ap own_length (get_or-set_same xs p (Number n) Uninitialized within) ∙ sym (ap own_length held))
-own_at xs p q k n held within (inr (is, other)) = ap own_length (get_or-set_other xs p q (Number n) Uninitialized other)
-
-pub texts_same : (slots new : Journaled (List Value)) (p : ℕ) (k n : ℤ) → slice_get slots.now p ≡ Some (Number k) → p < length slots.now → new ≡ at_rest (slice_set slots.now p (Number n)) → OnSameTexts slots.now new
-texts_same slots new p k n held within is = subst (OnSameTexts slots.now) (sym is) (record {
-  size = length-set slots.now p (Number n);
-  rest = refl;
-  lengths = λ q. own_at slots.now p q k n (get_or_from_slice_get slots.now p (Number k) Uninitialized held) within (eqb_tells q p);
-})
-
 -- nothing is written
 pub texts_stay : (slots new : Journaled (List Value)) (p : ℕ) (v : Value) → slice_get slots.now p ≡ Some v → new ≡ at_rest (slice_set slots.now p v) → OnSameTexts slots.now new
 texts_stay slots new p v held is = subst (OnSameTexts slots.now) (sym (is ∙ ap at_rest (same_set slots.now p v held))) (record { size = refl; rest = refl; lengths = λ q. refl })
-
--- a text that grew is there
-pub still_grown : (grown : Option Grown) (slots new : Journaled (List Value)) → HasGrown grown slots → OnSameTexts slots.now new → HasGrown grown new
-still_grown None slots new has texts = tt
-still_grown (Some g) slots new has texts = record {
-  within = subst (λ (n : ℕ). g.place < n) (sym texts.size) has.within;
-  rest = texts.rest;
-  count = subst (λ (n : ℕ). g.count ≤ n) (sym (texts.lengths g.place)) has.count;
-}

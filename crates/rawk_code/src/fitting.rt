@@ -1,7 +1,6 @@
 //! Which first values a program can take.
 
 ghost use Rattle.std.specs.Prelude.{◌≡◌};
-ghost use Rattle.std.specs.List.{list_all};
 ghost use Rattle.rawk_code.specs.Settings.{can_assign, settings_fit};
 
 use crate::settings::Settings;

@@ -1,7 +1,5 @@
 -- The words of a session, and the bytes that they are made of. Bytes are written by their codes: 9 is a tab, 32 a space, 95 `_`.
-use Rattle.std.specs.Prelude.{ℕ, ◌==◌, Bool, false, ◌&&◌, ◌||◌, if◌then◌else◌, List, [], ◌∷◌, reverse, codes, Option, Some, None}
-use Rattle.std.specs.Char.{is_ascii_alphabetic, is_ascii_alphanumeric}
-use Rattle.std.specs.List.{list_all}
+use Rattle.std.specs.Prelude.{ℕ, ◌==◌, Bool, ◌||◌, if◌then◌else◌, List, [], ◌∷◌, reverse, codes, Option, Some, None}
 use Rattle.std.specs.Str.{bytes_eq}
 use Rattle.rawk_value.specs.Values.{Bytes}
 use Rattle.rawk_commands.specs.declared.command.Way.TheVariants.{Forward, Back}

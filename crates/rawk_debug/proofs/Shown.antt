@@ -1,5 +1,5 @@
 -- What answers show of the output, and their text behind it.
-use Rattle.std.proofs.Common.{◌≡◌, ◌-◌, Bool, true, false, [], ◌∷◌, ◌++◌, length, drop, nat_eq, if◌then◌else◌, refl, sym, ◌∙◌, ap, append-nil, append_assoc, Result, Ok, Err, OnOk}
+use Rattle.std.proofs.Common.{◌≡◌, ◌-◌, Bool, true, false, [], ◌∷◌, ◌++◌, length, drop, nat_eq, if◌then◌else◌, refl, sym, ◌∙◌, ap, append-nil, append_assoc}
 use Rattle.std.specs.Prelude.{slice_index_or}
 use Rattle.std.proofs.Math.Seq.{drop-append_seam}
 use Rattle.rawk_value.specs.Values.{Bytes}
@@ -30,11 +30,6 @@ rejoined : (text more last : Bytes) → text ++ drop (length text) (as_lines tex
 rejoined text more last =
     let e = append_assoc (as_lines text) more last in
     ap (λ (b : Bytes). text ++ drop (length text) b) e ∙ (ap (λ (b : Bytes). text ++ b) (behind_lines text (more ++ last)) ∙ (sym (begun text (more ++ last)) ∙ sym e))
-
--- one text is added, and then another
-pub both_added : {E : Type 0} (result : Result (Unit {0}) E) (old middle new first last : Bytes) → middle ≡ old ++ first → OnOk result (new ≡ middle ++ last) → OnOk result (new ≡ old ++ (first ++ last))
-both_added (Ok done) old middle new first last one two = two ∙ ap (λ (b : Bytes). b ++ last) one ∙ append_assoc old first last
-both_added (Err refused) old middle new first last one two = tt
 
 -- an answer is what it shows, and its text behind that
 pub whole_answer : (s : Stand) (h : Snapshot) (came : Observed) (answer : Answer) → shown_of answer h.state.output ++ behind_shown s h came answer ≡ text_of s h came answer

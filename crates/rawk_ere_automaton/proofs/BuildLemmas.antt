@@ -96,16 +96,6 @@ pub placed_old : (sets new : List (ℕ × List ℕ)) (set : List ℕ) (row : ℕ
 placed_old sets new set row e lt same =
     subst (λ l. IsPlaced sets l set row) (sym e) (record { more = []; is = sym (append-nil sets); within = lt; same = same })
 
-pub placed_new : (sets new : List (ℕ × List ℕ)) (set : ℕ × List ℕ) (row : ℕ) → row ≡ length sets → new ≡ sets ++ set ∷ [] → IsPlaced sets new set.1 row
-placed_new sets new set row e is = record {
-  more = set ∷ [];
-  is = is;
-  within = omega (arith, ap length is ∙ length-append sets (set ∷ []));
-  same = λ q.
-      let there : members new row ≡ set.1 = ap (λ l. members l row) is ∙ ap (λ x. members (sets ++ set ∷ []) x) e ∙ ap (λ (p : ℕ × List ℕ). p.1) (get_or-append_seam sets set [] (0, [])) in
-      (λ h. subst (λ l. Contains l q) (sym there) h, λ h. subst (λ l. Contains l q) there h);
-}
-
 pub extends_more : (a b c : List (ℕ × List ℕ)) (set : List ℕ) (row : ℕ) → Extends a b → IsPlaced b c set row → Extends a c
 extends_more a b c set row e p = (e.0 ++ p.more, p.is ∙ ap (λ l. l ++ p.more) e.1 ∙ append_assoc a e.0 p.more)
 

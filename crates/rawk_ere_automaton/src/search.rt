@@ -1,7 +1,7 @@
 //! Searches for a way through a code, from a place on.
 
-ghost use Rattle.std.specs.Prelude.{◌≡◌, ℕ, ◌+◌, ◌-◌, ◌*◌, ◌<◌, ◌≤◌, ◌↔◌, ◌⊎◌, true, false, length, Option, Some, IfOk, IsTrue};
-ghost use Rattle.rawk_ere_walks.specs.Sets.{IsFarthest, WantsFrom};
+ghost use Rattle.std.specs.Prelude.{◌≡◌, ℕ, ◌+◌, ◌-◌, ◌*◌, ◌<◌, ◌≤◌, ◌↔◌, ◌⊎◌, true, false, length, Some, IfOk, IsTrue};
+ghost use Rattle.rawk_ere_walks.specs.Sets.{IsFarthest};
 ghost use Rattle.rawk_ere_tree.specs.Code.{wide_code};
 ghost use Rattle.rawk_ere_automaton.specs.Table.{IsTable};
 ghost use Rattle.std.specs.Option.{ForSome};

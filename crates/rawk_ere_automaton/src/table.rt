@@ -1,9 +1,8 @@
 //! The sets of states that a walk can be in between two bytes, each found once, and where each byte leads.
 
-ghost use Rattle.std.specs.Prelude.{◌≡◌, ℕ, ◌+◌, ◌-◌, ◌*◌, ◌<◌, ◌≤◌, ◌↔◌, ◌⊎◌, true, List, [], ◌++◌, length, slice_index_or, false, IfOk, OnOk, IsTrue, Contains, Some, slice_index};
+ghost use Rattle.std.specs.Prelude.{◌≡◌, ℕ, ◌+◌, ◌-◌, ◌*◌, ◌<◌, ◌≤◌, ◌↔◌, ◌⊎◌, true, [], length, slice_index_or, false, IfOk, OnOk, IsTrue, Contains, Some, slice_index};
 ghost use Rattle.rawk_ere_begins.specs.Filters.{AllLeadTo};
-ghost use Rattle.rawk_ere_tree.specs.StateSets.{Adds};
-ghost use Rattle.rawk_ere_walks.specs.Sets.{Closes, IsFarthest, AsksIn, WantsFrom};
+ghost use Rattle.rawk_ere_walks.specs.Sets.{IsFarthest, AsksIn, WantsFrom};
 ghost use Rattle.rawk_ere_automaton.specs.Table.{members, Begins, LeadsBy, EndsLast, AreFilled, AreStarts, IsTable, IsPlaced, Extends, AreAlike, AreMarkedAlike, IsTarget};
 ghost use Rattle.rawk_ere_tree.specs.Code.{wide_code};
 ghost use Rattle.rawk_ere_walks.specs.Ways.{EndsFrom, Way};

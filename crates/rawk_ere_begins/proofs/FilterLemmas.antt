@@ -1,12 +1,11 @@
 -- Marks tell which bytes lead on.
 use Rattle.std.proofs.Common.{◌≡◌, ◌≢◌, ℕ, ◌+◌, ◌*◌, ◌/◌, ◌%◌, ◌<◌, ◌⊎◌, inl, inr, Bool, true, false, Option, Some, None, List, get_or, refl, sym, ap, subst, ◌∙◌, arith, bit_and}
 use Rattle.std.specs.Int.{bit_at}
-use Rattle.std.specs.Option.{ForSome}
 use Rattle.std.proofs.lemmas.Bool.{cases_eq}
 use Rattle.std.proofs.lemmas.Nat.Bits.{bit_at_and, bit_at-lt, bit_at-zero, same_from_bits}
 use Rattle.rawk_ere_begins.specs.declared.nibbles.Nibbles.{Nibbles}
 use Rattle.rawk_ere_begins.specs.declared.filter.Filter.{Filter}
-use Rattle.rawk_ere_begins.specs.Filters.{AreSingle, HasMark, IsAsked, IsOnly, KeepsMarks, marks_of, pair_marks, IsFilter}
+use Rattle.rawk_ere_begins.specs.Filters.{AreSingle, HasMark, IsAsked, KeepsMarks, marks_of, pair_marks, IsFilter}
 
 module _ (next : List ℕ) (ends : List Bool) where
   -- the bytes that may come after one that led to the row have the mark

@@ -1,7 +1,6 @@
 //! What is known of 32 places of a text.
 
 ghost use Rattle.std.specs.Prelude.{◌≡◌, ℕ, ◌+◌, ◌-◌, ◌^◌, ◌<◌, ◌≤◌};
-ghost use Rattle.std.specs.Int.{bit_at};
 ghost use Rattle.std.specs.Option.{IfSome};
 ghost use Rattle.rawk_ere_begins.specs.Filters.{IsNextMarked, IsUnmarked, StandsBelow};
 

@@ -1,6 +1,6 @@
 //! Vectors of 32 bytes, lane by lane.
 
-ghost use Rattle.std.specs.Prelude.{◌≡◌, ◌≢◌, ◌↔◌, ℕ, ◌+◌, ◌/◌, ◌%◌, ◌<◌, ◌≤◌, length, min, slice_index, bit_and};
+ghost use Rattle.std.specs.Prelude.{◌≡◌, ◌≢◌, ℕ, ◌+◌, ◌/◌, ◌%◌, ◌<◌, ◌≤◌, length, min, slice_index, bit_and};
 ghost use Rattle.std.specs.Int.{bit_at};
 ghost use Rattle.rawk_ere_begins.specs.Lanes.{HasLanes};
 

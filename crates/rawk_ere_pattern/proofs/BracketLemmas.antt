@@ -8,7 +8,7 @@ use Rattle.rawk_ere_pattern.specs.declared.bracket.BracketPlace.TheVariants.{Fir
 use Rattle.rawk_ere_pattern.specs.declared.bracket.Item.{Item}
 use Rattle.rawk_ere_tree.specs.ByteSets.{HasAlso, IsInRanges, IsSetOf, IsIn}
 use Rattle.rawk_ere_pattern.specs.Pattern.{begins, item_at, ranges_in, closes, Items, closed, more, IsBracket, IsBracketed}
-use Rattle.rawk_ere_pattern.specs.ByteSetLemmas.{also_none, also_both, set_with, set_where}
+use Rattle.rawk_ere_pattern.specs.ByteSetLemmas.{also_both, set_with, set_where}
 
 in_both : (b : ℕ) (xs ys : List (ℕ × ℕ)) → (IsInRanges b xs ⊎ IsInRanges b ys) → IsInRanges b (xs ++ ys)
 in_both b [] ys h = elim h [ inl x ↦ absurd x | inr y ↦ y ]
@@ -24,14 +24,6 @@ pub record Gathering (from : List ℕ) (place : BracketPlace) (here old new : Li
   pub has : HasAlso old new (λ b. IsInRanges b sofar)
   pub forward : (ranges : List (ℕ × ℕ)) (rest : List ℕ) → Items place here ranges rest → Items First from (sofar ++ ranges) rest
   pub back : (ranges : List (ℕ × ℕ)) (rest : List ℕ) → Items First from ranges rest → (others : List (ℕ × ℕ)) × Items place here others rest
-
-pub gather_start : (from old : List ℕ) → Gathering from First from old old
-gather_start from old = record {
-  sofar = [];
-  has = also_none old (λ b. IsInRanges b []) (λ b h. h);
-  forward = λ ranges rest d. d;
-  back = λ ranges rest d. (ranges, d);
-}
 
 items_go : {p : BracketPlace} {s rest : List ℕ} {ranges : List (ℕ × ℕ)} → Items p s ranges rest → closes p s ≡ false
     → (item : Item) × (q : BracketPlace) × (mid : List ℕ) × (others : List (ℕ × ℕ)) × (item_at p s ≡ Some (item, q, mid)) × Items q mid others rest
@@ -103,24 +95,11 @@ pub gathered_others : (set others : List ℕ) (ranges : List (ℕ × ℕ)) → I
 gathered_others set others ranges s o =
     set_where (λ b. IsIn b set → ⊥) (λ b. IsInRanges b ranges → ⊥) others (λ b lt. (λ n r. n ((s.by b lt).1 r), λ n r. n ((s.by b lt).0 r))) o
 
-pub bracket_plain : (at next : ℕ) (p none set : List ℕ) → begins 94 (drop at p) ≡ false → IsSetOf (λ _. ⊥) none
-    → (ranges : List (ℕ × ℕ)) × Items First (drop at p) ranges (drop next p) × HasAlso none set (λ b. IsInRanges b ranges) → IsBracket (drop at p) set (drop next p)
-bracket_plain at next p none set n s h = inr (n, (h.0, h.1, gathered none set h.0 s h.2))
-
 pub bracket_negated : (at next : ℕ) (p none set others : List ℕ) → begins 94 (drop at p) ≡ true → IsSetOf (λ _. ⊥) none
     → (ranges : List (ℕ × ℕ)) × Items First (drop (at + 1) p) ranges (drop next p) × HasAlso none set (λ b. IsInRanges b ranges)
     → IsSetOf (λ b. IsIn b set → ⊥) others → IsBracket (drop at p) others (drop next p)
 bracket_negated at next p none set others n s h o =
     inl (n, (h.0, subst (λ l. Items First l h.0 (drop next p)) (sym (drop-drop 1 at p)) h.1, gathered_others set others h.0 (gathered none set h.0 s h.2) o))
-
-pub bracket_none : (s : List ℕ) → begins 94 s ≡ false → ((ranges : List (ℕ × ℕ)) (rest : List ℕ) → Items First s ranges rest → ⊥) → (t : Token) (rest : List ℕ) → IsBracketed s t rest → ⊥
-bracket_none s n f (token.OneOf set) rest h = elim h [ inl x ↦ true≢false (sym x.0 ∙ n) | inr x ↦ f x.1.0 rest x.1.1 ]
-bracket_none s n f token.Start rest h = h
-bracket_none s n f token.End rest h = h
-bracket_none s n f token.Bar rest h = h
-bracket_none s n f token.Open rest h = h
-bracket_none s n f token.Close rest h = h
-bracket_none s n f (token.Times c) rest h = h
 
 pub bracket_none_negated : (at : ℕ) (p : List ℕ) → begins 94 (drop at p) ≡ true → ((ranges : List (ℕ × ℕ)) (rest : List ℕ) → Items First (drop (at + 1) p) ranges rest → ⊥) → (t : Token) (rest : List ℕ) → IsBracketed (drop at p) t rest → ⊥
 bracket_none_negated at p n f (token.OneOf set) rest h =

@@ -1,5 +1,5 @@
 -- What a `{` begins.
-use Rattle.std.proofs.Common.{◌≡◌, ℕ, ◌+◌, ◌-◌, ◌≤◌, min, Bool, true, false, ◌&&◌, if◌then◌else◌, List, drop, refl, sym, ap, ◌∙◌, arith}
+use Rattle.std.proofs.Common.{◌≡◌, ℕ, ◌+◌, ◌-◌, ◌≤◌, min, Bool, true, false, ◌&&◌, if◌then◌else◌, List, drop, sym, ap, ◌∙◌, arith}
 use Rattle.std.specs.Prelude.{nat_le}
 use Rattle.std.proofs.lemmas.List.{drop-drop}
 use Rattle.rawk_ere_tree.specs.declared.node.Count.TheVariants.{AtLeast, Between}
@@ -16,9 +16,6 @@ without_is at p c d e hc hd he =
     ap (λ b. without b (begins_digit (drop 1 s)) (begins 125 (digits_from 0 (drop 1 s)).1)) hc
     ∙ ap (λ l. without c (begins_digit l) (begins 125 (digits_from 0 l).1)) n
     ∙ ap (λ b. without c b (begins 125 (digits_from 0 (drop (at + 1) p)).1)) hd ∙ ap (without c d) he
-
-pub without_no_digit : (e : Bool) → without true false e ≡ Itself
-without_no_digit e = refl
 
 abbrev comma_of : Bool → Bool → ℕ → List ℕ → Braced
 comma_of end digit m s = if end then at_least m (drop 1 s) else if digit then between m (digits_from 0 s) else Itself

@@ -1,13 +1,9 @@
 -- Nodes that are put together, and their measures.
-use Rattle.std.proofs.Common.{◌≡◌, ℕ, zero, suc, ◌+◌, ◌*◌, ◌<◌, ◌≤◌, inl, inr, min, List, [], ◌∷◌, ◌++◌, length, map, Vec, Global, refl, sym, ap, ◌∙◌, arith}
-use Rattle.std.proofs.Math.Nat.{mul-le-mul_right}
-use Rattle.std.proofs.lemmas.Bool.{cases_lt}
+use Rattle.std.proofs.Common.{◌≡◌, ◌+◌, ◌<◌, List, [], ◌∷◌, ◌++◌, length, map, Vec, Global, refl, sym, ap, ◌∙◌, arith}
 use Rattle.std.proofs.lemmas.List.{map-append}
-use Rattle.rawk_ere_tree.specs.declared.node.Count.{Count}
-use Rattle.rawk_ere_tree.specs.declared.node.Count.TheVariants.{Star, Plus, Maybe, AtLeast, Between}
 use Rattle.rawk_ere_tree.specs.declared.node.Node.{Node}
 use Rattle.rawk_ere_tree.specs.declared.node.Node.TheVariants as node
-use Rattle.rawk_ere_tree.specs.Tree.{Tree, Join, Either, repeated_size}
+use Rattle.rawk_ere_tree.specs.Tree.{Tree, Join, Either}
 use Rattle.rawk_ere_tree.specs.Node.{tree_of, join_all, either_all, joined, alternated}
 use Rattle.rawk_ere_tree.specs.Rows.{tree-Join, tree-Either}
 
@@ -48,18 +44,3 @@ tree-Join-pair parts a b e = tree-Join parts ∙ ap (λ l. joined (map tree_of l
 
 pub tree-Either-pair : (parts : Vec Node Global) (a b : Node) → parts.items ≡ a ∷ b ∷ [] → tree_of (node.Either parts) ≡ Either (tree_of a) (tree_of b)
 tree-Either-pair parts a b e = tree-Either parts ∙ ap (λ l. alternated (map tree_of l)) e
-
-many_large : (k n m : ℕ) → 1 ≤ k → 65537 ≤ n → 65537 ≤ m → min (1 + k * (m + 1)) 65537 ≡ min (1 + k * (n + 1)) 65537
-many_large k n m one ln lm = omega (arith, mul-le-mul_right (n + 1) one, mul-le-mul_right (m + 1) one)
-
-many_capped : (k n : ℕ) → min (1 + k * (min n 65537 + 1)) 65537 ≡ min (1 + k * (n + 1)) 65537
-many_capped zero n = omega arith
-many_capped (suc k) n = elim (cases_lt n 65537) [ inl h ↦ (let e : min n 65537 ≡ n = omega arith in ap (λ x. min (1 + suc k * (x + 1)) 65537) e) | inr h ↦ many_large (suc k) n (min n 65537) (omega arith) (omega arith) (omega arith) ]
-
--- the size of a repeated part is known as far as the size of the part is
-pub repeated_capped : (count : Count) (n : ℕ) → min (repeated_size count (min n 65537)) 65537 ≡ min (repeated_size count n) 65537
-repeated_capped Star n = omega arith
-repeated_capped Plus n = omega arith
-repeated_capped Maybe n = omega arith
-repeated_capped (AtLeast m) n = many_capped (m + 1) n
-repeated_capped (Between m more) n = many_capped (m + more) n

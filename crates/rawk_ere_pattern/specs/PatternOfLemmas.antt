@@ -4,7 +4,7 @@ use Rattle.rawk_ere_pattern.specs.declared.token.Token.{Token}
 use Rattle.rawk_ere_pattern.specs.declared.error.EreError.{EreError}
 use Rattle.rawk_ere_pattern.specs.declared.error.EreError.TheVariants as error
 use Rattle.rawk_ere_tree.specs.Tree.{Tree, size_of}
-use Rattle.rawk_ere_pattern.specs.Pattern.{AreTokens, IsScanRefused}
+use Rattle.rawk_ere_pattern.specs.Pattern.{AreTokens}
 use Rattle.rawk_ere_pattern.specs.Reading.{run, fresh, is_formed, IsTreeRefused}
 use Rattle.rawk_ere_pattern.specs.PatternOf.{IsPatternOf, IsRefused}
 use Rattle.rawk_ere_pattern.specs.ScanLemmas.{tokens_same}
@@ -13,11 +13,6 @@ use Rattle.rawk_ere_pattern.specs.ReadingLemmas.{read_all, derived_all, tree_of_
 -- the tokens that were found are those of each reading
 pub run_of : (pattern : List ℕ) (ts : List Token) (e : Tree) → AreTokens pattern ts → IsPatternOf pattern e → run [] fresh ts ≡ Some e
 run_of pattern ts e a r = subst (λ l. run [] fresh l ≡ Some e) (tokens_same pattern r.0 ts r.1 a) (read_all r.2)
-
-pub no_tokens : (x : EreError) (pattern : List ℕ) → IsScanRefused x pattern → IsRefused x pattern
-no_tokens error.Memory pattern h = tt
-no_tokens error.TooLarge pattern h = absurd h
-no_tokens error.Syntax pattern h = λ e r. h r.0 r.1
 
 pub unformed : (pattern : List ℕ) (ts : List Token) → AreTokens pattern ts → is_formed ts 0 false ≡ false → IsRefused error.Syntax pattern
 unformed pattern ts a f = λ e r. none_of_unformed ts e f (run_of pattern ts e a r)

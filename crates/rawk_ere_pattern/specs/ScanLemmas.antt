@@ -123,9 +123,6 @@ pub record Scanning (all : List ℕ) (before : List Token) (here : List ℕ) : T
   pub forward : (ts : List Token) → AreTokens here ts → AreTokens all (before ++ ts)
   pub back : (ts : List Token) → AreTokens all ts → (us : List Token) × AreTokens here us
 
-pub scan_start : (all : List ℕ) → Scanning all [] all
-scan_start all = record { forward = λ ts h. h; back = λ ts h. (ts, h) }
-
 back_more : (here mid : List ℕ) (t : Token) (us : List Token) → IsToken here t mid → AreTokens here us → (vs : List Token) × AreTokens mid vs
 back_more here mid t [] k h = absurd (subst (λ l. IsToken l t mid) h k)
 back_more here mid t (u ∷ us) k h = let same = token_same here h.0 mid u t h.1 k in (us, subst (λ l. AreTokens l us) same.1 h.2)

@@ -1,9 +1,9 @@
 //! Bracket expressions (POSIX XBD 9.3.5), in C's locale.
 
-ghost use Rattle.std.specs.Prelude.{◌≡◌, ℕ, ◌+◌, ◌-◌, ◌<◌, ◌≤◌, ◌⊎◌, List, [], ◌∷◌, ◌++◌, length, drop, Some, None, MatchOption, codes, nat_eq, true, false, ◌&&◌};
+ghost use Rattle.std.specs.Prelude.{◌≡◌, ℕ, ◌+◌, ◌<◌, ◌≤◌, List, [], length, drop, Some, None, MatchOption, nat_eq, true, false, ◌&&◌};
 ghost use Rattle.std.specs.List.{starts_with};
 ghost use Rattle.rawk_ere_tree.specs.ByteSets.{HasAlso, IsInRanges};
-ghost use Rattle.rawk_ere_pattern.specs.Pattern.{class_at, name_length, ranges_of, ranges_in, IsOrdered, begins, endpoint, begun_with, begun_by, hyphen, named, item_at, closes, Items, IsBracketed};
+ghost use Rattle.rawk_ere_pattern.specs.Pattern.{class_at, name_length, ranges_of, ranges_in, IsOrdered, begins, endpoint, begun_with, hyphen, named, item_at, closes, Items, IsBracketed};
 ghost use Rattle.rawk_ere_pattern.specs.declared.token.Token.{Token};
 
 use crate::byte_set::{add_range, complement, empty};

@@ -1,7 +1,7 @@
 //! Sets of bytes that are made.
 
-ghost use Rattle.std.specs.Prelude.{◌≡◌, ℕ, ◌<◌, ◌≤◌, ◌↔◌, ◌⊎◌, ◌/◌, ◌%◌, ◌^◌, IsTrue, length};
-ghost use Rattle.rawk_ere_tree.specs.ByteSets.{IsIn, HasAlso, IsSetOf, IsInRanges};
+ghost use Rattle.std.specs.Prelude.{◌≡◌, ◌<◌, ◌≤◌, ◌/◌, ◌%◌};
+ghost use Rattle.rawk_ere_tree.specs.ByteSets.{IsIn, HasAlso, IsSetOf};
 
 use rawk_ere_tree::byte_set::{ByteSet, is_in};
 

@@ -1,6 +1,6 @@
 //! Bytes of a pattern: digits and escapes.
 
-ghost use Rattle.std.specs.Prelude.{◌≡◌, ℕ, ◌+◌, ◌-◌, ◌*◌, ◌<◌, ◌≤◌, List, [], ◌∷◌, length, drop, min, Some, None, MatchOption};
+ghost use Rattle.std.specs.Prelude.{◌≡◌, ◌+◌, ◌-◌, ◌*◌, ◌<◌, ◌≤◌, [], length, drop, min, Some, None, MatchOption};
 ghost use Rattle.rawk_ere_pattern.specs.Pattern.{is_digit, is_octal, begins, begins_digit, digits_from, octal_from, escaped_byte, escape};
 
 /// Whether the byte stands at a place. Nothing stands past the end.

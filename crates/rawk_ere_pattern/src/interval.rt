@@ -1,7 +1,7 @@
 //! Intervals (POSIX XBD 9.4.6).
 
-ghost use Rattle.std.specs.Prelude.{◌≡◌, ℕ, ◌+◌, ◌-◌, ◌<◌, ◌≤◌, List, length, drop, min};
-ghost use Rattle.rawk_ere_pattern.specs.Pattern.{IsBraceAt, IsBraceWithin, braced, after_comma, after_least, without_least, exactly, at_least, between, digits_from, begins, begins_digit};
+ghost use Rattle.std.specs.Prelude.{◌≡◌, ℕ, ◌+◌, ◌-◌, ◌<◌, ◌≤◌, length, drop, min};
+ghost use Rattle.rawk_ere_pattern.specs.Pattern.{IsBraceAt, IsBraceWithin, braced, after_comma, without_least};
 
 use crate::bytes::{digit_at, digits, is_at};
 use rawk_ere_tree::node::Count;

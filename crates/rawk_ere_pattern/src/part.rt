@@ -1,6 +1,6 @@
 //! A part of an expression that is being read, with its measures.
 
-ghost use Rattle.std.specs.Prelude.{◌≡◌, ◌+◌, ◌*◌, ◌<◌, ◌≤◌, min, ◌⊎◌, IfOk, IfErr, [], ◌∷◌, List};
+ghost use Rattle.std.specs.Prelude.{◌≡◌, ◌+◌, ◌*◌, ◌<◌, ◌≤◌, min, ◌⊎◌, IfOk, IfErr, [], ◌∷◌};
 ghost use Rattle.rawk_ere_tree.specs.Tree.{Empty, OneOf, Start, End, Join, Either, Group, Repeat, size_of, nesting_of, repeated_size};
 ghost use Rattle.rawk_ere_tree.specs.Node.{tree_of};
 

@@ -1,10 +1,10 @@
 //! From tokens to the tree.
 
-ghost use Rattle.std.specs.Prelude.{◌≡◌, ◌+◌, ◌<◌, ◌≤◌, ◌⊎◌, ◌↔◌, List, [], ◌∷◌, length, drop, reverse, IfOk, IfErr, IsTrue, Some, None, Option, true, false, nat_eq};
-ghost use Rattle.rawk_ere_tree.specs.Tree.{Tree, OneOf, nesting_of, IsWithinLimits};
+ghost use Rattle.std.specs.Prelude.{◌≡◌, ◌+◌, ◌<◌, ◌⊎◌, [], reverse, IfOk, IfErr, Some, None, true, false};
+ghost use Rattle.rawk_ere_tree.specs.Tree.{IsWithinLimits};
 ghost use Rattle.rawk_ere_tree.specs.Node.{tree_of};
 ghost use Rattle.rawk_ere_pattern.specs.PatternOf.{IsPatternOf, IsRefused, IsReadOnce};
-ghost use Rattle.rawk_ere_pattern.specs.Reading.{fresh, pieces_with, branch_of, whole_of, with_atom, with_anchor, with_bar, with_count, step, run, is_formed, depth_of, IsStepRefused, IsTreeRefused};
+ghost use Rattle.rawk_ere_pattern.specs.Reading.{fresh, pieces_with, whole_of, with_atom, with_anchor, with_bar, with_count, step, run, is_formed, depth_of, IsStepRefused, IsTreeRefused};
 
 use crate::error::EreError;
 use crate::part::Part;

@@ -1,6 +1,6 @@
 //! From a pattern to its tokens.
 
-ghost use Rattle.std.specs.Prelude.{◌≡◌, ℕ, ◌+◌, ◌-◌, ◌<◌, ◌≤◌, List, [], ◌∷◌, ◌++◌, length, drop, MatchOption, IfOk, IfErr, OnOk};
+ghost use Rattle.std.specs.Prelude.{◌≡◌, ℕ, ◌+◌, ◌<◌, ◌≤◌, List, [], ◌∷◌, ◌++◌, length, drop, MatchOption, IfOk, IfErr, OnOk};
 ghost use Rattle.rawk_ere_pattern.specs.declared.token.Token.{Token};
 ghost use Rattle.rawk_ere_pattern.specs.Pattern.{IsOneOf, IsToken, IsFirstToken, AreTokens, IsScanRefused};
 

@@ -1,5 +1,5 @@
 -- Instructions as they are kept, when sets are added; sets of one byte.
-use Rattle.std.proofs.Common.{◌≡◌, ℕ, zero, suc, ◌+◌, ◌/◌, ◌%◌, ◌^◌, ◌<◌, List, [], ◌∷◌, ◌++◌, length, map, get_or, inl, inr, refl, sym, ap, ◌∙◌, arith, length-append, append_assoc, take, Some, option_map}
+use Rattle.std.proofs.Common.{◌≡◌, ℕ, zero, suc, ◌+◌, ◌/◌, ◌%◌, ◌^◌, ◌<◌, List, [], ◌∷◌, ◌++◌, length, map, get_or, inl, inr, refl, sym, ap, ◌∙◌, arith, append_assoc, take, Some, option_map}
 use Rattle.std.specs.Prelude.{◌↔◌, slice_get}
 use Rattle.std.specs.List.{All}
 use Rattle.std.specs.Int.{bit_at}
@@ -16,16 +16,6 @@ use Rattle.rawk_ere_tree.specs.declared.code.Kept.TheVariants as kept
 use Rattle.rawk_ere_tree.specs.ByteSets.{IsIn}
 use Rattle.rawk_ere_tree.specs.Kept.{set_of_word, set_of_byte, shown, IsKeptIn, Extends}
 
-pub kept_still : (old new : List (List ℕ)) (k : Kept) → Extends old new → IsKeptIn old k → IsKeptIn new k
-kept_still old new (kept.Byte b) e h = tt
-kept_still old new (kept.OneOf n) e h = (let l = ap length e.1 ∙ length-append old e.0 in omega (arith, h, l))
-kept_still old new kept.Start e h = tt
-kept_still old new kept.End e h = tt
-kept_still old new (kept.Split d) e h = tt
-kept_still old new (kept.Go d) e h = tt
-kept_still old new (kept.Back d) e h = tt
-kept_still old new (kept.Fork d) e h = tt
-
 pub shown_still : (old new : List (List ℕ)) (k : Kept) → Extends old new → IsKeptIn old k → shown new k ≡ shown old k
 shown_still old new (kept.Byte b) e h = refl
 shown_still old new (kept.OneOf n) e h = ap Bytes (ap (λ s. get_or s n []) e.1 ∙ get_or_append_left old e.0 [] n h)
@@ -35,9 +25,6 @@ shown_still old new (kept.Split d) e h = refl
 shown_still old new (kept.Go d) e h = refl
 shown_still old new (kept.Back d) e h = refl
 shown_still old new (kept.Fork d) e h = refl
-
-pub all_still : (old new : List (List ℕ)) (ks : List Kept) → Extends old new → All (IsKeptIn old) ks → All (IsKeptIn new) ks
-all_still old new ks e h = λ k d lt. kept_still old new (get_or ks k d) e (h k d lt)
 
 pub all_shown_still : (old new : List (List ℕ)) (ks : List Kept) → Extends old new → All (IsKeptIn old) ks → map (shown new) ks ≡ map (shown old) ks
 all_shown_still old new [] e h = refl

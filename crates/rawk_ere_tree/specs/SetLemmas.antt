@@ -22,9 +22,6 @@ pub has_room : (members : List ℕ) (marks : List Bool) (q : ℕ) → AreMarks m
 has_room members marks q m lt e =
     omega (arith, m.counted, counts_more marks q lt e, count_by-le-length (λ b. b) (set marks q true), length-set marks q true)
 
-pub few_members : (members : List ℕ) (marks : List Bool) → AreMarks members marks → length members ≤ length marks
-few_members members marks m = omega (arith, m.counted, count_by-le-length (λ b. b) marks)
-
 pub marks_more : (members : List ℕ) (marks : List Bool) (q : ℕ) → AreMarks members marks → q < length marks → get_or marks q false ≡ false → AreMarks (members ++ q ∷ []) (set marks q true)
 marks_more members marks q m lt e = record {
   marked = λ x h. elim (Contains-push_cases members q x h) [

@@ -1,6 +1,6 @@
 //! Sets of bytes.
 
-ghost use Rattle.std.specs.Prelude.{◌≡◌, ◌/◌, ◌%◌, ◌↔◌, IsTrue};
+ghost use Rattle.std.specs.Prelude.{◌/◌, ◌%◌, ◌↔◌, IsTrue};
 ghost use Rattle.rawk_ere_tree.specs.ByteSets.{IsIn};
 
 /// A set of bytes: a bit for each, the byte `b` at the bit `b % 64` of the word `b / 64`.

@@ -1,6 +1,6 @@
 //! From a tree to the instructions of its automaton.
 
-ghost use Rattle.std.specs.Prelude.{◌≡◌, ◌+◌, ◌-◌, ◌*◌, ◌≤◌, [], ◌∷◌, ◌++◌, ◌↔◌, IsTrue, IfOk, OnOk, length, map, reverse};
+ghost use Rattle.std.specs.Prelude.{◌≡◌, ◌+◌, ◌-◌, ◌*◌, [], ◌++◌, ◌↔◌, IsTrue, IfOk, OnOk, length, map, reverse};
 ghost use Rattle.rawk_ere_tree.specs.Node.{tree_of, joined, alternated};
 ghost use Rattle.rawk_ere_tree.specs.Code.{code_of, count_code, star_code, plus_code, maybe_code, times_code, maybes_code, either_code, wide_code};
 ghost use Rattle.rawk_ere_tree.specs.declared.code.Instruction.TheVariants.{Split};

@@ -1,8 +1,8 @@
 //! The longest match from a place, by a walk of a set of states from byte to byte.
 
-ghost use Rattle.std.specs.Prelude.{◌≡◌, ℕ, ◌+◌, ◌-◌, ◌*◌, ◌^◌, ◌<◌, ◌≤◌, ◌↔◌, ◌⊎◌, List, [], ◌∷◌, length, min, IfOk, IsTrue, Contains, Some, slice_get, slice_index, vec_len, true, false};
+ghost use Rattle.std.specs.Prelude.{◌≡◌, ◌+◌, ◌-◌, ◌*◌, ◌<◌, ◌≤◌, ◌↔◌, ◌⊎◌, [], length, min, IfOk, IsTrue, Contains, Some, true, false};
 ghost use Rattle.rawk_ere_tree.specs.Ends.{IsLast};
-ghost use Rattle.rawk_ere_tree.specs.Code.{Hops, Takes};
+ghost use Rattle.rawk_ere_tree.specs.Code.{Hops};
 ghost use Rattle.rawk_ere_tree.specs.StateSets.{Adds};
 ghost use Rattle.rawk_ere_walks.specs.Sets.{HopsFrom, TakesFrom, AdvancesBy, AreReached, Closes, IsFarthest, Asks, AsksAt, AsksIn, WantsFrom, HasReached};
 ghost use Rattle.rawk_ere_walks.specs.Ways.{EndsFrom, MayBy};

@@ -10,7 +10,7 @@ use Rattle.rawk_value.specs.declared.operator.Arithmetic.TheVariants as arithmet
 use Rattle.rawk_parsing.specs.declared.tree.Operator.{Operator}
 use Rattle.rawk_parsing.specs.declared.tree.Operator.TheVariants as op
 use Rattle.rawk_parsing.specs.declared.tree.Change.{Change}
-use Rattle.rawk_parsing.specs.Parser.{Input, Outcome, Parser, and_then, ◌>>=◌, ◌>>◌, pure, refuse, too_deep, left_out, peek, take_token, eat, expect, sees, after, newlines, newlines_from, name_at, bare_name, not_redirected, same_kind}
+use Rattle.rawk_parsing.specs.Parser.{Input, Outcome, Parser, and_then, refuse, expect, sees, after, newlines, newlines_from, name_at, bare_name, same_kind}
 use Rattle.rawk_parsing.specs.Parser as parser
 use Rattle.rawk_parsing.specs.Tables as table
 use Rattle.rawk_expression.specs.Expression as x

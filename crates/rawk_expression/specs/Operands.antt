@@ -22,7 +22,7 @@ use Rattle.rawk_parsing.specs.declared.tree.Expr.TheVariants as tree
 use Rattle.rawk_parsing.specs.declared.tree.Place.{Place}
 use Rattle.rawk_parsing.specs.declared.tree.Place.TheVariants as spot
 use Rattle.rawk_parsing.specs.Constant.{constant}
-use Rattle.rawk_parsing.specs.Parser.{Input, Outcome, Parser, and_then, ◌>>=◌, ◌>>◌, pure, refuse, too_deep, left_out, peek, take_token, eat, expect, sees, after, newlines, newlines_from, name_at, bare_name, not_redirected, same_kind}
+use Rattle.rawk_parsing.specs.Parser.{Input, Outcome, and_then, ◌>>=◌, ◌>>◌, pure, too_deep, peek, eat, expect, after, newlines, name_at}
 use Rattle.rawk_parsing.specs.Parser as parser
 use Rattle.rawk_parsing.specs.Tables as table
 use Rattle.rawk_expression.specs.Expression as x

@@ -17,7 +17,7 @@ use Rattle.rawk_parsing.specs.declared.tree.Expr.{Expr}
 use Rattle.rawk_parsing.specs.declared.tree.Expr.TheVariants as tree
 use Rattle.rawk_parsing.specs.declared.tree.Place.{Place}
 use Rattle.rawk_parsing.specs.declared.tree.Place.TheVariants as spot
-use Rattle.rawk_parsing.specs.Parser.{Input, Outcome, Parser, and_then, ◌>>=◌, ◌>>◌, pure, refuse, peek, take_token, eat, expect, sees, after, newlines, name_at, bare_name, not_redirected}
+use Rattle.rawk_parsing.specs.Parser.{Input, Parser, pure, sees, after, newlines, name_at, bare_name, not_redirected}
 use Rattle.rawk_parsing.specs.Parser as parser
 use Rattle.rawk_parsing.specs.Tables as table
 use Rattle.rawk_expression.specs.Expression as x

@@ -1,6 +1,6 @@
 //! From assignments and `in` up to `?:`.
 
-ghost use Rattle.std.specs.Prelude.{◌≡◌, ◌<◌, ◌-◌, Option, None, IfOk, IfErr};
+ghost use Rattle.std.specs.Prelude.{◌≡◌, ◌<◌, ◌-◌, None, IfOk, IfErr};
 ghost use Rattle.rawk_parsing.specs.declared.parse_error.ParseError.TheVariants.{OutOfMemory};
 ghost use Rattle.rawk_parsing.specs.declared.tree.Expr.TheVariants as tree;
 ghost use Rattle.rawk_parsing.specs.Tables as tables;

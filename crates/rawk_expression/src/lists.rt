@@ -1,6 +1,6 @@
 //! What statements are made of beside expressions: places, and the list of a print.
 
-ghost use Rattle.std.specs.Prelude.{◌≡◌, true};
+ghost use Rattle.std.specs.Prelude.{true};
 ghost use Rattle.rawk_parsing.specs.Parser.{Parses};
 ghost use Rattle.rawk_expression.specs.Expression as spec;
 ghost use Rattle.rawk_expression.specs.Nests.{Nests};

@@ -1,6 +1,5 @@
 //! Constants, calls, groups and places as operands.
 
-ghost use Rattle.std.specs.Prelude.{◌≡◌};
 ghost use Rattle.rawk_parsing.specs.Parser.{Parses};
 ghost use Rattle.rawk_expression.specs.Expression as spec;
 ghost use Rattle.rawk_expression.specs.Nests.{Nests};

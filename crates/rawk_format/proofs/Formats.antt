@@ -1,16 +1,13 @@
 -- Lemmas on the items of a format.
-use Rattle.std.proofs.Common.{◌≡◌, refl, sym, ap, ◌∙◌, ℕ, ◌≤◌, zero, suc, List, [], ◌∷◌, ◌++◌, length, arith, append_assoc, append-nil, subst, true, Result, Ok, Err, le_refl}
+use Rattle.std.proofs.Common.{◌≡◌, refl, sym, ap, ◌∙◌, ℕ, ◌≤◌, zero, suc, List, [], ◌∷◌, ◌++◌, length, arith, append_assoc, append-nil, subst, true, Result, Ok, Err}
 use Rattle.rawk_value.specs.Values.{Bytes, next_ok}
-use Rattle.rawk_format.specs.Format.{Item, item, percent_item, is_percent, item_after, items_text, prefixed, formatted, IsSoFar}
+use Rattle.rawk_format.specs.Format.{Item, item, percent_item, is_percent, item_after, items_text, prefixed, IsSoFar}
 use Rattle.rawk_value.specs.declared.value.Value.{Value}
 use Rattle.rawk_value.specs.declared.fault.Fault.{Fault}
 
 prefixed_prefixed : (a b : Bytes) (r : Result Bytes Fault) → prefixed a (prefixed b r) ≡ prefixed (a ++ b) r
 prefixed_prefixed a b (Ok t) = ap Ok (sym (append_assoc a b t))
 prefixed_prefixed a b (Err f) = refl
-
-pub so_far_start : (before text : Bytes) (values : List Value) → IsSoFar (prefixed before (formatted text values)) before text values
-so_far_start before text values = record { turns = length text; enough = le_refl (length text); more = refl }
 
 parts_of : (before after rest : Bytes) (values : List Value) (turns : ℕ) (i : Item) → after ≡ before ++ i.text → rest ≡ i.rest → values ≡ i.values
     → prefixed before (prefixed i.text (items_text turns i.rest i.values)) ≡ prefixed after (items_text turns rest values)

@@ -1,12 +1,12 @@
 //! Numbers as a conversion writes them, and how they are filled up to a width.
 
-ghost use Rattle.std.specs.Prelude.{◌≡◌, ℕ, false, not, ◌&&◌, ◌||◌, ◌+◌, ◌-◌, ◌≤◌, ◌++◌, ◌∷◌, [], drop, length, replicate, map, OnOk, OnErr, if◌then◌else◌};
+ghost use Rattle.std.specs.Prelude.{◌≡◌, ℕ, false, not, ◌&&◌, ◌||◌, ◌+◌, ◌-◌, ◌≤◌, ◌++◌, ◌∷◌, [], drop, length, replicate, map, OnOk, if◌then◌else◌};
 ghost use Rattle.std.specs.Int.Digits.{digits_of};
 ghost use Rattle.std.specs.Fmt.{digit_glyph};
 ghost use Rattle.rawk_value.specs.Scans.{held};
 ghost use Rattle.rawk_value.specs.Values.{is_zero};
 ghost use Rattle.rawk_format.specs.Grown.{Follows};
-ghost use Rattle.rawk_format.specs.Format.{sign_of, fills_whole, unsigned_figure, figure_as, twos, digits_text, head_text, figure_body, padded, octal_least};
+ghost use Rattle.rawk_format.specs.Format.{sign_of, fills_whole, unsigned_figure, figure_as, twos, head_text, figure_body, padded, octal_least};
 
 use crate::layout::{Figure, Head, Layout};
 use crate::specification::{Conversion, Flags};

@@ -4,7 +4,7 @@ ghost use Rattle.std.specs.Prelude.{◌≡◌, ◌≢◌, ◌≤◌, ◌++◌, �
 ghost use Rattle.rawk_value.specs.Values.{int_text, next_ok};
 ghost use Rattle.std.specs.List.{prefix_len};
 ghost use Rattle.rawk_format.specs.Grown.{Follows, is_plain};
-ghost use Rattle.rawk_format.specs.Format.{cut, byte_of, character_of, plain_text, number_text, converted, value_item, specified, percent_item, directive, formatted, AddsText, AddsItem};
+ghost use Rattle.rawk_format.specs.Format.{cut, byte_of, plain_text, number_text, converted, value_item, specified, percent_item, directive, formatted, AddsText, AddsItem};
 ghost use Rattle.rawk_value.specs.declared.fault.Fault.TheVariants.{OutOfMemory};
 
 use crate::figure::{figure_of, push_bytes, push_figure, push_padded};

@@ -1,12 +1,12 @@
 -- Activations, as they lie on two stacks.
-use Rattle.std.proofs.Common.{◌≡◌, ℕ, suc, zero, ◌+◌, ◌-◌, ◌^◌, ◌<◌, ◌≤◌, List, [], ◌∷◌, ◌++◌, length, take, drop, set, reverse, refl, sym, ap, ◌∙◌, arith, slice_get, Option, None, Some, MatchOption, Bool, true, false, Result, Ok, Err, IfOk, OnErr}
+use Rattle.std.proofs.Common.{◌≡◌, ℕ, suc, zero, ◌+◌, ◌^◌, ◌<◌, ◌≤◌, List, [], ◌∷◌, ◌++◌, length, take, drop, set, reverse, refl, sym, ap, ◌∙◌, arith, slice_get, Option, None, Some, MatchOption, Bool, true, false, Result, Ok, Err, IfOk, OnErr}
 use Rattle.std.specs.Bool.{OnFalse, OnTrue}
 use Rattle.rawk_value.specs.Values.{Bytes}
 use Rattle.rawk_value.specs.declared.value.Value.{Value}
 use Rattle.rawk_value.specs.declared.value.Value.TheVariants.{String}
 use Rattle.std.proofs.Math.Seq.{take-set-lt}
-use Rattle.std.proofs.lemmas.List.{length-reverse, length-drop, length-take, set-get_or, take-append-le, drop-append-le, take-set-le, reverse-append, reverse-reverse, set_past}
-use Rattle.std.proofs.lemmas.Option.{get_or_from_slice_get, same_Some, slice_get_past, none-some}
+use Rattle.std.proofs.lemmas.List.{length-reverse, length-drop, length-take, set-get_or, take-append-le, drop-append-le, take-set-le, reverse-append, reverse-reverse}
+use Rattle.std.proofs.lemmas.Option.{get_or_from_slice_get, same_Some, none-some}
 use Rattle.rawk_slots.specs.Journaled.{Journaled}
 use Rattle.rawk_slots.specs.Stacked.{Stacked, live_slots, live_values}
 use Rattle.rawk_frames.specs.declared.frames.Local.{Local}
@@ -102,22 +102,6 @@ pub unwritten_lent : (s : Stacked Local) (p : ℕ) (l : Local) (old new : Value)
     → OnFalse done (new ≡ old) → OnFalse done (take s.live (set s.slots p (Holds new)) ≡ live_slots s)
 unwritten_lent s p l old new h e is true g = tt
 unwritten_lent s p l old new h e is false g = same_held s p l old new h e is g
-
-pub no_local : (fs : List Frame) (number : ℕ) (v : Local) → length (locals_now fs) ≤ number → fs ≡ with_local number v fs
-no_local [] number v le = refl
-no_local (f ∷ fs) number v le = ap (λ (xs : List Local). record f { locals = xs } ∷ fs) (sym (set_past f.locals number v le))
-
-pub absent_local : (fs : List Frame) (number : ℕ) → length (locals_now fs) ≤ number → None ≡ slice_get (locals_now fs) number
-absent_local fs number le = sym (slice_get_past (locals_now fs) number le)
-
--- where the newest activation's locals begin, as the code finds it
-pub base_found : (as1 : List Activation) (a : Activation) → Some a ≡ slice_get as1 0 → IsBase a.base as1
-base_found [] a e = absurd (none-some a (sym e))
-base_found (x ∷ older) a e = ap (λ (y : Activation). y.base) (same_Some a x e)
-
-pub base_absent : (as1 : List Activation) → None ≡ slice_get as1 0 → IsBase (2 ^ 64 - 1) as1
-base_absent [] e = refl
-base_absent (x ∷ older) e = absurd (none-some x e)
 
 -- what the code tests
 pub place_found : (base : ℕ) (as1 : List Activation) (ls : List Local) (count number place : ℕ) → IsBase base as1 → count ≡ length ls → count < 2 ^ 64 → place ≡ base + number → place < count → IsPlace number as1 ls place

@@ -29,11 +29,6 @@ abbrev pub with_local : ℕ → Local → List Frame → List Frame
 with_local i v [] = []
 with_local i v (f ∷ fs) = record f { locals = slice_set f.locals i v } ∷ fs
 
--- the newest activation has these locals too
-abbrev pub with_all : List Local → List Frame → List Frame
-with_all vs [] = []
-with_all vs (f ∷ fs) = record f { locals = f.locals ++ vs } ∷ fs
-
 -- the newest activation has one more local
 abbrev pub with_more : Local → List Frame → List Frame
 with_more v [] = []

@@ -4,7 +4,7 @@ use Rattle.std.proofs.Common.{ap, ◌∙◌}
 use Rattle.std.specs.Global.{Vec}
 use Rattle.rawk_value.specs.Values.{Bytes}
 use Rattle.rawk_slots.specs.Stacked.{IsLive, live_slots, live_values}
-use Rattle.rawk_slots.specs.StackLaws.{live_slots-grown, live_values-grown, FitsStack-over, FitsStackIf-over, GrownStack-back, GrownStack-in, GrownStack-refl, GrownStack-trans, IsLive-grown, IsLive-stack_back, IsLive-stack_in}
+use Rattle.rawk_slots.specs.StackLaws.{live_slots-grown, live_values-grown, FitsStack-over, FitsStackIf-over, GrownStack-back, GrownStack-in, GrownStack-refl, GrownStack-trans, IsLive-stack_back, IsLive-stack_in}
 use Rattle.rawk_frames.specs.declared.frames.Local.{Local}
 use Rattle.rawk_frames.specs.declared.frames.Activation.{Activation}
 use Rattle.rawk_frames.specs.declared.frames.FramesGroup.{FramesGroup}
@@ -23,9 +23,6 @@ frames_of-grown l m g h k =
 
 pub returns_of-grown : (l m : LaidFrames) → GrownFrames l m → IsLive l.frames → returns_of m ≡ returns_of l
 returns_of-grown l m g h = ap (λ (xs : List Activation). map (λ a. a.return_to) xs) (live_values-grown l.frames m.frames g.frames h)
-
-pub AreFramesLive-grown : (l m : LaidFrames) → GrownFrames l m → AreFramesLive l → AreFramesLive m
-AreFramesLive-grown l m g h = record { frames = IsLive-grown l.frames m.frames g.frames h.frames; locals = IsLive-grown l.locals m.locals g.locals h.locals }
 
 pub AreNested-grown : (l m : LaidFrames) → GrownFrames l m → AreFramesLive l → AreNested l → AreNested m
 AreNested-grown l m g h nested = rw (live_values-grown l.frames m.frames g.frames h.frames, live_slots-grown l.locals m.locals g.locals h.locals) nested
@@ -79,9 +76,6 @@ pub keys_of-grown : (l m : LaidKeys) → GrownKeys l m → AreKeysLive l → key
 keys_of-grown l m g h =
     ap (λ xs. left_lists xs (live_values m.lists)) (live_values-grown l.visited m.visited g.visited h.visited)
     ∙ ap (λ (xs : List (Vec Bytes)). left_lists (live_values l.visited) xs) (live_values-grown l.lists m.lists g.lists h.lists)
-
-pub AreKeysLive-grown : (l m : LaidKeys) → GrownKeys l m → AreKeysLive l → AreKeysLive m
-AreKeysLive-grown l m g h = record { lists = IsLive-grown l.lists m.lists g.lists h.lists; visited = IsLive-grown l.visited m.visited g.visited h.visited }
 
 pub GrownKeys-refl : (l : LaidKeys) → GrownKeys l l
 GrownKeys-refl l = record { lists = GrownStack-refl l.lists; visited = GrownStack-refl l.visited }

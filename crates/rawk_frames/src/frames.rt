@@ -1,6 +1,6 @@
 //! Activations of functions, with their locals.
 
-ghost use Rattle.std.specs.Prelude.{◌≡◌, ◌<◌, ◌≤◌, ◌∷◌, [], IfNone, IfOk, IfSome, MatchOption, None, OnErr, OnOk, Some, drop, length, slice_get, slice_set};
+ghost use Rattle.std.specs.Prelude.{◌≡◌, ◌<◌, ◌≤◌, ◌∷◌, [], IfNone, IfOk, IfSome, MatchOption, None, OnErr, OnOk, Some, length, slice_get, slice_set};
 ghost use Rattle.std.specs.Bool.{OnFalse, OnTrue};
 ghost use Rattle.std.specs.Option.{option_copied};
 ghost use Rattle.rawk_slots.specs.Journaled.{at_rest};
@@ -373,14 +373,6 @@ impl Frames {
         frames.put_back(&mut self.frames, has_frames);
         locals.put_back(&mut self.locals, has_locals);
         self.base = newest_base(&self.frames);
-    }
-
-    /// Whether the step has changed nothing yet.
-    #[inline]
-    pub fn is_at_rest(&self) -> bool
-        ensures { OnTrue result (self.now.start ≡ self.now.now) }
-    {
-        self.frames.is_at_rest() && self.locals.is_at_rest()
     }
 
     /// What is so of all activations. It does nothing.

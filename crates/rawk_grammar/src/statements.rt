@@ -1,6 +1,5 @@
 //! Statements, whose bodies are statements.
 
-ghost use Rattle.std.specs.Prelude.{◌≡◌};
 ghost use Rattle.rawk_parsing.specs.Parser.{Parses};
 ghost use Rattle.rawk_grammar.specs.Statement as spec;
 ghost use Rattle.rawk_grammar.specs.Nests.{Nests};

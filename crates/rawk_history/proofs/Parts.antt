@@ -67,10 +67,6 @@ kept_last start now all new front here count m history k f within enough is =
       count = omega (arith, length-take-le m front enough, length-take-le count all within, is);
     }
 
--- what is kept of a front of all steps is what is kept of all
-pub front_last : (count : ℕ) (front all : List Kept) → IsFront front all → count ≤ length front → take count front ≡ take count all
-front_last count front all f le = sym (ap (take count) f.is ∙ take-append-le count front f.rest le)
-
 pub behind_front : (front more behind : List Kept) → IsFront more behind → IsFront (front ++ more) (front ++ behind)
 behind_front front more behind f = record { rest = f.rest; is = ap (λ (ks : List Kept). front ++ ks) f.is ∙ sym (append_assoc front more f.rest) }
 

@@ -52,7 +52,3 @@ pub record IsPutBack (item : Kept) (rest : List Kept) (old new : Layout) (stood 
 pub record Keeping : Type 0 where
   pub kept : List Kept
   pub forth : Option Forth
-
--- what leads forward over a step that was put back
-abbrev pub forth_of : Kept → Forth
-forth_of item = record { globals = item.step.globals; others = item.step.others; current = item.step.current; sets = item.sets }

@@ -31,6 +31,3 @@ Counts n count = n < 2 ^ 128 → count ≡ n
 -- in whatever order they are counted
 pub saved_in_groups-reverse : (groups : List Group) → saved_in_groups (reverse groups) ≡ saved_in_groups groups
 saved_in_groups-reverse groups = sum_by-IsPermutation saved_in groups (reverse groups) (IsPermutation-reverse groups)
-
-pub saved_by_all-reverse : (items : List Kept) → saved_by_all (reverse items) ≡ saved_by_all items
-saved_by_all-reverse items = sum_by-IsPermutation saved_by items (reverse items) (IsPermutation-reverse items)

@@ -6,7 +6,7 @@ ghost use Rattle.std.specs.Option.{option_copied};
 ghost use Rattle.std.specs.Vec.{vec_capacity};
 ghost use Rattle.rawk_slots.specs.Back.{AreDistinctFrom};
 ghost use Rattle.rawk_slots.specs.StackGroups.{first_if, rest_if};
-ghost use Rattle.rawk_frames.specs.KeptStacks.{HasRoomFor, lists_of, newest_frames, newest_operands, older_stacks};
+ghost use Rattle.rawk_frames.specs.KeptStacks.{lists_of, newest_frames, newest_operands, older_stacks};
 ghost use Rattle.rawk_record.specs.Shown.{record_back};
 ghost use Rattle.rawk_history.specs.Flat.{EndsBehind, began_by, items_of, newest_slow, registers_by, slow_of, step_by};
 ghost use Rattle.rawk_store.specs.GroupBack.{ArraysFit, FitsIn, arrays_in, globals_on, put_back};

@@ -10,9 +10,6 @@ use Rattle.rawk_keys.specs.Hash.{hash_of}
 use Rattle.rawk_keys.specs.Found.{IsSearching}
 use Rattle.rawk_keys.specs.KeysLaid.{AreWithin, IsWithin, AreLaid, keys_of, hashes_of}
 
-blank : KeyRange
-blank = record { start = 0; end = 0 }
-
 pub names_length : (text : Bytes) (arrays : List ℕ) (spans : List KeyRange) → length arrays ≡ length spans → length (keys_of text arrays spans) ≡ length spans
 names_length text [] [] e = refl
 names_length text [] (s ∷ spans) e = absurd (omega (arith, e))

@@ -1,7 +1,7 @@
 -- Chains of items with a label.
-use Rattle.std.proofs.Common.{◌≡◌, ℕ, suc, zero, ◌+◌, ◌-◌, ◌<◌, ◌≤◌, List, [], ◌∷◌, ◌++◌, inl, inr, length, get_or, set, take, replicate, map, refl, sym, ap, ◌∙◌, arith, slice_index, get_or-set_other, get_or-set_same, None, Some}
+use Rattle.std.proofs.Common.{◌≡◌, ℕ, suc, zero, ◌+◌, ◌-◌, ◌<◌, ◌≤◌, List, [], ◌∷◌, ◌++◌, inl, inr, length, get_or, set, take, map, refl, sym, ap, ◌∙◌, arith, slice_index, get_or-set_other, get_or-set_same, None}
 use Rattle.std.proofs.lemmas.Bool.{cases_eq, cases_lt}
-use Rattle.std.proofs.lemmas.List.{get_or_append_left, length-set, map-set, set-get_or, get_or-replicate, get_or_past, get_or-map, length-replicate, length-map, length-append, map-append, get_or_push, get_or-take}
+use Rattle.std.proofs.lemmas.List.{get_or_append_left, length-set, map-set, set-get_or, get_or_past, get_or-map, length-map, length-append, map-append, get_or_push, get_or-take}
 use Rattle.rawk_keys.specs.Nearest.{IsNearest}
 use Rattle.rawk_keys.specs.Linked.{IsPast, IsLinked, chain_of, labels, earliers}
 use Rattle.rawk_keys.specs.declared.chains.Link.{Link}
@@ -64,20 +64,6 @@ linked_append count xs nexts heads ys zs n le le2 h = record {
       rw same (past_append count xs ys i label (slice_index nexts i) (omega arith) (h.link_past i label p (ap (chain_of count) (sym (get_or_append_left xs ys 0 i (omega arith))) ∙ e)));
 }
 
--- no item stands in empty chains
-pub linked_none : (count : ℕ) (xs nexts heads : List ℕ) → length heads ≡ count → ((b : ℕ) → slice_index heads b ≡ 0) → IsLinked count xs nexts heads 0
-linked_none count xs nexts heads size zeros = record {
-  size = size;
-  head_past = λ label. rw (zeros (chain_of count label)) (record { within = omega arith; none = λ j p q. absurd (omega arith); here = λ p. absurd (omega arith) });
-  link_past = λ i label p e. absurd (omega arith);
-}
-
-pub zeros_at : (n b : ℕ) → slice_index (replicate n 0) b ≡ 0
-zeros_at n b = elim (cases_lt b n) [
-  | inl lt ↦ get_or-replicate n b 0 0 lt
-  | inr ge ↦ get_or_past (replicate n 0) b 0 (let k : length (replicate n 0) ≡ n = length-replicate {A = ℕ} n 0 in omega (arith, k))
-]
-
 -- one turn of the walk: the item has another label
 pub past_next : (count : ℕ) (xs nexts heads : List ℕ) (m n label at : ℕ) → IsLinked count xs nexts heads m → 0 < at → at ≤ m → (slice_index xs (at - 1) ≡ label → ⊥) → IsPast count xs n label at → IsPast count xs n label (slice_index nexts (at - 1))
 past_next count xs nexts heads m n label at h pos le ne p =
@@ -100,9 +86,6 @@ next_within count xs nexts heads m at h pos le =
     let q : IsPast count xs (at - 1) (slice_index xs (at - 1)) (slice_index nexts (at - 1)) = h.link_past (at - 1) (slice_index xs (at - 1)) (omega arith) refl in
     q.within
 
-pub found_here : (count : ℕ) (xs : List ℕ) (n label at : ℕ) → 0 < at → slice_index xs (at - 1) ≡ label → IsPast count xs n label at → IsNearest xs n label (Some (at - 1))
-found_here count xs n label at pos e p = (omega (arith, p.within), e, λ j lt less. p.none j (omega arith) less)
-
 pub none_here : (count : ℕ) (xs : List ℕ) (n label at : ℕ) → at ≡ 0 → IsPast count xs n label at → IsNearest xs n label None
 none_here count xs n label at z p = λ j lt. p.none j (omega arith) lt
 
@@ -122,9 +105,6 @@ pub link_next : (count : ℕ) (links : List Link) (heads : List ℕ) (n label at
 link_next count links heads n label at d h pos le ne p =
     let e : slice_index (earliers links) (at - 1) ≡ (get_or links (at - 1) d).earlier = earlier_at links (at - 1) d (omega arith) in
     rw e at (past_next count (labels links) (earliers links) heads (length links) n label at h pos le (λ q. ne (sym (label_at links (at - 1) d (omega arith)) ∙ q)) p)
-
-pub link_found : (count : ℕ) (links : List Link) (n label at : ℕ) (d : Link) → 0 < at → at ≤ length links → (get_or links (at - 1) d).label ≡ label → IsPast count (labels links) n label at → IsNearest (labels links) n label (Some (at - 1))
-link_found count links n label at d pos le e p = found_here count (labels links) n label at pos (label_at links (at - 1) d (omega arith) ∙ e) p
 
 pub empty_heads : (xs nexts heads : List ℕ) (n label : ℕ) → length heads ≡ 0 → IsLinked (length heads) xs nexts heads n → IsNearest xs n label None
 empty_heads xs nexts heads n label z h =

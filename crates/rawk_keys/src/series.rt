@@ -1,6 +1,6 @@
 //! Entries one behind another, whose keys are an array's numbers from one on.
 
-ghost use Rattle.std.specs.Prelude.{◌≡◌, List, IfSome, Some, pos, slice_get};
+ghost use Rattle.std.specs.Prelude.{◌≡◌, List, IfSome, Some, slice_get};
 ghost use Rattle.rawk_value.specs.Values.{text_of};
 ghost use Rattle.rawk_value.specs.declared.value.Value.TheVariants.{Number};
 ghost use Rattle.rawk_keys.specs.ArrayKey.{ArrayKey, array_key};

@@ -1,6 +1,6 @@
 //! A place in a text, which cuts each token as it is reached.
 
-ghost use Rattle.std.specs.Prelude.{◌≡◌, ◌≤◌, length};
+ghost use Rattle.std.specs.Prelude.{◌≡◌, ◌≤◌};
 ghost use Rattle.rawk_lexer.specs.Lex as spec;
 
 use crate::scan;

@@ -1,6 +1,6 @@
 //! The bytes that a string stands for.
 
-ghost use Rattle.std.specs.Prelude.{◌≡◌, ◌≤◌, ◌<◌, length, IfOk, IfSome};
+ghost use Rattle.std.specs.Prelude.{◌≡◌, ◌≤◌, ◌<◌, length, IfOk};
 ghost use Rattle.rawk_lexer.specs.Escape as spec;
 
 use crate::bytes::byte_at;

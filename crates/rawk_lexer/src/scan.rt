@@ -1,6 +1,6 @@
 //! Cuts the token at the front of a text.
 
-ghost use Rattle.std.specs.Prelude.{◌≡◌, ◌≢◌, ◌<◌, ◌≤◌, ◌+◌, ◌^◌, length, map, IfSome, false};
+ghost use Rattle.std.specs.Prelude.{◌≡◌, ◌≢◌, ◌<◌, ◌≤◌, ◌+◌, ◌^◌, length, IfSome, false};
 ghost use Rattle.rawk_lexer.specs.Lex as spec;
 
 use crate::bytes::byte_at;

@@ -60,7 +60,7 @@ impl<R: Source + Drop, K: Keeper> Machine<R, K> {
         self.store.arrays.len()
     }
 
-    /// How many elements an array has, by its number from 0. It is linear in the slots of the array.
+    /// How many elements an array has, by its number from 0, at once.
     pub fn element_count(&self, array: usize) -> usize
         ensures { result ≡ len (array_at array self.now.state.arrays) }
     {

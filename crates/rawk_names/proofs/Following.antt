@@ -137,12 +137,6 @@ links_more xs i x froms tos froms' tos' v p h held is f t links =
     same : length (froms ++ v ∷ []) ≡ length (tos ++ p ∷ [])
     same = omega (arith, links.size, length-append froms (v ∷ []), length-append tos (p ∷ []))
 
-pub no_links : (uses : List Usage) (froms tos : List ℕ) → froms ≡ [] → tos ≡ [] → AreLinks (take 0 uses) froms tos
-no_links uses froms tos f t = rw (f, t) (record { size = refl; sound = λ e h. absurd (omega (arith, h)); there = λ v p s. absurd (none s); back = λ v p s. absurd (none s) })
-  where
-    none : {w : What} → Stands [] w → ⊥
-    none s = let h : s.0 < 0 = slice_get_within [] s.0 s.1 s.2 in omega (arith, h)
-
 -- ---- the links of one variable
 
 abbrev pub ahead : Option ℕ → ℕ
@@ -228,9 +222,6 @@ none_marked uses f p n a b below = rw (a, b) (record {
 
 -- ---- the links of one variable, from the newest on
 
-pub done_none : (froms tos : List ℕ) (flags : List Bool) (v : ℕ) (at : Option ℕ) → length froms ≡ length tos → IsNearest froms (length froms) v at → IsDone froms tos flags v at
-done_none froms tos flags v at same h = (length froms, omega arith, h, λ e a b is. absurd (omega (arith, a, b, same)))
-
 pub done_more : (froms tos : List ℕ) (f g : List Bool) (v e : ℕ) (next : Option ℕ) → Keeps f g → is_marked g (slice_index tos e) ≡ true → IsDone froms tos f v (Some e) → IsNearest froms e (slice_index froms e) next → IsDone froms tos g v next
 done_more froms tos f g v e next kept here before after =
     (e, omega (arith, before.1, before.2.0), subst (λ (k : ℕ). IsNearest froms e k next) before.2.1 after, links)
@@ -242,13 +233,6 @@ done_more froms tos f g v e next kept here before after =
         at false p t q = kept _ (before.3 k (ltb-false _ _ p) b is)
         at true p true q = absurd (before.2.2 k (ltb-true _ _ q) (ltb-true _ _ p) is)
         at true p false q = let same : e ≡ k = omega (arith, a, ltb-false _ _ q) in subst (λ (i : ℕ). is_marked g (slice_index tos i) ≡ true) same here
-
-pub done_all : (froms tos : List ℕ) (flags : List Bool) (v : ℕ) → length froms ≡ length tos → IsDone froms tos flags v None → IsClosed froms tos flags v
-done_all froms tos flags v same done e h is = at (nat_lt e done.0) refl
-  where
-    at : (t : Bool) → nat_lt e done.0 ≡ t → is_marked flags (slice_index tos e) ≡ true
-    at true p = absurd (done.2 e (ltb-true _ _ p) is)
-    at false p = done.3 e (ltb-false _ _ p) h is
 
 -- one link, followed
 pub followed_link : (froms tos : List ℕ) (v e t : ℕ) (f g k : List Bool) (p q r : List ℕ) (at next : Option ℕ) → length froms ≡ length tos → ((i : ℕ) → i < length tos → slice_index tos i < length f) → at ≡ Some e → t ≡ slice_index tos e

@@ -4,7 +4,7 @@ use Rattle.std.proofs.lemmas.List.{take_more}
 use Rattle.rawk_parsing.specs.declared.tree.Name.{Name}
 use Rattle.rawk_grammar.specs.declared.tree.Item.{Item}
 use Rattle.rawk_names.specs.Noted.{Noted}
-use Rattle.rawk_names.specs.Items.{with_globals, with_variable, parameter_defined, parameters_defined, defined, all_defined, parameter_checked, parameters_checked, item_noted, all_noted}
+use Rattle.rawk_names.specs.Items.{parameter_defined, parameters_defined, defined, all_defined, parameter_checked, parameters_checked, item_noted, all_noted}
 
 -- one item more
 pub part_more : {X : Type 0} (every : List X → Noted → Noted) (one : X → Noted → Noted) → ((xs : List X) (x : X) (n : Noted) → every (xs ++ x ∷ []) n ≡ one x (every xs n)) → (xs : List X) (i : ℕ) (x : X) (old mid new : Noted)
@@ -12,10 +12,6 @@ pub part_more : {X : Type 0} (every : List X → Noted → Noted) (one : X → N
 part_more {X} every one push xs i x old mid new h held done more =
     let t : take (i + 1) xs ≡ take i xs ++ x ∷ [] = take_more xs i x h ∙ ap (λ (y : X). take i xs ++ y ∷ []) (sym held) in
     more ∙ (ap (one x) done ∙ (sym (push (take i xs) x old) ∙ ap (λ (ys : List X). every ys old) (sym t)))
-
-pub with_globals-push : (xs : List (List ℕ)) (x : List ℕ) (n : Noted) → with_globals (xs ++ x ∷ []) n ≡ with_variable 0 x (with_globals xs n)
-with_globals-push [] x n = refl
-with_globals-push (y ∷ xs) x n = with_globals-push xs x (with_variable 0 y n)
 
 pub parameters_defined-push : (scope : ℕ) (xs : List Name) (x : Name) (n : Noted) → parameters_defined scope (xs ++ x ∷ []) n ≡ parameter_defined scope x (parameters_defined scope xs n)
 parameters_defined-push scope [] x n = refl

@@ -1,6 +1,6 @@
 //! The names of expressions, in the order of the text.
 
-ghost use Rattle.std.specs.Prelude.{◌≡◌, [], ◌∷◌, map, OnOk, option_copied};
+ghost use Rattle.std.specs.Prelude.{◌≡◌, [], map, OnOk, option_copied};
 ghost use Rattle.rawk_parsing.specs.declared.tree.Name.{Name};
 ghost use Rattle.rawk_names.specs.Mentions.{AsArray, all, builtin_arguments, builtin_at, builtin_name, call_arguments, call_at, every, link_mentions, mentions, place_mentions, place_seen, seen};
 ghost use Rattle.rawk_names.specs.Noted.{Noted, named, noted, noted_all, shown};

@@ -2,7 +2,7 @@
 
 ghost use Rattle.std.specs.Prelude.{◌≡◌, OnOk};
 ghost use Rattle.rawk_names.specs.Items as spec;
-ghost use Rattle.rawk_names.specs.Noted.{noted_all, shown};
+ghost use Rattle.rawk_names.specs.Noted.{shown};
 
 use crate::register::Register;
 use crate::statements::{note_action, note_pattern, note_statements};

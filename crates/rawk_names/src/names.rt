@@ -1,6 +1,6 @@
 //! What the names of a program are.
 
-ghost use Rattle.std.specs.Prelude.{◌≡◌, ◌<◌, ◌+◌, ◌-◌, ℕ, Some, IfOk, IfErr, MatchOption, length, slice_get};
+ghost use Rattle.std.specs.Prelude.{◌≡◌, ◌<◌, ◌-◌, Some, IfOk, IfErr, MatchOption, length, slice_get};
 ghost use Rattle.rawk_keys.specs.ArrayKey.{ArrayKey, array_key};
 ghost use Rattle.rawk_names.specs.Table.{place_of};
 ghost use Rattle.rawk_names.specs.Items.{program};

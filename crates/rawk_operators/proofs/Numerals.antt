@@ -1,5 +1,5 @@
 -- Texts that are no numbers by their first byte.
-use Rattle.std.proofs.Common.{◌≡◌, ℕ, Bool, true, false, nat_lt, ◌==◌, ◌||◌, [], ◌∷◌, get_or, refl, arith, true≢false, sym}
+use Rattle.std.proofs.Common.{◌≡◌, ℕ, true, false, nat_lt, ◌==◌, ◌||◌, [], ◌∷◌, get_or, refl, arith, true≢false, sym}
 use Rattle.std.proofs.lemmas.Bool.Decides.{nat_tests}
 use Rattle.rawk_value.specs.Values.{Bytes, is_blank, is_digit, is_numeric}
 

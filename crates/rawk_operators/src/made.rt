@@ -1,7 +1,7 @@
 //! What operators make of values in place.
 
-ghost use Rattle.std.specs.Prelude.{◌≡◌, IfOk, not, Ok};
-ghost use Rattle.rawk_value.specs.Values.{flag, next_ok};
+ghost use Rattle.std.specs.Prelude.{◌≡◌, IfOk, Ok};
+ghost use Rattle.rawk_value.specs.Values.{flag};
 ghost use Rattle.rawk_operators.specs.Borrowed.{borrowed_value};
 ghost use Rattle.rawk_operators.specs.Operators.{both_make, one_makes, signed};
 

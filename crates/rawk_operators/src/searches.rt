@@ -2,7 +2,7 @@
 
 ghost use Rattle.std.specs.Prelude.{◌≡◌, IfOk, Ok};
 ghost use Rattle.std.specs.Option.{IfSome};
-ghost use Rattle.rawk_value.specs.Values.{next_ok, text_of};
+ghost use Rattle.rawk_value.specs.Values.{next_ok};
 ghost use Rattle.rawk_operators.specs.Borrowed.{borrowed_value};
 ghost use Rattle.rawk_operators.specs.Operators.{found_in, found_or, matched, replaced_in, told};
 ghost use Rattle.rawk_replacements.specs.Replaced.{made_with, replaced_by};

@@ -1,6 +1,6 @@
 //! The steps that the rules are made of.
 
-ghost use Rattle.std.specs.Prelude.{◌≡◌, ℕ, Option};
+ghost use Rattle.std.specs.Prelude.{◌≡◌};
 ghost use Rattle.rawk_parsing.specs.Constant.{constant as spec_constant};
 ghost use Rattle.rawk_parsing.specs.Parser as spec;
 ghost use Rattle.rawk_parsing.specs.Parser.{Parses};

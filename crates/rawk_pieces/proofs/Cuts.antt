@@ -2,14 +2,13 @@
 use Rattle.std.proofs.Common.{◌≡◌, ◌≢◌, min, max, not, nat_lt, ◌||◌, ◌≤◌, ◌<◌, ◌+◌, ◌-◌, ℕ, Bool, true, false, cond, List, [], ◌∷◌, length, ◌++◌, take, drop, get_or, slice_range, arith, subst, sym, ◌∙◌, ap, refl, inl, inr}
 use Rattle.std.specs.List.{slice_split, filter, All}
 use Rattle.std.proofs.lemmas.List.{length-drop, length-take-le, get_or-drop, get_or-take, drop_more, drop_all, take-append-drop, drop-drop, get_or_default, append-nil, append_assoc, map_push, map-append, take_more}
-use Rattle.std.proofs.lemmas.List.Elements.{All-nil}
 use Rattle.std.proofs.lemmas.Bool.{cases_lt, cases_Bool, ne_eqb, lt-ltb, le-ltb}
 use Rattle.std.proofs.lemmas.List.Splits.{slice_split_none, slice_split_at}
 use Rattle.std.specs.Int.{bit_at}
 use Rattle.std.proofs.lemmas.Nat.Bits.{bit_at-zero}
 use Rattle.rawk_pieces.specs.Laws.{AllInRange-push}
 use Rattle.rawk_pieces.specs.Masks.{IsMaskFrom}
-use Rattle.rawk_pieces.specs.Pieces.{texts, IsInRange, AllInRange, IsCut, runs_by, run_piece, has_bytes, singles}
+use Rattle.rawk_pieces.specs.Pieces.{texts, AllInRange, IsCut, runs_by, run_piece, has_bytes, singles}
 use Rattle.rawk_pieces.specs.declared.pieces.Piece.{Piece}
 
 -- a text is a front part and the rest
@@ -44,9 +43,6 @@ pub has_bytes-part : (text : List ℕ) (start end : ℕ) → start < end → end
 has_bytes-part text start end low high =
     let some : length (slice_range text start end) ≢ 0 = omega (arith, length-take-le (end - start) (drop start text), length-drop start text) in
     ap not (ne_eqb (length (slice_range text start end)) 0 some)
-
-pub nothing_in_range : (text : List ℕ) (pieces : List Piece) → pieces ≡ [] → AllInRange text pieces
-nothing_in_range text pieces e = subst (AllInRange text) (sym e) (All-nil (IsInRange text))
 
 -- one byte more
 pub singles-step : (text : List ℕ) (old new : List Piece) (start : ℕ) → new ≡ old ++ record { start = start; end = start + 1 } ∷ [] → texts text old ≡ singles (take start text) → start < length text → texts text new ≡ singles (take (start + 1) text)
@@ -93,16 +89,6 @@ in_range-run b text old new start end e all low high =
       | inl t ↦ AllInRange-push text old new start end (e ∙ ap (λ c. old ++ cond c (record { start = start; end = end } ∷ []) []) t) all low high
       | inr f ↦ subst (AllInRange text) (sym (e ∙ (ap (λ c. old ++ cond c (record { start = start; end = end } ∷ []) []) f ∙ append-nil old))) all
     ]
-
--- nothing is cut yet
-pub IsCut-start : (p : ℕ → Bool) (b : Bool) (text : List ℕ) (pieces : List Piece) → pieces ≡ [] → IsCut p b text pieces 0 0
-IsCut-start p b text pieces e = record {
-  so_far = ap (λ (x : List Piece). texts text x ++ runs_by b p text) e;
-  low = omega arith;
-  high = omega arith;
-  none = λ k l h. absurd (omega arith);
-  in_range = nothing_in_range text pieces e;
-}
 
 -- more bytes that are no separators
 pub IsCut-skip : (p : ℕ → Bool) (b : Bool) (text : List ℕ) (pieces : List Piece) (start n m : ℕ) → IsCut p b text pieces start n → n ≤ m → m ≤ length text → ((k : ℕ) → n ≤ k → k < m → p (get_or text k 0) ≡ false) → IsCut p b text pieces start m

@@ -6,7 +6,7 @@ use Rattle.std.proofs.Math.Seq.{get_or-append_seam}
 use Rattle.rawk_pieces.specs.Nth.{IsCounted, IsNth, IsPassed}
 use Rattle.rawk_pieces.specs.Pieces.{IsCut, runs_by, run_piece, texts}
 use Rattle.rawk_pieces.specs.declared.pieces.Piece.{Piece}
-use Rattle.rawk_pieces.proofs.Cuts.{IsCut-start, IsCut-end, IsCut-last, run-step}
+use Rattle.rawk_pieces.proofs.Cuts.{IsCut-end, IsCut-last, run-step}
 
 -- how many pieces a run gives
 passes : (c : Bool) (r : Piece) (more left : ℕ) → (if c then more + 1 else more) ≡ left → length (cond c (r ∷ []) []) + more ≡ left
@@ -24,10 +24,6 @@ piece_in : (c : Bool) (r : Piece) → c ≡ true → cond c (r ∷ []) [] ≡ r 
 piece_in c r e = ap (λ b. cond b (r ∷ []) []) e
 
 module _ (p : ℕ → Bool) (b : Bool) (text : List ℕ) (place : ℕ) where
-  -- nothing is counted yet
-  pub counted_start : IsCounted p b text place 0 0 place
-  counted_start = record { pieces = []; cut = IsCut-start p b text [] refl; count = omega arith }
-
   -- a run that is not the one that is sought
   pub counted_end : (start end left more : ℕ) → (c : IsCounted p b text place start end left) → end < length text → p (get_or text end 0) ≡ true → IsPassed (b || nat_lt start end) left (Some more) → IsCounted p b text place (end + 1) (end + 1) more
   counted_end start end left more c inside here passed =

@@ -13,7 +13,6 @@ use Rattle.rawk_pieces.specs.Pieces.{texts, AllInRange}
 use Rattle.rawk_pieces.specs.Separators.{IsAhead, IsParted}
 use Rattle.rawk_pieces.specs.declared.pieces.Piece.{Piece}
 use Rattle.rawk_pieces.specs.declared.matches.Ahead.{Ahead}
-use Rattle.rawk_pieces.proofs.Cuts.{nothing_in_range}
 use Rattle.rawk_pieces.proofs.Newlines.{line_within}
 
 nearer_one : (a b : Option Span) (m : Span) → nearer a b ≡ Some m → (a ≡ Some m) ⊎ (b ≡ Some m)
@@ -49,17 +48,6 @@ texts-push s old new start end e = ap (texts s) e ∙ map_push (λ (q : Piece). 
 
 count-push : (old new : List Piece) (p : Piece) → new ≡ old ++ p ∷ [] → length new ≡ length old + 1
 count-push old new p e = ap length e ∙ length_push old p
-
--- nothing is cut yet
-pub parted-start : (e : Tree) (newline : Bool) (s : Bytes) (pieces : List Piece) (from : ℕ) → pieces ≡ [] → from ≡ 0 → IsParted e newline s pieces from
-parted-start e newline s pieces from none zero_from =
-    let n : length pieces ≡ 0 = ap length none in
-    let turns : length s + 1 - length pieces ≡ length s + 1 = omega arith in
-    record {
-      so_far = ap (λ (x : List Piece). texts s x ++ between (next_separator e newline s) s (length s + 1 - length pieces) from) none ∙ (ap (λ k. between (next_separator e newline s) s k from) turns ∙ ap (between (next_separator e newline s) s (length s + 1)) zero_from);
-      few = omega arith;
-      in_range = nothing_in_range s pieces none;
-    }
 
 -- a separator
 pub parted-step : (e : Tree) (newline : Bool) (s : Bytes) (old new : List Piece) (from : ℕ) (cut : Span) → IsParted e newline s old from → next_separator e newline s from ≡ Some cut → new ≡ old ++ record { start = from; end = cut.start } ∷ [] → IsParted e newline s new cut.end

@@ -71,16 +71,25 @@ fn separator_in<'a>(globals: &'a Cells, separator: usize, digits: &'a mut Buffer
     }
 }
 
-/// The byte that a separator is; none of one of more bytes or of none, and of one that is not text of the program.
+/// The byte that a text is; none of one of more bytes or of none.
+#[inline(always)]
+fn only_byte(text: &[u8]) -> Option<u8>
+    ensures { IfSome result (λ byte. text.now ≡ byte ∷ []) }
+{
+    match text {
+        [byte] => Some(*byte),
+        _ => None,
+    }
+}
+
+/// The byte that a separator is; none of a text of more bytes or of none, and of a number.
 #[inline(always)]
 fn separator_byte(globals: &Cells, separator: usize) -> Option<u8>
     ensures { IfSome result (λ byte. text_of (global_in separator globals.now.now) ≡ byte ∷ []) }
 {
     match globals.value(separator) {
-        Some(Value::String(text)) => match text.as_slice() {
-            [byte] => Some(*byte),
-            _ => None,
-        },
+        Some(Value::String(text)) => only_byte(text.as_slice()),
+        Some(Value::Input(text)) => only_byte(text.as_slice()),
         _ => None,
     }
 }
@@ -297,13 +306,8 @@ fn held_record<R: Source + Drop>(globals: &Cells, tape: &Tape<R>) -> Option<Foun
     ensures within { IfSome result (λ found. IsWithin tape.now.bytes tape.now.consumed (Ok (Some found))) }
     ensures line { IfSome result (λ found. is_empty (text_of (global_in RS globals.now.now)) ≡ false) }
 {
-    match globals.value(RS) {
-        Some(Value::String(text)) => match text.as_slice() {
-            [byte] => tape.held_line(*byte),
-            _ => None,
-        },
-        _ => None,
-    }
+    let byte = separator_byte(globals, RS)?;
+    tape.held_line(byte)
 }
 
 /// Reads a record, whatever separates records: it becomes the present one and is counted, all or nothing. It fails where memory is refused; bytes may be read

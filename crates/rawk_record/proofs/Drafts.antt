@@ -1,6 +1,6 @@
 -- Fields that are added to a record in the making.
 use Rattle.std.proofs.Common.{◌≡◌, ◌≤◌, ◌<◌, ◌+◌, ◌-◌, ℕ, zero, suc, Bool, true, cond, List, [], ◌∷◌, Option, None, Some, length, ◌++◌, take, drop, get_or, slice_range, nat_lt, arith, sym, ◌∙◌, ap, refl, map, max, replicate, inl, inr, append_assoc}
-use Rattle.std.proofs.lemmas.List.{length-append, append-nil, drop-append-le, take-append-le, drop_at, take_all, take_more, length-drop, length-take, length-replicate, length-map, map_push, drop_all, drop-drop, set_split}
+use Rattle.std.proofs.lemmas.List.{length-append, append-nil, drop-append-le, take-append-le, drop_at, take_all, take_more, length-drop, length-take, length-replicate, length-map, map_push, drop-drop, set_split}
 use Rattle.std.proofs.Math.Seq.{take-add}
 use Rattle.std.proofs.lemmas.Grind.{replicate_next}
 use Rattle.std.proofs.lemmas.Bool.{lt-ltb, cases_lt}
@@ -12,7 +12,7 @@ use Rattle.rawk_pieces.specs.Laws.{AllInRange-push}
 use Rattle.rawk_pieces.specs.Pieces.{IsInRange, AllInRange}
 use Rattle.rawk_record.specs.Shown.{values, piece_value}
 use Rattle.rawk_record.specs.Changed.{joined, resized, with_value}
-use Rattle.rawk_record.specs.Drafts.{values_of, with_ahead, IsDraft, IsDraftOf, IsKept, IsOwn}
+use Rattle.rawk_record.specs.Drafts.{values_of, with_ahead, IsDraftOf, IsKept, IsOwn}
 use Rattle.rawk_pieces.specs.declared.pieces.Piece.{Piece}
 use Rattle.rawk_record.specs.declared.parts.Parts.{Parts}
 use Rattle.rawk_record.proofs.Values.{length-values}
@@ -152,17 +152,6 @@ ahead-more text from separator needed ahead piece n a p at is =
     ∙ (sym (append_assoc (text ++ first) separator last)
     ∙ ap (λ b. ((text ++ first) ++ cond b separator []) ++ last) (sym n)))
 
-pub none-ahead : (text from : Bytes) → with_ahead text from (record { start = 0; end = 0 }) ≡ text
-none-ahead text from = append-nil text
-
--- no text and no fields
-pub empty-draft : (separator : Bytes) (parts : Parts) → parts.text.items ≡ [] → parts.pieces.items ≡ [] → parts.kept.items ≡ [] → IsDraft separator parts
-empty-draft separator parts text pieces kept = record {
-  aligned = omega (arith, ap length kept);
-  placed = λ k d h. absurd (omega (arith, ap length pieces));
-  text = text ∙ ap (λ (x : List Piece). joined separator (map text_of (values parts.text.items x parts.kept.items))) (sym pieces);
-}
-
 pub empty-fields : (parts : Parts) → parts.pieces.items ≡ [] → values_of parts ≡ []
 empty-fields parts pieces = ap (λ (x : List Piece). values parts.text.items x parts.kept.items) pieces
 
@@ -200,9 +189,6 @@ resized-more n fields =
 pub rest-more : (from n : ℕ) (fields : List Value) → from ≤ n → drop from (resized (n + 1) fields) ≡ drop from (resized n fields) ++ get_or fields n Uninitialized ∷ []
 rest-more from n fields low =
     ap (drop from) (resized-more n fields) ∙ drop-append-le from (resized n fields) (get_or fields n Uninitialized ∷ []) (omega (arith, length-resized n fields))
-
-pub rest-none : (n : ℕ) (fields : List Value) → drop n (resized n fields) ≡ []
-rest-none n fields = drop_all n (resized n fields) (omega (arith, length-resized n fields))
 
 take-resized-add : (n k : ℕ) (fields : List Value) → take n (resized (n + k) fields) ≡ resized n fields
 take-resized-add n zero fields = let e : n + 0 ≡ n = omega arith in ap (λ m. take n (resized m fields)) e ∙ take_all n (resized n fields) (omega (arith, length-resized n fields))

@@ -123,9 +123,6 @@ first_of_cuts s e m is = elim (cases_lt m.start m.end) [
 pub no_cuts : (s : Bytes) (e : Tree) → None ≡ next_cut s e 0 None → cuts s e ≡ []
 no_cuts s e is = cuts_none s e 0 None (sym is)
 
-pub first_within : (s : Bytes) (e : Tree) (m : Span) → Some m ≡ next_cut s e 0 None → IsWithin 0 s m
-first_within s e m is = cut_within s e 0 None m (sym is)
-
 pub made_first : (by s text : Bytes) (count : ℕ) (e : Tree) (m : Span) → Some m ≡ next_cut s e 0 None → text ≡ replaced by s 0 (m ∷ []) → count ≡ 1 → Some (record { text = text; count = count }) ≡ made by s (taken First (cuts s e))
 made_first by s text count e m is whole counted =
     let all = first_of_cuts s e m is in

@@ -11,7 +11,7 @@ use Rattle.rawk_tree.specs.declared.tree.Link.{Link}
 use Rattle.rawk_tree.specs.declared.tree.Link.TheVariants as tree_link
 use Rattle.rawk_tree.specs.declared.tree.Place.TheVariants as tree_place
 use Rattle.rawk_resolution.specs.Calls as spec
-use Rattle.rawk_resolution.specs.Calls.{Applies, bare_of, unary_of, binary_of, has_builtin}
+use Rattle.rawk_resolution.specs.Calls.{Applies, bare_of, unary_of, binary_of}
 
 pub bare_applies : (f : Builtin) (u : Unary) (s t : Box Expr) → Some u ≡ bare_of f → s.value ≡ tree.Read (tree_place.Field t) → t.value ≡ tree.Number (pos 0) → Applies f [] (tree.Unary u s)
 bare_applies f u s t found whole number = spec.of_none u s t (sym found) whole number

@@ -1,5 +1,5 @@
 -- Expressions in order, from their parts.
-use Rattle.std.proofs.Common.{◌≡◌, ℕ, ◌<◌, ◌≤◌, suc, Bool, true, false, ◌&&◌, ◌||◌, List, [], ◌∷◌, ◌++◌, length, take, drop, map, get_or, slice_get, Option, Some, None, refl, sym, ap, subst, ◌∙◌, arith}
+use Rattle.std.proofs.Common.{◌≡◌, ℕ, ◌<◌, ◌≤◌, suc, Bool, true, false, ◌&&◌, ◌||◌, List, [], ◌∷◌, ◌++◌, length, take, drop, map, get_or, slice_get, Option, Some, None, refl, sym, ap, ◌∙◌, arith}
 use Rattle.std.proofs.lemmas.List.{take-append-drop, length-map, length-take-le, map-append}
 use Rattle.std.proofs.Math.Seq.{drop-cons}
 use Rattle.rawk_keywords.specs.declared.builtin.Builtin.{Builtin}
@@ -140,9 +140,6 @@ call_is m n xs = ap (in_order m) (sym (rolls-Call n xs)) ∙ in_order_roll m (ex
 pub is_called : (m : Sense) (o : Option ℕ) (cs : List Use) → calls m o cs ≡ true → is_there o ≡ true
 is_called m None cs h = h
 is_called m (Some f) cs h = refl
-
-pub call_fit : (m : Sense) (o : Option ℕ) (f : ℕ) (cs : List Use) → o ≡ Some f → calls m o cs ≡ true → all_fit (m.kinds f) cs ≡ true
-call_fit m o f cs is h = subst (λ (z : Option ℕ). calls m z cs ≡ true) is h
 
 pass_stops : (ks : List Kind) (cs : List Use) (c : Use) (ds : List Use) → fits (slice_get ks (length cs)) c ≡ false → all_fit ks (cs ++ c ∷ ds) ≡ false
 pass_stops [] [] c ds here = refl

@@ -111,9 +111,6 @@ items_if (suc fuel) p s = items_by fuel p s (items_if fuel) (closes p s) refl
 abbrev bracket_by : List ℕ → Bool → Option (Token × List ℕ)
 bracket_by s b = if b then bracketed true (items (length s + 1) First (drop 1 s)) else bracketed false (items (length s + 1) First s)
 
-abbrev ranges_found : List (ℕ × ℕ) → List ℕ → Option (List (ℕ × ℕ) × List ℕ)
-ranges_found rs rest = Some (rs, rest)
-
 shorter : (s : List ℕ) → length (drop 1 s) < length s + 1
 shorter [] = omega arith
 shorter (b ∷ s) = omega arith

@@ -109,11 +109,6 @@ IsJournal-add {T} items marks saved v h = record {
 pub IsJournal-none : {T : Type 0} (items : List T) (marks : List ℕ) → length marks ≡ length items → IsJournal items marks []
 IsJournal-none items marks h = record { marked = h; below = tt; once = λ j e q. absurd (cc q) }
 
-pub slice_get_push : {T : Type 0} (xs : List T) (x : T) (i : ℕ) → i ≡ length xs → slice_get (xs ++ x ∷ []) i ≡ Some x
-slice_get_push [] x i e = rw e refl
-slice_get_push (y ∷ ys) x zero e = absurd (omega (arith, e))
-slice_get_push (y ∷ ys) x (suc i) e = slice_get_push ys x i (omega (arith, e))
-
 -- an entry with another old value stands at the same place
 pub places-set : {T : Type 0} (xs : List (Saved T)) (i : ℕ) (e d : Saved T) → e.place ≡ (get_or xs i d).place → places (set xs i e) ≡ places xs
 places-set [] i e d h = refl

@@ -1,6 +1,6 @@
 //! Old values, each with its place.
 
-ghost use Rattle.std.specs.Prelude.{◌≡◌, ◌<◌, ◌≤◌, ◌↔◌, [], IsTrue, drop, length, map, slice_index, take};
+ghost use Rattle.std.specs.Prelude.{◌≡◌, ◌<◌, ◌≤◌, ◌↔◌, [], IsTrue, drop, length, slice_index, take};
 ghost use Rattle.rawk_slots.specs.Back.{back, AreBelow, AreDistinctFrom, IsSavedAt, places};
 
 use std::mem;

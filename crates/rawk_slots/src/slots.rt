@@ -1,6 +1,6 @@
 //! Slots whose content can be put back as it stood when the step began.
 
-ghost use Rattle.std.specs.Prelude.{◌≡◌, ◌<◌, ◌≤◌, ◌+◌, ◌++◌, ◌∷◌, [], ℕ, IfSome, IsSome, List, OnErr, OnOk, Some, drop, if◌then◌else◌, length, slice_get, slice_range, slice_set, take, vec_len};
+ghost use Rattle.std.specs.Prelude.{◌≡◌, ◌<◌, ◌≤◌, ◌+◌, ◌++◌, ◌∷◌, [], IfSome, IsSome, List, OnErr, OnOk, Some, drop, if◌then◌else◌, length, slice_get, slice_range, slice_set, take, vec_len};
 ghost use Rattle.std.specs.Bool.{OnFalse, OnTrue};
 ghost use Rattle.std.specs.Borrow.{sem};
 ghost use Rattle.std.specs.Vec.{vec_capacity};

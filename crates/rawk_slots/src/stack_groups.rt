@@ -1,6 +1,6 @@
 //! What steps changed in a stack, behind one another.
 
-ghost use Rattle.std.specs.Prelude.{◌≡◌, ◌<◌, ◌+◌, ◌≤◌, [], IfOk, OnErr, OnOk, drop, length, take, vec_len};
+ghost use Rattle.std.specs.Prelude.{◌≡◌, ◌<◌, ◌+◌, [], OnOk, length, vec_len};
 ghost use Rattle.rawk_slots.specs.Journaled.{at_rest};
 ghost use Rattle.rawk_slots.specs.Stacked.{IsLive};
 ghost use Rattle.rawk_slots.specs.StackBack.{FitsStackIf, stack_in};

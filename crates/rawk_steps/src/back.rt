@@ -1,7 +1,7 @@
 //! The way back, over the parts.
 
 ghost use Rattle.std.specs.Prelude.{◌≡◌, ◌∷◌, ◌<◌, ◌-◌, List, IfNone, IfOk, OnOk, OnErr, length, reverse, take, vec_capacity, vec_len};
-ghost use Rattle.rawk_code.specs.Actions.{SetAt, fault_of};
+ghost use Rattle.rawk_code.specs.Actions.{fault_of};
 ghost use Rattle.rawk_store.specs.Groups.{Group};
 ghost use Rattle.rawk_history.specs.Steps.{Kept};
 ghost use Rattle.rawk_store.specs.GroupBack.{FitsIn};

@@ -14,9 +14,9 @@ use Rattle.rawk_arrays.specs.Elements.{Elements}
 use Rattle.rawk_arrays.specs.Laid.{Laid, GrownArrays, IsLaid, arrays_of}
 use Rattle.rawk_arrays.specs.ArraysLaws.{arrays_of-grown, GrownArrays-refl, GrownArrays-trans, GrownArrays-back, FitsArrays-grown, IsLaid-back}
 use Rattle.rawk_frames.specs.Frame.{Frame}
-use Rattle.rawk_frames.specs.LaidFrames.{LaidFrames, AreNested, GrownFrames, frames_of}
+use Rattle.rawk_frames.specs.LaidFrames.{LaidFrames, GrownFrames, frames_of}
 use Rattle.rawk_frames.specs.LaidKeys.{AreKeysLive, GrownKeys}
-use Rattle.rawk_frames.specs.FramesLaws.{frames_of-grown, keys_of-grown, GrownFrames-refl, GrownFrames-trans, GrownFrames-back, GrownKeys-refl, GrownKeys-trans, GrownKeys-back, FitsFrames-grown, FitsKeys-grown, AreFramesLive-back, AreKeysLive-back, AreNested-grown}
+use Rattle.rawk_frames.specs.FramesLaws.{frames_of-grown, keys_of-grown, GrownFrames-refl, GrownFrames-trans, GrownFrames-back, GrownKeys-refl, GrownKeys-trans, GrownKeys-back, FitsFrames-grown, FitsKeys-grown, AreFramesLive-back, AreKeysLive-back}
 use Rattle.rawk_record.specs.Shown.{Shown, record_back}
 use Rattle.rawk_store.specs.declared.registers.Registers.{Registers}
 use Rattle.rawk_store.specs.declared.rare_changes.FewGroup.{FewGroup}
@@ -244,7 +244,3 @@ pub IsSound-put_back : (l : Layout) (group : Group) → FitsIn group l → IsSou
 IsSound-put_back l group h s =
     let o = IsSound-others l group.others h.others s in
     record { arrays = o.arrays; frames = AreFramesLive-back l.frames group.frames h.frames; nested = h.frames.nested; keys = o.keys; operands = IsLive-stack_in l.operands group.operands h.operands }
-
--- the activations of what has grown are nested
-pub nested-grown : (l m : Layout) → Grown l m → IsSound l → AreNested m.frames
-nested-grown l m g s = AreNested-grown l.frames m.frames g.frames s.frames s.nested

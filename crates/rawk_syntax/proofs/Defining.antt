@@ -17,7 +17,7 @@ use Rattle.rawk_names.specs.Arrays.{Stands}
 use Rattle.rawk_names.specs.Mentions.{Mention, AsScalar, AsArray, Measured, Passed, Computed, Called, Pattern}
 use Rattle.rawk_names.specs.Noted.{Word, Noted, with_use, outer_at, meant_at, meant, use_of, named, parameter_of, parameter_at, parameter, takes, manner_of, computed_at, computed, called, pattern, noted, noted_all}
 use Rattle.rawk_names.specs.Statements.{action_mentions, pattern_mentions, given_mentions}
-use Rattle.rawk_names.specs.Items.{with_variable, start, parameter_defined, parameters_defined, begun, signed, function_in, function_at, function_defined, defined, all_defined, checked_at, parameter_checked, parameters_checked, within, scope_of, inside, item_noted, all_noted}
+use Rattle.rawk_names.specs.Items.{with_variable, start, parameter_defined, parameters_defined, begun, function_in, function_at, function_defined, defined, all_defined, checked_at, parameter_checked, parameters_checked, inside, item_noted, all_noted}
 use Rattle.rawk_names.specs.Items as x
 use Rattle.rawk_special.specs.Special.{is_special}
 use Rattle.rawk_resolution.specs.InOrder.{functions_behind}

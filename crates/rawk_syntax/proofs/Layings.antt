@@ -1,6 +1,6 @@
 -- The steps of settling statements and items, over plain variables.
 use Rattle.std.proofs.Common.{◌≡◌, ℕ, ◌+◌, ◌-◌, ◌<◌, suc, List, [], ◌∷◌, ◌++◌, length, take, get_or, Option, None, Some, Result, Ok, Err, IfOk, OnOk, refl, sym, ap, subst, ◌∙◌, pos, arith}
-use Rattle.std.proofs.lemmas.List.{take_more, length-append}
+use Rattle.std.proofs.lemmas.List.{take_more}
 use Rattle.std.specs.Global.{Box, Vec}
 use Rattle.rawk_parsing.specs.declared.tree.Expr as parsed
 use Rattle.rawk_parsing.specs.declared.tree.Place as spot
@@ -318,11 +318,6 @@ function_laid means (Ok a) text x left name parameters takes ss zs k m n p q is 
     let f' : Defines text (means (suc (length p.functions.items))) (length p.functions.items) left name parameters ss h.0 m n = subst (λ z. Defines text (means z) (length p.functions.items) left name parameters ss h.0 m n) scope f in
     rw (is, rest, h.2) (spec.function left before f')
 function_laid means (Err e) text x left name parameters takes ss zs k m n p q is list same count rest h = tt
-
--- one more than there were
-pub added : {A B E : Type 0} (P : A → Type 0) (r : Result B E) (before after : List A) → OnOk r (Adds P before after) → OnOk r (length after ≡ suc (length before))
-added P (Ok b) before after h = ap length h.2 ∙ length-append before (h.0 ∷ []) ∙ omega arith
-added P (Err e) before after h = tt
 
 pub item_laid : (means : ℕ → Sense) (text u : List ℕ) (items : List Item) (i : ℕ) (x : Item) (m n : List ℕ) (p q : Program) → i < length items → x ≡ get_or items i x → u ≡ text
     → IsLaidWith text means (take i items) p m → ((found : List Item) → IsLaidWith u means found p m → IsLaidWith u means (found ++ x ∷ []) q n) → IsLaidWith text means (take (i + 1) items) q n

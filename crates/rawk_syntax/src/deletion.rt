@@ -1,6 +1,6 @@
 //! What is deleted: an element, or all of an array.
 
-ghost use Rattle.std.specs.Prelude.{◌≡◌, IfOk, IsTrue};
+ghost use Rattle.std.specs.Prelude.{IfOk, IsTrue};
 ghost use Rattle.rawk_resolution.specs.InOrder as order;
 ghost use Rattle.rawk_resolution.specs.Meant.{sense_of};
 ghost use Rattle.rawk_syntax.specs.Laid.{Deletes};

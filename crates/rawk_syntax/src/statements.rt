@@ -1,6 +1,6 @@
 //! Statements: each gets the sites of its points.
 
-ghost use Rattle.std.specs.Prelude.{◌≡◌, ◌++◌, ◌∷◌, [], length, IfOk, IsTrue};
+ghost use Rattle.std.specs.Prelude.{◌≡◌, [], length, IfOk, IsTrue};
 ghost use Rattle.std.specs.Global.{Vec};
 ghost use Rattle.rawk_grammar.specs.declared.tree.Stmt.TheVariants as from;
 ghost use Rattle.rawk_tree.specs.declared.tree.Stmt as settled;

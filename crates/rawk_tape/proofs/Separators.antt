@@ -1,22 +1,15 @@
 -- The next record, which a match of an expression ends, among the bytes held.
-use Rattle.std.proofs.Common.{◌≡◌, ◌≤◌, ◌+◌, ◌-◌, ℕ, Bool, true, false, List, [], ◌∷◌, Option, None, Some, Result, Ok, Err, length, ◌++◌, take, drop, arith, subst, sym, ◌∙◌, ap, refl}
+use Rattle.std.proofs.Common.{◌≡◌, ◌≤◌, ◌+◌, ◌-◌, ℕ, Bool, true, false, List, [], ◌∷◌, Option, None, Some, Ok, length, ◌++◌, take, drop, arith, subst, sym, ◌∙◌, ap}
 use Rattle.std.proofs.lemmas.List.{length-drop, drop-append-le, take-append-le, append-nil}
-use Rattle.rawk_value.specs.declared.fault.Fault.{Fault}
-use Rattle.rawk_value.specs.declared.fault.Fault.TheVariants.{ReadFailed}
 use Rattle.rawk_ere_tree.specs.Tree.{Tree}
 use Rattle.rawk_search.specs.declared.span.Span.{Span}
 use Rattle.rawk_search.specs.Matches.{first_nonempty, open_match}
 use Rattle.rawk_search.specs.Laws.{IsSpan, IsSkip, open_within, open_longer, open_closed, skip_longer, skip_trans}
-use Rattle.rawk_devices.specs.Inputs.{Input, before, nothing, is_failed}
-use Rattle.rawk_tape.specs.Records.{Found, found, last_line, separator_in, ended_by, next_match, next_record}
-use Rattle.rawk_tape.specs.Tapes.{TapeState, MayBe, Answers, IsUnsettled, IsExpression, IsWithin, place_before, text_at}
+use Rattle.rawk_devices.specs.Inputs.{Input, is_failed}
+use Rattle.rawk_tape.specs.Records.{found, last_line, separator_in, ended_by, next_match, next_record}
+use Rattle.rawk_tape.specs.Tapes.{TapeState, MayBe, IsUnsettled, IsExpression, IsWithin, place_before, text_at}
 use Rattle.rawk_devices.specs.declared.source.Ending.{Ending}
-use Rattle.rawk_devices.specs.declared.source.Ending.TheVariants.{Ended, Failed}
-use Rattle.rawk_tape.specs.declared.found.Found.{Found as Place}
-
--- a search from the first place on
-pub skip_none : (s : List ℕ) (e : Tree) → IsSkip s e 0 0
-skip_none s e = record { low = omega arith; high = omega arith; settled = λ more. refl; nonempty = λ closed more. refl }
+use Rattle.rawk_devices.specs.declared.source.Ending.TheVariants.{Ended}
 
 -- a search that goes on settles what one from the first place on does
 pub open_skipped : (s : List ℕ) (e : Tree) (from : ℕ) → IsSkip s e 0 from → open_match s e 0 ≡ open_match s e from
@@ -83,21 +76,6 @@ last_rest s start e from ending ends skip is =
     ap (λ (x : Ending). next_match (Some e) (is_failed x) s start) ends
     ∙ (ap (λ (o : Option Span). ended_by o false s start) (nonempty_skipped s e from skip ∙ is)
     ∙ ap (λ (x : Ending). last_line (is_failed x) s start) (sym ends))
-
--- the answer where a read has failed, and the bytes before it settle no match
-pub last_failed : (s : List ℕ) (start : ℕ) (e : Tree) (ending : Ending) → ending ≡ Failed → open_match s e 0 ≡ None → next_match (Some e) (is_failed ending) s start ≡ Err ReadFailed
-last_failed s start e ending fails is =
-    ap (λ (x : Ending). next_match (Some e) (is_failed x) s start) fails
-    ∙ ap (λ (o : Option Span). ended_by o true s start) is
-
--- the answer where nothing more is to come
-pub no_match : {S : Type 0} (may_give : S → Input → Type 0) (tape : TapeState S) (e : Tree) (ending : Ending) (answer : Result (Option Place) Fault) → ((rest : Input) → may_give tape.source rest → rest ≡ nothing ending) → Answers (next_match (Some e) (is_failed ending) (drop tape.consumed tape.bytes) tape.consumed) tape.bytes answer → (input : Input) → MayBe may_give tape input → Answers (next_match (Some e) input.fails (drop tape.consumed input.bytes) tape.consumed) tape.bytes answer
-no_match may_give tape e ending answer over h input may =
-    let whole : input ≡ before tape.bytes (nothing ending) = may.whole ∙ ap (before tape.bytes) (over may.rest may.comes) in
-    let same : next_match (Some e) input.fails (drop tape.consumed input.bytes) tape.consumed ≡ next_match (Some e) (is_failed ending) (drop tape.consumed tape.bytes) tape.consumed =
-    ap (λ (i : Input). next_match (Some e) i.fails (drop tape.consumed i.bytes) tape.consumed) whole
-    ∙ ap (λ (x : List ℕ). next_match (Some e) (is_failed ending) (drop tape.consumed x) tape.consumed) (append-nil tape.bytes) in
-    subst (λ (x : Result (Option Found) Fault). Answers x tape.bytes answer) (sym same) h
 
 -- the next record by a separator that is read as this expression
 pub next_is : (separator : List ℕ) (e : Tree) → IsExpression separator e → (input : Input) (count : ℕ) → next_record input count separator ≡ next_match (Some e) input.fails (drop count input.bytes) count

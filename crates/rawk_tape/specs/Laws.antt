@@ -1,7 +1,7 @@
 -- Laws of inputs and tapes, for the crates above: an input that may be, before and after bytes are let go, and records behind them.
 use Rattle.std.specs.Prelude.{◌≡◌, ℕ, ◌+◌, List, Bool, true, false, cond, [], ◌∷◌, ◌++◌, length, take, drop, Option, None, Some, Result, Ok, Err}
-use Rattle.std.proofs.Common.{refl, sym, ap, subst, ◌∙◌, arith}
-use Rattle.std.proofs.lemmas.List.{append_assoc, append-nil, drop_all, take-append-drop}
+use Rattle.std.proofs.Common.{refl, sym, ap, ◌∙◌, arith}
+use Rattle.std.proofs.lemmas.List.{append_assoc, append-nil, drop_all}
 use Rattle.std.proofs.Math.Seq.{drop-append-add}
 use Rattle.rawk_value.specs.Values.{Bytes, is_empty}
 use Rattle.rawk_value.specs.declared.fault.Fault.{Fault}
@@ -13,12 +13,6 @@ use Rattle.rawk_devices.specs.Inputs.{Input, before}
 use Rattle.rawk_tape.specs.Records.{Found, found, next_line, next_paragraph, separator_in, ended_by, next_match, next_record}
 use Rattle.rawk_tape.specs.Tapes.{TapeState, MayBe, ReadsAhead}
 use Rattle.rawk_devices.specs.declared.source.Ending.{Ending}
-
--- some input may always be the tape's, where its source always gives some
-pub some_input : {S : Type 0} (may_give : S → Input → Type 0) (gives_some : (s : S) → (rest : Input) × may_give s rest) (tape : TapeState S) → (input : Input) × MayBe may_give tape input
-some_input may_give gives_some tape =
-    let some = gives_some tape.source in
-    (before tape.bytes some.0, record { rest = some.0; comes = some.1; whole = refl })
 
 -- what may be is the same with another count of consumed bytes
 pub MayBe-consumed : {S : Type 0} (may_give : S → Input → Type 0) (tape : TapeState S) (count : ℕ) (input : Input) → MayBe may_give (record tape { consumed = count }) input → MayBe may_give tape input
@@ -37,17 +31,6 @@ ReadsAhead-refl may_give over handed tape = record {
 
 pub before-before : (front back : Bytes) (input : Input) → before front (before back input) ≡ before (front ++ back) input
 before-before front back input = ap (λ (x : Bytes). record { bytes = x; fails = input.fails }) (sym (append_assoc front back input.bytes))
-
--- what may be once bytes were let go might have been behind them before
-pub MayBe-forgotten : {S : Type 0} (may_give : S → Input → Type 0) (old new : TapeState S) (size : ℕ) → new.source ≡ old.source → new.bytes ≡ drop size old.bytes → (input : Input) → MayBe may_give new input → MayBe may_give old (before (take size old.bytes) input)
-MayBe-forgotten may_give old new size source bytes input may = record {
-  rest = may.rest;
-  comes = subst (λ s. may_give s may.rest) source may.comes;
-  whole =
-      ap (before (take size old.bytes)) may.whole
-      ∙ (before-before (take size old.bytes) new.bytes may.rest
-      ∙ ap (λ (x : Bytes). before x may.rest) (ap (λ (x : Bytes). take size old.bytes ++ x) bytes ∙ take-append-drop size old.bytes));
-}
 
 -- the answer where n bytes more stand before the input
 abbrev pub moved : ℕ → Result (Option Found) Fault → Result (Option Found) Fault

@@ -1,5 +1,5 @@
 //! Where records end among the kept bytes.
-ghost use Rattle.std.specs.Prelude.{◌≡◌, ◌≤◌, ◌<◌, ℕ, length};
+ghost use Rattle.std.specs.Prelude.{◌≤◌, ◌<◌, ℕ, length};
 ghost use Rattle.memchr.specs.Find.{IsFirst, Passes, is_byte};
 ghost use Rattle.rawk_tape.specs.Paragraphs.{AllNewlines, NoBreak, Stops, Breaks, IsScanned, IsParagraph};
 

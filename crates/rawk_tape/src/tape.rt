@@ -36,7 +36,7 @@ impl<R: Source + Drop> Model for Tape<R> {
 }
 
 impl<R: Source + Drop> Tape<R> {
-    ghost use Rattle.std.specs.Prelude.{◌≡◌, ◌≤◌, ◌<◌, ◌^◌, ◌+◌, ◌*◌, [], ◌∷◌, ◌⊎◌, ℕ, drop, length, None, Some, Ok, OnOk, OnErr, IfErr, IfSome, slice_range};
+    ghost use Rattle.std.specs.Prelude.{◌≡◌, ◌≤◌, ◌<◌, ◌^◌, ◌+◌, ◌*◌, [], ◌∷◌, ◌⊎◌, drop, length, None, Some, Ok, OnOk, OnErr, IfErr, IfSome, slice_range};
     ghost use Rattle.rawk_devices.specs.declared.source.Ending.{Ending};
     ghost use Rattle.rawk_devices.specs.Inputs.{Input};
     ghost use Rattle.rawk_tape.specs.Records.{next_record};

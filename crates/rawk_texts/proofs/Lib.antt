@@ -1,4 +1,3 @@
-pub mod Additions
 pub mod Lines
 pub mod Pushed
 pub mod Prints

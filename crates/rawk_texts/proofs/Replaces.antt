@@ -17,7 +17,7 @@ use Rattle.rawk_code.specs.declared.code.Operand.{Operand}
 use Rattle.rawk_code.specs.declared.code.Destination.{Destination}
 use Rattle.rawk_code.specs.declared.code.Op.TheVariants as does
 use Rattle.rawk_code.specs.declared.code.Instr.TheVariants as instr
-use Rattle.rawk_code.specs.Actions.{Point, Run, Outcome, Goes, Faulted, need, bind, and_then, give, assign, read, put_replaced, replace_in}
+use Rattle.rawk_code.specs.Actions.{Point, Run, Outcome, Goes, need, bind, and_then, give, assign, read, put_replaced, replace_in}
 use Rattle.rawk_code.specs.Term.{Term}
 use Rattle.rawk_code.specs.Term as term
 use Rattle.rawk_code.specs.Machine.{joiner_of, unary_of, Going, top, below, target_of, past, op_does, goes_on}

@@ -19,7 +19,7 @@ use Rattle.rawk_code.specs.declared.code.Operand.{Operand}
 use Rattle.rawk_code.specs.declared.code.Simple.{Simple}
 use Rattle.rawk_code.specs.declared.code.Op.TheVariants as does
 use Rattle.rawk_code.specs.declared.code.Instr.TheVariants as instr
-use Rattle.rawk_code.specs.Actions.{Point, Run, Outcome, Faulted, need, look, bind, and_then, give, put_parts, split_in}
+use Rattle.rawk_code.specs.Actions.{Point, Run, Outcome, need, look, bind, and_then, give, put_parts, split_in}
 use Rattle.rawk_code.specs.Machine.{Going, below, taking, goes_on, simple_value}
 use Rattle.rawk_operate.specs.declared.transfer.Transfer.{Transfer}
 use Rattle.rawk_operate.specs.declared.transfer.Transfer.TheVariants as transfer
@@ -28,7 +28,7 @@ use Rattle.rawk_operands.specs.OperandLaws.{simple_full}
 use Rattle.rawk_operate.specs.Done.{Done, phases_left}
 use Rattle.rawk_operate.specs.DoneLaws.{by_parts, le_same, need_then}
 use Rattle.rawk_operate.specs.AssignLaws.{EndsBy, ends_here, taking_is}
-use Rattle.rawk_operate.specs.Quiets.{Quiet, quiet_by, quiet_fields, quiet_made}
+use Rattle.rawk_operate.specs.Quiets.{Quiet, quiet_fields, quiet_made}
 
 -- how a text is separated has no fault of reading, of writing or of memory
 quiet_parts : (e : Option Tree) (newline : Bool) (s : Bytes) → Quiet (dynamic_parts e newline s)
@@ -92,12 +92,6 @@ split_of_is how a text by m r is points consumed handed =
     ap (λ (v : Value). split_in how a v (simple_value by run.state) run) (simple_full text m consumed handed)
     ∙ ap (λ (w : Value). split_in how a (simple_in text m) w run) (simple_full by m consumed handed)
     ∙ ap (λ (y : Result (List Bytes) Fault). bind (need y) (put_parts a) run) is
-
-split_of_ends : (how : Separation) (a : Array) (text by : Simple) (m : Moving) (f : Fault) → parts_at_once how text by m ≡ Err f → EndsBy (does.SplitOf how a text by) f m
-split_of_ends how a text by m f is points consumed handed = ap (λ (out : Outcome Value). and_then out (λ w. give (w ∷ m.operands))) (split_of_is how a text by m (Err f) is points consumed handed)
-
-pub split_of_faults : (how : Separation) (a : Array) (text by : Simple) (m : Moving) (f : Fault) (w : Transfer) → parts_at_once how text by m ≡ Err f → w ≡ transfer.Over (ending.Faulted f) → Done (instr.Do (does.SplitOf how a text by)) m w m
-split_of_faults how a text by m f w is e = ends_here (does.SplitOf how a text by) m f w (split_of_ends how a text by m f is) (quiet_by (parts_at_once how text by m) f (quiet_separated how (simple_in text m) (simple_in by m)) is) e
 
 done_split_of : (how : Separation) (a : Array) (text by : Simple) (m : Moving) (parts : List Bytes) → parts_at_once how text by m ≡ Ok parts →
     Done (instr.Do (does.SplitOf how a text by)) m transfer.Next (with_operands (Number (pos (length parts)) ∷ m.operands) (with_arrays (fill_elements (array_in a m.frames) parts m.arrays) m))

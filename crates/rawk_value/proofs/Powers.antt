@@ -94,10 +94,6 @@ pub powered_below : (x y : ℤ) (size : ℕ) (r : Result ℤ Fault) → int_lt y
 powered_below x (pos n) size r h e f = absurd (grind (arith, nat_tests))
 powered_below x (negsuc n) size r h e f = f (n + 1) (ap is_odd (e ∙ sym (add-one n)))
 
-pub powered_above : (x y : ℤ) (size : ℕ) (r : Result ℤ Fault) → int_lt y (pos 0) ≡ false → size ≡ unsigned_abs y → r ≡ checked (power x size) → r ≡ powered x y
-powered_above x (pos n) size r h e f = f ∙ ap (λ n. checked (power x n)) e
-powered_above x (negsuc n) size r h e f = absurd (cc)
-
 fits_yes : (z : ℤ) → FitsSigned w64 z → fits z ≡ true
 fits_yes (pos n) h = let l : n < 2 ^ 63 = h.sfits in grind (arith, nat_tests)
 fits_yes (negsuc n) h = let l : n < 2 ^ 63 = h.sfits in grind (arith, nat_tests)

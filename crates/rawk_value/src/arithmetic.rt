@@ -72,7 +72,7 @@ pub fn rem(x: i64, y: i64) -> Result<i64, Fault>
 
 /// A number to the power of another (POSIX awk, Expressions in awk): 1 for the power 0, and `Overflow` where the power does
 /// not fit 64 bits. To a power below 0, 1 and -1 are exact, 0 is `ZeroDivisor` and another base is `Fraction`.
-/// It takes as many multiplications as the exponent has bits, 12 at most.
+/// It takes two multiplications for each bit of an exponent below 64, 12 at most.
 pub fn pow(x: i64, y: i64) -> Result<i64, Fault>
     ensures { result ≡ powered x y }
 {

@@ -1,6 +1,6 @@
 //! Comparison of values.
 
-ghost use Rattle.std.specs.Prelude.{◌≡◌, ℤ, Some, None, Ok, if◌then◌else◌};
+ghost use Rattle.std.specs.Prelude.{◌≡◌, Some, None, Ok, if◌then◌else◌};
 ghost use Rattle.std.specs.Cmp.Lexicographic.{slice_cmp};
 ghost use Rattle.std.specs.Ordering.{nat_cmp};
 ghost use Rattle.rawk_value.specs.Values.{order_of, holds, next_ok, counts, number_of, text_of, int_text, int_order, front, front_number, is_numeric};

@@ -1,7 +1,7 @@
 //! The numeric front of a text, in one pass.
 
-ghost use Rattle.std.specs.Prelude.{◌≡◌, ℕ, ◌+◌, ◌*◌, ◌≤◌, ◌==◌, ◌&&◌, pos, neg_ℤ, not, length, drop, if◌then◌else◌, MatchOption, [], ◌∷◌};
-ghost use Rattle.std.specs.List.{prefix_len, take_while, list_any, list_all};
+ghost use Rattle.std.specs.Prelude.{◌≡◌, ℕ, ◌+◌, ◌*◌, ◌≤◌, ◌==◌, ◌&&◌, pos, neg_ℤ, length, drop, if◌then◌else◌, MatchOption, [], ◌∷◌};
+ghost use Rattle.std.specs.List.{prefix_len, take_while, list_all};
 ghost use Rattle.std.specs.Str.Parse.{digits_value};
 ghost use Rattle.rawk_value.specs.Values.{Front, front, begins, is_blank, is_digit, sign_size, exponent_size, checked};
 ghost use Rattle.rawk_value.specs.Scans.{Summarizes, held, part_of, point_size};
@@ -220,7 +220,7 @@ fn signed(negative: bool, size: u64) -> Result<i64, Fault>
 impl Scan<'_> {
     ghost use Rattle.rawk_value.specs.Values.{front_number, int_front, has_digits};
 
-    /// The front's number, 0 where it has no digits. It is `Fraction` for a fraction and `Overflow` where it is too large.
+    /// The front's number, 0 where it has no digits. It is `Fraction` where it has an exponent or a digit other than 0 behind its point, and `Overflow` where it is too large.
     #[inline]
     pub fn number(&self) -> Result<i64, Fault>
         ensures { (f : Front) → Summarizes self.now f → result ≡ front_number f }

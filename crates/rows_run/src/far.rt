@@ -1,7 +1,7 @@
 //! A session over a million steps: to the limit, back to point 0, and to the limit again. The answer is its transcript, and how many bytes of
 //! the input were handed out, none of them twice.
 
-ghost use Rattle.std.specs.Prelude.{◌≡◌, None, IfOk};
+ghost use Rattle.std.specs.Prelude.{◌≡◌, None};
 
 use rawk::{BytesSink, BytesSource, Finished, Settings, debug_from};
 use std::alloc::{AllocError, Global};
