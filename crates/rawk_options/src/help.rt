@@ -3,11 +3,20 @@
 /// The version that `--version` shows.
 pub const VERSION: &str = "0.1.0";
 
+/// What the program is, in a line.
+pub const ABOUT: &str = "AWK over whole numbers, with a debugger that goes backward";
+
 /// How the program is called.
 pub const USAGE: &str = "rawk [OPTIONS] PROGRAM [FILE]\n       rawk [OPTIONS] -f PROGFILE [FILE]";
 
-/// The commands of a session, each with its short form.
-pub const SESSION_HELP: &str = "\
+/// What `--help` says behind the options: numbers, files, the status, and the commands of a session, each with its short form.
+pub const AFTER_HELP: &str = "\
+Numbers are signed 64-bit whole numbers: a result that is not whole or does not
+fit is a fault, and so is the number of a text such as 1.5 or 1e3.
+There is one FILE. Of several: cat FILE.. | rawk PROGRAM
+The status is 0, or that of `exit`; 2 after a fault or a refusal. A session's is
+0 whatever its program does.
+
 Commands of a session, one a line:
   step, s               go to the next point
   next, n               the same, past the points of functions that are called

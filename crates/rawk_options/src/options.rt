@@ -4,7 +4,7 @@ ghost use Rattle.rawk_limits.specs.History.{IsHistory};
 ghost use Rattle.rawk_limits.specs.declared.TheConstants as limits;
 
 use crate::assignments::first_values;
-use crate::help::{SESSION_HELP, USAGE, VERSION};
+use crate::help::{ABOUT, AFTER_HELP, USAGE, VERSION};
 use crate::invocation::{Invocation, MAX_STEPS, S, SESSION_STEPS, Text};
 use crate::words::separated;
 use clap::builder::ValueRange;
@@ -64,16 +64,19 @@ fn command<'a>(alloc: Global) -> Result<Command<'a>, AllocError> {
 fn named<'a>(alloc: Global) -> Command<'a> {
     Command::new(alloc, "rawk")
         .version(VERSION)
+        .about(ABOUT)
         .no_binary_name(true)
         .override_usage(USAGE)
-        .after_help(SESSION_HELP)
+        .after_help(AFTER_HELP)
 }
 
 /// The operands: PROGRAM and FILE.
 fn operands<'a>(alloc: Global) -> Arg<'a> {
     Arg::new(alloc, "operands")
         .value_name("OPERAND")
-        .help("PROGRAM, the text of a program, and FILE, its input (default the standard input)")
+        .help(
+            "PROGRAM, the text of a program, and one FILE, its input (default the standard input)",
+        )
         .num_args(ValueRange::new(0..))
         .action(ArgAction::Append)
 }
