@@ -5,7 +5,7 @@ set -u
 cd "$(dirname "$0")/.." || exit 2
 export LC_ALL=C
 bench="$PWD/crates/bench_parts/out/bench_parts"
-[ -x "$bench" ] || (cd crates/bench_parts && rt run -- arrays < stdin > /dev/null) || exit 2
+[ -x "$bench" ] || (rt=$(tools/kit.py) && cd crates/bench_parts && "$rt" run -- arrays < stdin > /dev/null) || exit 2
 folder=$(mktemp -d)
 trap 'rm -rf "$folder"' EXIT
 cc -shared -fPIC -O1 -o "$folder/held.so" bench/held.c -ldl || exit 2

@@ -6,7 +6,7 @@ set -u
 cd "$(dirname "$0")/.." || exit 2
 export LC_ALL=C
 bench="$PWD/crates/bench_parts/out/bench_parts"
-[ -x "$bench" ] || (cd crates/bench_parts && rt run -- arrays < stdin > /dev/null) || exit 2
+[ -x "$bench" ] || (rt=$(tools/kit.py) && cd crates/bench_parts && "$rt" run -- arrays < stdin > /dev/null) || exit 2
 folder=$(mktemp -d)
 trap 'rm -rf "$folder"' EXIT
 bench/make_input.sh "${LINES_OF_INPUT:-1400000}" > "$folder/lines"
