@@ -1,6 +1,7 @@
 # make             proves and builds, and leaves bin/rawk; RT=PATH names the toolchain's command rt
-# make check       the gate: proves every crate that has not passed on this machine, tries the wrong edits of must-fail/, runs the programs
-# make test        what needs bin/rawk alone: the examples, what the documents show, sessions that are answered as they are asked
+# make check       the gate: proves every crate that has not passed on this machine, tries the wrong edits of must-fail/, runs the programs, then make test's
+#                  cases and examples on the program that it built, and refuses each growth in turn
+# make test        what needs bin/rawk alone: the cases of cases/, the examples, what the documents show
 # make install     program, manual page, completions, documents and examples, as they are built, below DESTDIR and PREFIX=/usr/local
 # make uninstall   removes what install put there
 # make dist        dist/: an archive of the committed sources, and a Debian package of what is built
@@ -27,10 +28,10 @@ bin/rawk:
 	@echo "bin/rawk is not built: \`make\` proves and builds it" >&2; exit 1
 
 check:
-	@rt=$$(tools/kit.py) && "$$rt" ci
+	@rt=$$(tools/kit.py) && RT="$$rt" tools/gate
 
 test: bin/rawk
-	tools/at_once.py bin/rawk
+	tools/cases bin/rawk
 	tools/examples bin/rawk
 
 install: bin/rawk
