@@ -6,9 +6,10 @@
 //! find<tab>a{2,3}<tab>xaa => 1,3
 //! ```
 //!
-//! In the parts and the answer `\n` is a newline, `\t` a tab, `\\` a backslash and `\xNN` the byte of two hexadecimal digits;
-//! `\{N*TEXT}` is the text N times. Before another byte a backslash is itself. An input stands in the head behind `<<< `, and is a
-//! part that begins with `<`.
+//! In the parts and the answer `\n` is a newline, `\t` a tab, `\\` a backslash and `\xNN` the byte of two hexadecimal digits.
+//! `\{N*TEXT}` is the text N times, and `\{M..N*TEXT}` once for each number from M up or down to N; in the text `\#` is the number of
+//! the turn (from 1 on, where no M stands), `\}` a `}`, and further repetitions may stand. Before another byte a backslash is itself.
+//! An input stands in the head behind `<<< `, and is a part that begins with `<`.
 //!
 //! A line without ` => ` begins a block, whose lines stand as they are, up to an empty line. Those that begin with `| ` are a text,
 //! and make one more part; those that begin with `> ` are what is typed, and make one more, which begins with `>`. The others are

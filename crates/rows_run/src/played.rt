@@ -2,8 +2,8 @@
 //!
 //! The parts are the words of a command line, but: one that begins with `<` is the input; one that begins with `>` are the
 //! commands of a session (`--debug` is put before the words). `@let NAME=TEXT` is a first value; `@pieces N`: a read gives at most N
-//! bytes; `@source fails N`, `@sink fails N`: the source or the sink fails behind N bytes; `@sink fails everywhere`: the
-//! case is asked with a sink that fails behind each count of bytes below those that it writes.
+//! bytes, and with `@reads N` the first N reads alone are so short; `@source fails N`, `@sink fails N`: the source or the sink fails behind
+//! N bytes; `@sink fails everywhere`: the case is asked with a sink that fails behind each count of bytes below those that it writes.
 //!
 //! A session is held twice: with commands that are read, in pieces as the input is, and with the same in memory. Where these differ, both answers are given.
 //!
@@ -27,6 +27,7 @@ struct Plan<'a> {
     commands: Option<&'a [u8]>,
     settings: Settings,
     piece: Option<usize>,
+    short_reads: usize,
     source_fails: Option<usize>,
     sink_fails: Option<usize>,
     is_everywhere: bool,
@@ -57,6 +58,7 @@ impl<'a> Plan<'a> {
     fn set(&mut self, setting: &[u8]) {
         match setting_of(setting) {
             (b"pieces", piece) => self.piece = piece,
+            (b"reads", Some(count)) => self.short_reads = count,
             (b"source fails", place) => self.source_fails = place,
             (b"sink fails", None) => self.is_everywhere = true,
             (b"sink fails", place) => self.sink_fails = place,
@@ -78,6 +80,7 @@ pub fn answered(alloc: Global, parts: &[&[u8]]) -> Result<Vec<u8>, AllocError> {
         commands: None,
         settings: Settings::new(alloc),
         piece: None,
+        short_reads: usize::MAX,
         source_fails: None,
         sink_fails: None,
         is_everywhere: false,
@@ -178,7 +181,7 @@ fn play(
     commands: Commands,
     sink_fails: Option<usize>,
 ) -> Result<Played, AllocError> {
-    let mut source = source_of(alloc, plan.input, plan.piece, plan.source_fails)?;
+    let mut source = source_of(alloc, plan, plan.input, plan.source_fails)?;
     let mut sink = BytesSink::new(alloc, sink_fails);
     let report = reported(alloc, plan, invocation, commands, &mut source, &mut sink)?;
     let handed = source.handed();
@@ -188,16 +191,16 @@ fn play(
     played
 }
 
-/// A source of these bytes, in pieces of one size where there is one, that fails behind `fails` bytes, where it does.
+/// A source of these bytes, in the pieces of a case, that fails behind `fails` bytes, where it does.
 fn source_of(
     alloc: Global,
+    plan: &Plan<'_>,
     bytes: &[u8],
-    piece: Option<usize>,
     fails: Option<usize>,
 ) -> Result<BytesSource, AllocError>
     ensures { IfOk result (λ source. source.over ≡ None) }
 {
-    let cuts = cuts_of(alloc, bytes.len(), piece)?;
+    let cuts = cuts_of(alloc, plan.short_reads.min(bytes.len()), plan.piece)?;
     let bytes = Vec::from_slice(alloc, bytes)?;
     Ok(BytesSource::new(bytes, cuts, fails))
 }
@@ -219,11 +222,11 @@ fn played_of(
     })
 }
 
-/// The cuts of `size` bytes in pieces of one size, where there is one.
-fn cuts_of(alloc: Global, size: usize, piece: Option<usize>) -> Result<Vec<usize>, AllocError> {
+/// So many cuts in pieces of one size, where there is one.
+fn cuts_of(alloc: Global, count: usize, piece: Option<usize>) -> Result<Vec<usize>, AllocError> {
     let mut cuts = Vec::new(alloc);
     if let Some(piece) = piece {
-        for _ in 0..size {
+        for _ in 0..count {
             cuts.push(piece)?;
         }
     }
@@ -258,7 +261,7 @@ fn reported(
     };
     let finished = match commands {
         Commands::Read => {
-            let mut lines = source_of(alloc, lines, plan.piece, None)?;
+            let mut lines = source_of(alloc, plan, lines, None)?;
             let finished = debug_from(
                 alloc, settings, program, source, &mut lines, sink, steps, history,
             );
